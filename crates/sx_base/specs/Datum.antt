@@ -1,0 +1,55 @@
+-- A datum as it is meant: pairs, vectors, symbols and atoms, each with a span where it has one.
+use Rattle.std.specs.Prelude.{ℕ, suc, ◌+◌, Bool, true, false, List, [], ◌∷◌, Option, Some, None}
+use Rattle.sx_base.specs.declared.span.Span.{Span}
+use Rattle.sx_base.specs.declared.atom.Atom.{Atom}
+use Rattle.sx_base.specs.declared.atom.Atom.TheVariants.{Nil}
+
+-- A list is pairs, each with an element and the rest, which has no span. A vector has its elements as a list.
+pub data PlainDatum : Type 0 where
+  atom : Option Span → Atom → PlainDatum
+  symbol : Option Span → List ℕ → PlainDatum
+  pair : Option Span → PlainDatum → PlainDatum → PlainDatum
+  vector : Option Span → PlainDatum → PlainDatum
+
+-- the empty list that ends a list
+abbrev pub nil : PlainDatum
+nil = atom None Nil
+
+-- the elements, and then the tail, without a span of its own
+abbrev pub chain : List PlainDatum → PlainDatum → PlainDatum
+chain [] t = t
+chain (d ∷ ds) t = pair None d (chain ds t)
+
+-- with this span at the root
+abbrev pub spanned : Option Span → PlainDatum → PlainDatum
+spanned s (atom _ a) = atom s a
+spanned s (symbol _ x) = symbol s x
+spanned s (pair _ d e) = pair s d e
+spanned s (vector _ d) = vector s d
+
+-- a list of one or more elements with this span
+abbrev pub listed : Option Span → List PlainDatum → PlainDatum → PlainDatum
+listed s ds t = spanned s (chain ds t)
+
+-- what may stand behind the last element: no list, and the empty list only without a span
+abbrev pub is_tail : PlainDatum → Bool
+is_tail (atom None a) = true
+is_tail (atom (Some s) Nil) = false
+is_tail (atom (Some s) a) = true
+is_tail (symbol s x) = true
+is_tail (pair s d e) = false
+is_tail (vector s d) = true
+
+-- more than any part's
+abbrev pub datum_size : PlainDatum → ℕ
+datum_size (atom s a) = 1
+datum_size (symbol s x) = 1
+datum_size (pair s d e) = suc (datum_size d + datum_size e)
+datum_size (vector s d) = suc (datum_size d)
+
+-- without any spans
+abbrev pub unspanned : PlainDatum → PlainDatum
+unspanned (atom s a) = atom None a
+unspanned (symbol s x) = symbol None x
+unspanned (pair s d e) = pair None (unspanned d) (unspanned e)
+unspanned (vector s d) = vector None (unspanned d)

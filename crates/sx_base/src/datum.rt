@@ -1,0 +1,52 @@
+//! Data: what a reader gives and a printer takes.
+
+ghost use Rattle.std.specs.Prelude.{◌≡◌};
+
+use crate::atom::Atom;
+use crate::span::Span;
+use crate::symbol::Symbol;
+use std::marker::Model;
+
+/// A datum (R6RS 4.3), with the span of its spelling where it was read.
+///
+/// A list has one or more elements and a tail that is no list: a list in the place of the tail is
+/// joined on. The empty list that ends a list has no span.
+#[derive(Drop)]
+#[cycle(datum)]
+pub struct Datum {
+    pub span: Option<Span>,
+    pub node: Node,
+}
+
+/// What a datum is.
+#[derive(Drop)]
+#[cycle(datum)]
+pub enum Node {
+    Atom(Atom),
+    Symbol(Symbol),
+    /// The elements, and the tail.
+    List(Vec<Datum>, Box<Datum>),
+    Vector(Vec<Datum>),
+}
+
+impl Model for Datum {
+    ghost use Rattle.std.specs.Prelude.{IsTrue};
+    ghost use Rattle.sx_base.specs.Datum.{PlainDatum, datum_size};
+    ghost use Rattle.sx_base.specs.DatumCode.{datum_code};
+
+    ghost Value = { PlainDatum };
+
+    ghost coded = { datum_code };
+
+    ghost use Rattle.sx_base.specs.DatumView.{seen, is_proper};
+
+    ghost view = { λ d. seen d.span d.node };
+
+    ghost invariant = { λ d. IsTrue (is_proper d.node) };
+
+    ghost size = { datum_size };
+
+    ghost use Rattle.sx_base.specs.DatumFalls.{seen_falls};
+
+    ghost size_decreases = { λ d h. seen_falls d.span d.node h };
+}
