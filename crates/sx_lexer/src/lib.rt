@@ -1,0 +1,4 @@
+//! Tokens of a source.
+#![tactic(auto)]
+
+pub mod token;
