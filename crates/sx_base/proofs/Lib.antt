@@ -1,3 +1,4 @@
 pub mod Chars
 pub mod Places
 pub mod Loops
+pub mod Parts

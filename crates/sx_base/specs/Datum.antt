@@ -1,5 +1,5 @@
 -- A datum as it is meant: pairs, vectors, symbols and atoms, each with a span where it has one.
-use Rattle.std.specs.Prelude.{ℕ, suc, ◌+◌, Bool, true, false, List, [], ◌∷◌, Option, Some, None}
+use Rattle.std.specs.Prelude.{ℕ, suc, ◌+◌, Bool, true, false, List, [], ◌∷◌, Option, Some, None, if◌then◌else◌}
 use Rattle.sx_base.specs.declared.span.Span.{Span}
 use Rattle.sx_base.specs.declared.atom.Atom.{Atom}
 use Rattle.sx_base.specs.declared.atom.Atom.TheVariants.{Nil}
@@ -53,3 +53,41 @@ unspanned (atom s a) = atom None a
 unspanned (symbol s x) = symbol None x
 unspanned (pair s d e) = pair None (unspanned d) (unspanned e)
 unspanned (vector s d) = vector None (unspanned d)
+
+-- the text of a symbol
+abbrev pub symbol_text : PlainDatum → Option (List ℕ)
+symbol_text (atom s a) = None
+symbol_text (symbol s x) = Some x
+symbol_text (pair s d e) = None
+symbol_text (vector s d) = None
+
+-- the elements of a list, up to its tail
+abbrev pub elements : PlainDatum → List PlainDatum
+elements (atom s a) = []
+elements (symbol s x) = []
+elements (pair s d e) = d ∷ elements e
+elements (vector s d) = []
+
+-- what stands behind the elements
+abbrev pub tail_of : PlainDatum → PlainDatum
+tail_of (atom s a) = atom s a
+tail_of (symbol s x) = symbol s x
+tail_of (pair s d e) = tail_of e
+tail_of (vector s d) = vector s d
+
+abbrev pub is_nil : PlainDatum → Bool
+is_nil (atom s Nil) = true
+is_nil (atom s a) = false
+is_nil (symbol s x) = false
+is_nil (pair s d e) = false
+is_nil (vector s d) = false
+
+-- the elements of a list that ends in the empty list
+abbrev pub proper_elements : PlainDatum → Option (List PlainDatum)
+proper_elements d = if is_nil (tail_of d) then Some (elements d) else None
+
+abbrev pub span_of : PlainDatum → Option Span
+span_of (atom s a) = s
+span_of (symbol s x) = s
+span_of (pair s d e) = s
+span_of (vector s d) = s

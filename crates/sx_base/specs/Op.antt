@@ -1,13 +1,34 @@
 -- The names that this implementation gives.
-use Rattle.std.specs.Prelude.{ℕ, List, [], map}
+use Rattle.std.specs.Prelude.{ℕ, ◌+◌, Bool, ◌&&◌, ◌||◌, nat_le, nat_eq, ◌==◌, List, [], ◌∷◌, map, Option, Some, None, if◌then◌else◌}
 use Rattle.std.specs.Borrow.{Bor}
+use Rattle.std.specs.Cmp.Lexicographic.{pointwise}
 use Rattle.std.proofs.Common.{get_or}
 use Rattle.sx_base.specs.declared.op.TheConstants.{OP_NAMES}
 
+abbrev pub now_all : List (Bor (List ℕ)) → List (List ℕ)
+now_all texts = map (λ (text : Bor (List ℕ)). text.now) texts
+
 -- the text at a place of a table, and no text past the last
 abbrev pub text_at : List (Bor (List ℕ)) → ℕ → List ℕ
-text_at texts n = get_or (map (λ (text : Bor (List ℕ)). text.now) texts) n []
+text_at texts n = get_or (now_all texts) n []
+
+abbrev pub op_names : List (List ℕ)
+op_names = map (λ (text : record { now : List ℕ }). text.now) OP_NAMES
 
 -- the report name of an op, and no text past the last
 abbrev pub op_text : ℕ → List ℕ
-op_text n = get_or (map (λ (text : record { now : List ℕ }). text.now) OP_NAMES) n []
+op_text n = get_or op_names n []
+
+-- the first place of a text in a table that begins at a place
+abbrev pub place_from : ℕ → List ℕ → List (List ℕ) → Option ℕ
+place_from place text [] = None
+place_from place text (t ∷ ts) = if pointwise ◌==◌ t text then Some place else place_from (place + 1) text ts
+
+-- the op of a report name
+abbrev pub op_named : List ℕ → Option ℕ
+op_named text = place_from 0 text op_names
+
+-- `quote` to `identifier-syntax`, `when` to `case-lambda`, `syntax-case`, `syntax`, `with-syntax` to
+-- `unsyntax-splicing`, and `define-record-type` to `parent-rtd`
+abbrev pub is_keyword : ℕ → Bool
+is_keyword n = nat_le n 28 || (nat_le 211 n && nat_le n 214) || n == 216 || n == 217 || (nat_le 224 n && nat_le n 227) || (nat_le 289 n && nat_le n 300)

@@ -1,6 +1,7 @@
 //! Data: what a reader gives and a printer takes.
 
-ghost use Rattle.std.specs.Prelude.{◌≡◌};
+ghost use Rattle.std.specs.Prelude.{◌≡◌, option_map};
+ghost use Rattle.sx_base.specs.Datum.{symbol_text, proper_elements, span_of, is_nil};
 
 use crate::atom::Atom;
 use crate::span::Span;
@@ -49,4 +50,45 @@ impl Model for Datum {
     ghost use Rattle.sx_base.specs.DatumFalls.{seen_falls};
 
     ghost size_decreases = { λ d h. seen_falls d.span d.node h };
+}
+
+impl Datum {
+    /// The symbol, where the datum is one.
+    pub fn as_symbol(&self) -> Option<&Symbol>
+        ensures { option_map (λ x. x.now) result ≡ symbol_text self.now }
+    {
+        match &self.node {
+            Node::Symbol(symbol) => Some(symbol),
+            _ => None,
+        }
+    }
+
+    /// The elements of a list that ends in the empty list; none for the empty list.
+    pub fn as_list(&self) -> Option<&[Datum]>
+        ensures { option_map (λ xs. xs.now) result ≡ proper_elements self.now }
+    {
+        match &self.node {
+            Node::Atom(Atom::Nil) => Some(&[]),
+            Node::List(items, tail) => {
+                if tail.is_nil() {
+                    Some(items.as_slice())
+                } else {
+                    None
+                }
+            }
+            _ => None,
+        }
+    }
+
+    pub fn is_nil(&self) -> bool
+        ensures { result ≡ is_nil self.now }
+    {
+        matches!(&self.node, Node::Atom(Atom::Nil))
+    }
+
+    pub fn span(&self) -> &Option<Span>
+        ensures { result.now ≡ span_of self.now }
+    {
+        &self.span
+    }
 }

@@ -1,9 +1,7 @@
 //! The names that this implementation gives, by number.
 
-ghost use Rattle.std.specs.Prelude.{◌≡◌, ◌<◌, length};
-ghost use Rattle.sx_base.specs.Op.{op_text, text_at};
-
-use std::cmp::Ordering;
+ghost use Rattle.std.specs.Prelude.{◌≡◌, ◌<◌, length, option_map, IfSome};
+ghost use Rattle.sx_base.specs.Op.{op_text, text_at, op_named, is_keyword, place_from, now_all};
 
 /// The names of all libraries that this implementation gives, each once, numbered from 0 in the order
 /// of those libraries (R6RS 11 and the chapters of the libraries report).
@@ -315,6 +313,21 @@ pub const OP_NAMES: [&str; 301] = [
 #[derive(Clone, Copy, Debug, PartialEq, Eq, PartialOrd, Ord, Hash)]
 pub struct Op(pub u16);
 
+impl Op {
+    /// Whether it is a keyword: of a core form, an auxiliary one, or one that the derived library defines.
+    pub fn is_keyword(&self) -> bool
+        ensures { result ≡ is_keyword self.now.0 }
+    {
+        let n = self.0;
+        n <= 28
+            || (211 <= n && n <= 214)
+            || n == 216
+            || n == 217
+            || (224 <= n && n <= 227)
+            || (289 <= n && n <= 300)
+    }
+}
+
 /// The report name of an op.
 pub fn op_text(op: &Op) -> &'static str
     requires { op.now.0 < 301 }
@@ -329,4 +342,25 @@ fn text_at(texts: &[&'static str], place: usize) -> &'static str
     ensures { result.now ≡ text_at texts.now place }
 {
     texts[place]
+}
+
+/// The op of a report name, where there is one.
+pub fn op_named(text: &str) -> Option<Op>
+    ensures { option_map (λ op. op.0) result ≡ op_named text.now }
+{
+    let place = place_in(&OP_NAMES, text)?;
+    Some(Op(place as u16))
+}
+
+// The first place of a text in a table.
+fn place_in(texts: &[&'static str], text: &str) -> Option<usize>
+    ensures place { result ≡ place_from 0 text.now (now_all texts.now) }
+    ensures within { IfSome result (λ place. place < length texts.now) }
+{
+    for (place, other) in texts.iter().enumerate() {
+        if *other == text {
+            return Some(place);
+        }
+    }
+    None
 }
