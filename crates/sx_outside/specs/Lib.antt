@@ -1,0 +1,5 @@
+pub mod Causes
+pub mod Contents
+pub mod Calls
+pub mod Files
+pub mod Store

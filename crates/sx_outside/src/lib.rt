@@ -1,0 +1,12 @@
+//! Files, stores and sinks.
+#![tactic(auto)]
+
+mod calls;
+mod causes;
+mod contents;
+mod files;
+mod store;
+
+pub use causes::OutsideError;
+pub use files::{FileAnswer, Files, MemFiles};
+pub use store::{MemStore, Store, StoreAnswer};
