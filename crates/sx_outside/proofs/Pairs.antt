@@ -1,5 +1,5 @@
 -- A look-up in a list of pairs, as one in the map that it means.
-use Rattle.std.proofs.Common.{◌≡◌, ℕ, List, [], ◌∷◌, Bool, true, false, cond, Option, Some, None, option_map, map, refl, sym, ◌++◌, ◌≢◌, Vec, String}
+use Rattle.std.proofs.Common.{◌≡◌, ℕ, List, [], ◌∷◌, Bool, true, false, cond, Option, Some, None, option_map, map, refl, sym, ◌++◌, ◌≢◌, Result, Ok, Err, OnOk, Vec, String}
 use Rattle.std.specs.Prelude.{find, reverse, string_bytes}
 use Rattle.std.specs.Global.{Global}
 use Rattle.sx_outside.specs.Contents.{Paths, at_path, paths_of}
@@ -53,3 +53,8 @@ sets_pushed place piece before after pushed = rw pushed (record {
   held = rw (at_path-push before place piece place, same_path place) refl;
   others = λ path other. rw (at_path-push before place piece path, other_path place path other) refl
 })
+
+-- a call that adds a pair where it succeeds sets a path there
+pub sets_on_ok : {T E : Type 0} (result : Result T E) (place piece : List ℕ) (held before after : Paths) → held ≡ before → OnOk result (after ≡ held ++ (place, piece) ∷ []) → OnOk result (Sets place piece before after)
+sets_on_ok (Ok done) place piece held before after same pushed = sets_pushed place piece before after (rw (← same) pushed)
+sets_on_ok (Err error) place piece held before after same pushed = tt

@@ -3,3 +3,4 @@ pub mod Contents
 pub mod Calls
 pub mod Files
 pub mod Store
+pub mod Sink

@@ -5,8 +5,10 @@ mod calls;
 mod causes;
 mod contents;
 mod files;
+mod sink;
 mod store;
 
 pub use causes::OutsideError;
 pub use files::{FileAnswer, Files, MemFiles};
+pub use sink::{MemSink, PutFailed, Sink};
 pub use store::{MemStore, Store, StoreAnswer};

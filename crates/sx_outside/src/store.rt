@@ -5,7 +5,7 @@ ghost use Rattle.sx_outside.specs.Calls.{uncalled, fails_now, called};
 ghost use Rattle.sx_outside.specs.Causes.{Rose};
 ghost use Rattle.sx_outside.specs.Contents.{Paths, at_path, paths_of, read_of};
 ghost use Rattle.sx_outside.specs.Files.{file_reading};
-ghost use Rattle.sx_outside.specs.Store.{store_reading, Puts, WhereTold};
+ghost use Rattle.sx_outside.specs.Store.{store_reading, Sets, Puts, WhereTold};
 
 use crate::calls::Calls;
 use crate::causes::OutsideError;
@@ -106,8 +106,8 @@ impl MemStore {
 
     /// Adds a pair, and counts no call.
     pub(crate) fn add(&mut self, place: &str, bytes: &[u8]) -> Result<(), Memory>
-        ensures ok { OnOk result (self.new.contents ≡ self.old.contents ++ (place.now, bytes.now) ∷ []) }
-        ensures err { OnErr result (self.new.contents ≡ self.old.contents) }
+        ensures sets { OnOk result (Sets place.now bytes.now self.old.contents self.new.contents) }
+        ensures kept { OnErr result (self.new.contents ≡ self.old.contents) }
         ensures calls { self.new.calls ≡ self.old.calls }
     {
         add_pair(self.alloc, &mut self.pairs, place, bytes)
@@ -134,7 +134,6 @@ impl Store for MemStore {
         Ok(answer.into())
     }
 
-    #[tactic(auto, using(crate::proofs::Pairs::sets_pushed))]
     fn put(&mut self, place: &str, bytes: &[u8]) -> Result<(), OutsideError>
         ensures puts { WhereTold (Some self.old.contents) (Some self.new.contents) (Puts result place.now bytes.now) }
         ensures later { self.old.calls.faults ≤ self.new.calls.faults }
