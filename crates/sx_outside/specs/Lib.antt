@@ -4,3 +4,4 @@ pub mod Calls
 pub mod Files
 pub mod Store
 pub mod Sink
+pub mod Torn

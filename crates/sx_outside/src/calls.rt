@@ -1,7 +1,7 @@
 //! The calls of a version in memory, of which those with listed numbers fail.
 
 ghost use Rattle.std.specs.Prelude.{◌≡◌, ◌≤◌, ◌↔◌, IsErr, IfErr, IsTrue};
-ghost use Rattle.sx_outside.specs.Calls.{uncalled, fails_now, called};
+ghost use Rattle.sx_outside.specs.Calls.{uncalled, fails_now, called, faulted};
 
 use crate::causes::{OutsideError, failed};
 use std::marker::Model;
@@ -46,5 +46,14 @@ impl Calls {
             return Err(failed(&mut self.faults));
         }
         Ok(())
+    }
+
+    /// Counts a failure that is no call of its own.
+    pub(crate) fn fail(&mut self) -> OutsideError
+        ensures error { result ≡ OutsideError.Failed }
+        ensures calls { self.new ≡ faulted self.old }
+        ensures later { self.old.faults ≤ self.new.faults }
+    {
+        failed(&mut self.faults)
     }
 }

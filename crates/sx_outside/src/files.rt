@@ -1,9 +1,9 @@
 //! Files: a finite map from paths to bytes that a read doesn't change.
 
-ghost use Rattle.std.specs.Prelude.{◌≡◌, ◌≤◌, ◌↔◌, ℕ, Option, Some, IfSome, IfOk, IsTrue};
+ghost use Rattle.std.specs.Prelude.{◌≡◌, ◌≤◌, ℕ, Option, Some, IfSome, IfOk};
 ghost use Rattle.sx_outside.specs.Causes.{Rose};
 ghost use Rattle.sx_outside.specs.Contents.{Paths, at_path, paths_of, read_of};
-ghost use Rattle.sx_outside.specs.Calls.{Kept, uncalled, fails_now, called};
+ghost use Rattle.sx_outside.specs.Calls.{Counts, uncalled};
 ghost use Rattle.sx_outside.specs.Files.{file_reading};
 
 use crate::calls::Calls;
@@ -80,8 +80,7 @@ impl Files for MemFiles {
         ensures failed { result ≡ Err OutsideError.Failed → Rose self.old.calls.faults self.new.calls.faults }
 
         // Exactly the listed calls fail.
-        ensures listed { (result ≡ Err OutsideError.Failed) ↔ IsTrue (fails_now self.old.calls) }
-        ensures calls { self.new.calls ≡ called self.old.calls }
+        ensures calls { Counts self.old.calls result self.new.calls }
     {
         self.calls.count()?;
         Ok(read_pairs(self.alloc, &self.pairs, path, max)?)

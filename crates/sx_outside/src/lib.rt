@@ -7,8 +7,10 @@ mod contents;
 mod files;
 mod sink;
 mod store;
+mod torn;
 
 pub use causes::OutsideError;
 pub use files::{FileAnswer, Files, MemFiles};
 pub use sink::{MemSink, PutFailed, Sink};
 pub use store::{MemStore, Store, StoreAnswer};
+pub use torn::TornStore;

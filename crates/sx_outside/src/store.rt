@@ -1,7 +1,7 @@
 //! A store: a finite map from places to bytes, of which a put sets one.
 
-ghost use Rattle.std.specs.Prelude.{◌≡◌, ◌≤◌, ◌↔◌, ℕ, Option, Some, IfSome, IfOk, OnOk, OnErr, IsTrue, ◌∷◌, [], ◌++◌};
-ghost use Rattle.sx_outside.specs.Calls.{uncalled, fails_now, called};
+ghost use Rattle.std.specs.Prelude.{◌≡◌, ◌≤◌, ℕ, Option, Some, IfSome, IfOk, OnOk, OnErr, ◌∷◌, [], ◌++◌};
+ghost use Rattle.sx_outside.specs.Calls.{Counts, uncalled, faulted};
 ghost use Rattle.sx_outside.specs.Causes.{Rose};
 ghost use Rattle.sx_outside.specs.Contents.{Paths, at_path, paths_of, read_of};
 ghost use Rattle.sx_outside.specs.Files.{file_reading};
@@ -112,6 +112,16 @@ impl MemStore {
     {
         add_pair(self.alloc, &mut self.pairs, place, bytes)
     }
+
+    /// Counts a failure that is no call of its own.
+    pub(crate) fn fail(&mut self) -> OutsideError
+        ensures error { result ≡ OutsideError.Failed }
+        ensures contents { self.new.contents ≡ self.old.contents }
+        ensures calls { self.new.calls ≡ faulted self.old.calls }
+        ensures later { self.old.calls.faults ≤ self.new.calls.faults }
+    {
+        self.calls.fail()
+    }
 }
 
 impl Store for MemStore {
@@ -126,8 +136,7 @@ impl Store for MemStore {
         ensures failed { result ≡ Err OutsideError.Failed → Rose self.old.calls.faults self.new.calls.faults }
 
         // Exactly the listed calls fail.
-        ensures listed { (result ≡ Err OutsideError.Failed) ↔ IsTrue (fails_now self.old.calls) }
-        ensures calls { self.new.calls ≡ called self.old.calls }
+        ensures calls { Counts self.old.calls result self.new.calls }
     {
         self.calls.count()?;
         let answer = read_pairs(self.alloc, &self.pairs, place, max)?;
@@ -140,9 +149,8 @@ impl Store for MemStore {
         ensures failed { result ≡ Err OutsideError.Failed → Rose self.old.calls.faults self.new.calls.faults }
 
         // Exactly the listed calls fail, and one that fails sets nothing.
-        ensures listed { (result ≡ Err OutsideError.Failed) ↔ IsTrue (fails_now self.old.calls) }
+        ensures calls { Counts self.old.calls result self.new.calls }
         ensures kept { OnErr result (self.new.contents ≡ self.old.contents) }
-        ensures calls { self.new.calls ≡ called self.old.calls }
     {
         self.calls.count()?;
         self.add(place, bytes)?;
