@@ -1,0 +1,88 @@
+//! Files: a finite map from paths to bytes that a read doesn't change.
+
+ghost use Rattle.std.specs.Prelude.{◌≡◌, ◌≤◌, ℕ, Option, Some, IfSome, IfOk};
+ghost use Rattle.sx_outside.specs.Causes.{Rose};
+ghost use Rattle.sx_outside.specs.Contents.{Paths, at_path, paths_of, read_of};
+ghost use Rattle.sx_outside.specs.Calls.{Counts, uncalled};
+ghost use Rattle.sx_outside.specs.Files.{file_reading};
+
+use crate::calls::Calls;
+use crate::causes::OutsideError;
+use crate::contents::read_pairs;
+use std::alloc::Global;
+use std::marker::Model;
+
+/// What a read answers.
+#[derive(Drop)]
+pub enum FileAnswer {
+    Bytes(Vec<u8>),
+    /// The file has more bytes than were asked for.
+    Longer,
+    Absent,
+}
+
+/// A finite map from paths to bytes.
+pub trait Files {
+    /// The bytes at each path, where they are told.
+    ghost told: { Self → Option Paths };
+
+    /// How many calls have failed.
+    ghost faults: { Self → ℕ };
+
+    /// The bytes at a path, if they are at most `max`.
+    fn read(&mut self, path: &str, max: usize) -> Result<FileAnswer, OutsideError>
+        ensures same { told self.new ≡ told self.old }
+        ensures answer { IfSome (told self.old)
+            (λ files. IfOk result (λ answer. file_reading answer ≡ read_of (at_path files path.now) max)) }
+        ensures later { faults self.old ≤ faults self.new }
+        ensures failed { result ≡ Err OutsideError.Failed → Rose (faults self.old) (faults self.new) };
+}
+
+/// Files in memory, of which the reads with listed numbers fail.
+#[derive(Drop)]
+pub struct MemFiles {
+    alloc: Global,
+    pairs: Vec<(String, Vec<u8>)>,
+    calls: Calls,
+}
+
+impl Model for MemFiles {
+    ghost use Rattle.sx_outside.specs.Calls.{Kept};
+    ghost use Rattle.sx_outside.specs.Contents.{paths_of};
+
+    ghost Value = { Kept };
+
+    ghost view = { λ m. record { contents = paths_of m.pairs.items; calls = m.calls } };
+}
+
+impl MemFiles {
+    /// Of two pairs with one path the last counts. Reads are numbered from 0.
+    pub fn new(alloc: Global, files: Vec<(String, Vec<u8>)>, fails: Vec<u64>) -> MemFiles
+        ensures { result ≡ record { contents = paths_of files.items; calls = uncalled fails.items } }
+    {
+        MemFiles {
+            alloc,
+            pairs: files,
+            calls: Calls::new(fails),
+        }
+    }
+}
+
+impl Files for MemFiles {
+    ghost told = { λ m. Some m.contents };
+
+    ghost faults = { λ m. m.calls.faults };
+
+    fn read(&mut self, path: &str, max: usize) -> Result<FileAnswer, OutsideError>
+        ensures same { Some self.new.contents ≡ Some self.old.contents }
+        ensures answer { IfOk result (λ answer. file_reading answer ≡ read_of (at_path self.old.contents path.now) max) }
+        ensures later { self.old.calls.faults ≤ self.new.calls.faults }
+        ensures failed { result ≡ Err OutsideError.Failed → Rose self.old.calls.faults self.new.calls.faults }
+
+        // Exactly the listed calls fail.
+        ensures calls { Counts self.old.calls result self.new.calls }
+    {
+        self.calls.count()?;
+        Ok(read_pairs(self.alloc, &self.pairs, path, max)?)
+    }
+}

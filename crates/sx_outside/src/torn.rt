@@ -1,0 +1,118 @@
+//! A store of which one put is torn: it writes a part of its piece and fails.
+
+ghost use Rattle.std.specs.Prelude.{◌≡◌, ◌≤◌, Some, IfOk, OnOk, take};
+ghost use Rattle.sx_outside.specs.Calls.{faulted};
+ghost use Rattle.sx_outside.specs.Causes.{Rose};
+ghost use Rattle.sx_outside.specs.Contents.{at_path, read_of};
+ghost use Rattle.sx_outside.specs.Store.{store_reading, Puts, WhereTold};
+ghost use Rattle.sx_outside.specs.Torn.{turn_of, left_after, GetsAt, PutsAt, Tears};
+
+use crate::causes::OutsideError;
+use crate::store::{MemStore, Store, StoreAnswer};
+use std::marker::Model;
+
+/// Where a put goes.
+#[derive(Clone, Copy)]
+pub enum Turn {
+    Within,
+    Tear,
+    Stopped,
+}
+
+/// A store whose puts go to another, until one is torn; from then on every call fails, or goes there again.
+#[derive(Drop)]
+pub struct TornStore {
+    inner: MemStore,
+    left: Option<u64>,
+    keep: usize,
+    stop: bool,
+}
+
+impl Model for TornStore {
+    ghost use Rattle.sx_outside.specs.Torn.{TornRecord};
+
+    ghost Value = { TornRecord };
+
+    ghost view = { λ t. record { inner = t.inner; left = t.left; keep = t.keep; stop = t.stop } };
+}
+
+// The torn put: a pair is added, and it fails all the same.
+fn tear(store: &mut MemStore, place: &str, part: &[u8]) -> Result<(), OutsideError>
+    ensures tears { Tears place.now part.now store.old result store.new }
+    ensures later { store.old.calls.faults ≤ store.new.calls.faults }
+{
+    match store.add(place, part) {
+        Ok(()) => Err(store.fail()),
+        Err(_) => Err(OutsideError::Memory),
+    }
+}
+
+impl TornStore {
+    /// The first `good` puts go to `inner`. The next writes at most `keep` bytes of its piece and fails.
+    /// With `stop` every call behind it fails and changes nothing.
+    pub fn new(inner: MemStore, good: u64, keep: usize, stop: bool) -> TornStore
+        ensures { result ≡ record { inner = inner; left = Some good; keep = keep; stop = stop } }
+    {
+        TornStore {
+            inner,
+            left: Some(good),
+            keep,
+            stop,
+        }
+    }
+
+    /// The store within, as the calls left it.
+    pub fn into_inner(self) -> MemStore
+        ensures { result ≡ self.inner }
+    {
+        self.inner
+    }
+
+    fn turn(&self) -> Turn
+        ensures { result ≡ turn_of self.now }
+    {
+        match self.left {
+            None if self.stop => Turn::Stopped,
+            Some(0) => Turn::Tear,
+            _ => Turn::Within,
+        }
+    }
+}
+
+impl Store for TornStore {
+    ghost told = { λ t. Some t.inner.contents };
+
+    ghost faults = { λ t. t.inner.calls.faults };
+
+    fn get(&mut self, place: &str, max: usize) -> Result<StoreAnswer, OutsideError>
+        ensures same { Some self.new.inner.contents ≡ Some self.old.inner.contents }
+        ensures answer { IfOk result (λ answer. store_reading answer ≡ read_of (at_path self.old.inner.contents place.now) max) }
+        ensures later { self.old.inner.calls.faults ≤ self.new.inner.calls.faults }
+        ensures failed { result ≡ Err OutsideError.Failed → Rose self.old.inner.calls.faults self.new.inner.calls.faults }
+
+        ensures turn { GetsAt (turn_of self.old) self.old.inner result self.new.inner }
+        ensures rest { self.new ≡ record self.old { inner = self.new.inner } }
+    {
+        match self.turn() {
+            Turn::Stopped => Err(self.inner.fail()),
+            _ => self.inner.get(place, max),
+        }
+    }
+
+    fn put(&mut self, place: &str, bytes: &[u8]) -> Result<(), OutsideError>
+        ensures puts { WhereTold (Some self.old.inner.contents) (Some self.new.inner.contents) (Puts result place.now bytes.now) }
+        ensures later { self.old.inner.calls.faults ≤ self.new.inner.calls.faults }
+        ensures failed { result ≡ Err OutsideError.Failed → Rose self.old.inner.calls.faults self.new.inner.calls.faults }
+
+        ensures turn { PutsAt (turn_of self.old) place.now (take self.old.keep bytes.now) self.old.inner result self.new.inner }
+        ensures rest { self.new ≡ record self.old { inner = self.new.inner; left = left_after self.old.left } }
+    {
+        let turn = self.turn();
+        self.left = self.left.and_then(|left| left.checked_sub(1));
+        match turn {
+            Turn::Within => self.inner.put(place, bytes),
+            Turn::Tear => tear(&mut self.inner, place, &bytes[..self.keep.min(bytes.len())]),
+            Turn::Stopped => Err(self.inner.fail()),
+        }
+    }
+}
