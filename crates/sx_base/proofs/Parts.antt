@@ -1,9 +1,9 @@
 -- What the parts of a list in memory are.
 use Rattle.std.proofs.Common.{◌≡◌, Bool, true, false, List, [], ◌∷◌, Option, Some, None, refl, ap, ◌∙◌}
-use Rattle.std.specs.Prelude.{IsTrue, ◌&&◌}
+use Rattle.std.specs.Prelude.{IsTrue, ◌&&◌, slice_get}
 use Rattle.sx_base.specs.declared.span.Span.{Span}
 use Rattle.sx_base.specs.declared.atom.Atom.TheVariants as atoms
-use Rattle.sx_base.specs.Datum.{PlainDatum, atom, symbol, pair, vector, chain, listed, spanned, is_tail, is_nil, elements, tail_of, symbol_text, proper_elements, span_of}
+use Rattle.sx_base.specs.Datum.{PlainDatum, atom, symbol, pair, vector, chain, listed, spanned, is_tail, is_nil, elements, tail_of, first_of, atom_of, symbol_text, proper_elements, span_of}
 use Rattle.sx_base.specs.DatumView.{is_some_list}
 
 no_elements : (t : PlainDatum) → IsTrue (is_tail t) → elements t ≡ []
@@ -47,3 +47,11 @@ proper-ended s ds t h e = rw (tail_of-listed s ds t h, e, elements-listed s ds t
 
 pub proper-open : (s : Option Span) (ds : List PlainDatum) (t : PlainDatum) → IsTrue (is_some_list ds && is_tail t) → is_nil t ≡ false → proper_elements (listed s ds t) ≡ None
 proper-open s ds t h e = rw (tail_of-listed s ds t h, e) refl
+
+pub atom_of-listed : (s : Option Span) (ds : List PlainDatum) (t : PlainDatum) → IsTrue (is_some_list ds && is_tail t) → atom_of (listed s ds t) ≡ None
+atom_of-listed s [] t h = cc
+atom_of-listed s (d ∷ ds) t h = refl
+
+pub first_of-listed : (s : Option Span) (ds : List PlainDatum) (t : PlainDatum) → IsTrue (is_some_list ds && is_tail t) → first_of (listed s ds t) ≡ slice_get ds 0
+first_of-listed s [] t h = cc
+first_of-listed s (d ∷ ds) t h = refl

@@ -54,6 +54,12 @@ unspanned (symbol s x) = symbol None x
 unspanned (pair s d e) = pair None (unspanned d) (unspanned e)
 unspanned (vector s d) = vector None (unspanned d)
 
+abbrev pub atom_of : PlainDatum → Option Atom
+atom_of (atom s a) = Some a
+atom_of (symbol s x) = None
+atom_of (pair s d e) = None
+atom_of (vector s d) = None
+
 -- the text of a symbol
 abbrev pub symbol_text : PlainDatum → Option (List ℕ)
 symbol_text (atom s a) = None
@@ -67,6 +73,13 @@ elements (atom s a) = []
 elements (symbol s x) = []
 elements (pair s d e) = d ∷ elements e
 elements (vector s d) = []
+
+-- the first element of a list
+abbrev pub first_of : PlainDatum → Option PlainDatum
+first_of (atom s a) = None
+first_of (symbol s x) = None
+first_of (pair s d e) = Some d
+first_of (vector s d) = None
 
 -- what stands behind the elements
 abbrev pub tail_of : PlainDatum → PlainDatum

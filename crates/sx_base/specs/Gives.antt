@@ -18,6 +18,11 @@ abbrev pub Stops : {A : Type 0} → Stop → Result A Fault → Type 0
 Stops (stop.Fault f) given = given ≡ Err f
 Stops stop.Memory given = Unit {0}
 
+-- a stop is this fault, or want of memory
+abbrev pub StopsWith : Stop → Fault → Type 0
+StopsWith (stop.Fault f) fault = fault ≡ f
+StopsWith stop.Memory fault = Unit {0}
+
 abbrev pub Gives : {X A : Type 0} → (X → A) → Result X Stop → Result A Fault → Type 0
 Gives view (Ok x) given = given ≡ Ok (view x)
 Gives view (Err e) given = Stops e given

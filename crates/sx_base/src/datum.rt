@@ -1,7 +1,7 @@
 //! Data: what a reader gives and a printer takes.
 
 ghost use Rattle.std.specs.Prelude.{◌≡◌, option_map};
-ghost use Rattle.sx_base.specs.Datum.{symbol_text, proper_elements, span_of, is_nil};
+ghost use Rattle.sx_base.specs.Datum.{atom_of, first_of, symbol_text, proper_elements, span_of, is_nil};
 
 use crate::atom::Atom;
 use crate::span::Span;
@@ -59,6 +59,26 @@ impl Datum {
     {
         match &self.node {
             Node::Symbol(symbol) => Some(symbol),
+            _ => None,
+        }
+    }
+
+    /// The atom, where the datum is one.
+    pub fn as_atom(&self) -> Option<&Atom>
+        ensures { option_map (λ a. a.now) result ≡ atom_of self.now }
+    {
+        match &self.node {
+            Node::Atom(atom) => Some(atom),
+            _ => None,
+        }
+    }
+
+    /// The first element of a list, whatever its tail.
+    pub fn first(&self) -> Option<&Datum>
+        ensures { option_map (λ d. d.now) result ≡ first_of self.now }
+    {
+        match &self.node {
+            Node::List(items, _) => items.first(),
             _ => None,
         }
     }

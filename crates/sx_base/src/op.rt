@@ -346,7 +346,8 @@ fn text_at(texts: &[&'static str], place: usize) -> &'static str
 
 /// The op of a report name, where there is one.
 pub fn op_named(text: &str) -> Option<Op>
-    ensures { option_map (λ op. op.0) result ≡ op_named text.now }
+    ensures op { option_map (λ op. op.0) result ≡ op_named text.now }
+    ensures within { IfSome result (λ op. op.0 < 301) }
 {
     let place = place_in(&OP_NAMES, text)?;
     Some(Op(place as u16))
