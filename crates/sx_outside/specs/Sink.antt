@@ -47,14 +47,14 @@ taken_next sink len = min (allowed (listed sink.fails sink.next) len) sink.room
 -- the sink after a put of a piece
 abbrev pub after_put : SinkRecord → List ℕ → SinkRecord
 after_put sink piece =
-  let taken = taken_next sink (length piece) in
-  record {
-    bytes = sink.bytes ++ take taken piece;
-    room = sink.room - taken;
-    fails = sink.fails;
-    next = raised sink.next;
-    faults = if nat_lt taken (length piece) then raised sink.faults else sink.faults
-  }
+    let taken = taken_next sink (length piece) in
+    record {
+      bytes = sink.bytes ++ take taken piece;
+      room = sink.room - taken;
+      fails = sink.fails;
+      next = raised sink.next;
+      faults = if nat_lt taken (length piece) then raised sink.faults else sink.faults;
+    }
 
 -- what a put answers that takes so much of so many bytes
 abbrev pub answer_of : ℕ → ℕ → Result Unit PutFailed

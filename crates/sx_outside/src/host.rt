@@ -12,12 +12,11 @@ use crate::files::{FileAnswer, Files};
 use crate::sink::{PutFailed, Sink};
 use crate::store::{Store, StoreAnswer};
 use std::alloc::Global;
-use std::fs;
 use std::fs::File;
-use std::io;
 use std::io::{ErrorKind, Read, Write};
 use std::path::Path;
 use std::rt::Files as System;
+use std::{fs, io};
 
 /// Files of the system.
 #[derive(Drop)]
@@ -29,7 +28,11 @@ pub struct HostFiles<R> {
 
 impl<R: System> HostFiles<R> {
     pub fn new(alloc: Global, rt: R) -> HostFiles<R> {
-        HostFiles { alloc, rt, faults: 0 }
+        HostFiles {
+            alloc,
+            rt,
+            faults: 0,
+        }
     }
 }
 
@@ -104,7 +107,11 @@ pub struct HostStore<R> {
 
 impl<R: System> HostStore<R> {
     pub fn new(alloc: Global, rt: R) -> HostStore<R> {
-        HostStore { alloc, rt, faults: 0 }
+        HostStore {
+            alloc,
+            rt,
+            faults: 0,
+        }
     }
 }
 

@@ -1,12 +1,9 @@
 use super::*;
 use std::alloc::{AllocError, Global};
-use std::env;
-use std::fs;
-use std::io;
 use std::io::{ErrorKind, Write};
 use std::path::PathBuf;
-use std::process;
 use std::test::Fail;
+use std::{env, fs, io, process};
 
 /// A list of pairs in memory.
 fn pairs(alloc: Global, texts: &[(&str, &[u8])]) -> Result<Vec<(String, Vec<u8>)>, AllocError> {
@@ -42,10 +39,7 @@ fn got(answer: &Result<StoreAnswer, OutsideError>) -> &[u8] {
 #[test]
 fn files_in_memory_answer_by_their_last_pairs(rt: HostRuntime) -> Result<(), Fail> {
     let alloc = rt.alloc();
-    let held = pairs(
-        alloc,
-        &[("a", b"first"), ("b", b"12345"), ("a", b"last")],
-    )?;
+    let held = pairs(alloc, &[("a", b"first"), ("b", b"12345"), ("a", b"last")])?;
     let mut files = MemFiles::new(alloc, held, vec![in alloc; 2]?);
     let rows: [(&str, usize, &[u8]); 6] = [
         ("a", 4, b"last"),
@@ -56,7 +50,11 @@ fn files_in_memory_answer_by_their_last_pairs(rt: HostRuntime) -> Result<(), Fai
         ("a", 3, b"longer"),
     ];
     for (path, max, expected) in rows {
-        assert_eq!(rt; read(&files.read(path, max)), expected, "{path} up to {max}");
+        assert_eq!(rt;
+            read(&files.read(path, max)),
+            expected,
+            "{path} up to {max}"
+        );
     }
     Ok(())
 }
@@ -102,15 +100,32 @@ fn a_sink_in_memory_takes_what_fits(rt: HostRuntime) -> Result<(), Fail> {
 }
 
 /// Puts a piece at three places of a store that is torn, and compares each answer and what is left.
-fn tear(rt: &(impl process::Abort), alloc: Global, good: u64, keep: usize, stop: bool) -> Result<(), Fail> {
+fn tear(
+    rt: &(impl process::Abort),
+    alloc: Global,
+    good: u64,
+    keep: usize,
+    stop: bool,
+) -> Result<(), Fail> {
     let piece = b"twelve bytes";
     let inner = MemStore::new(alloc, vec![in alloc]?, vec![in alloc]?);
     let mut torn = TornStore::new(inner, good, keep, stop);
     for (number, place) in (0u64..).zip(["a", "b", "c"]) {
         let fails = number == good || number > good && stop;
-        assert_eq!(rt; torn.put(place, piece).is_err(), fails, "put {number} of {good}, {keep}, {stop}");
+        assert_eq!(rt;
+            torn.put(place, piece).is_err(),
+            fails,
+            "put {number} of {good}, {keep}, {stop}"
+        );
     }
-    assert_eq!(rt; got(&torn.get("d", 9)), if stop { b"failed".as_slice() } else { b"absent" });
+    assert_eq!(rt;
+        got(&torn.get("d", 9)),
+        if stop {
+            b"failed".as_slice()
+        } else {
+            b"absent"
+        }
+    );
     let mut left = torn.into_inner();
     for (number, place) in (0u64..).zip(["a", "b", "c"]) {
         let expected = if number == good {
@@ -120,7 +135,11 @@ fn tear(rt: &(impl process::Abort), alloc: Global, good: u64, keep: usize, stop:
         } else {
             piece
         };
-        assert_eq!(rt; got(&left.get(place, 99)), expected, "place {number} of {good}, {keep}, {stop}");
+        assert_eq!(rt;
+            got(&left.get(place, 99)),
+            expected,
+            "place {number} of {good}, {keep}, {stop}"
+        );
     }
     Ok(())
 }
@@ -164,7 +183,11 @@ fn files_of_the_system(rt: HostRuntime) -> Result<(), Fail> {
         (below_a_file.as_str(), 5, b"failed"),
     ];
     for (path, max, expected) in rows {
-        assert_eq!(rt; read(&files.read(path, max)), expected, "{path} up to {max}");
+        assert_eq!(rt;
+            read(&files.read(path, max)),
+            expected,
+            "{path} up to {max}"
+        );
     }
     fs::remove_dir_all(&rt, top.as_str())?;
     Ok(())
