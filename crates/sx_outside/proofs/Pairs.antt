@@ -51,7 +51,7 @@ other_path place path other = not_so (bytes_eq place path) (λ same. other (sym 
 pub sets_pushed : (place piece : List ℕ) (before after : Paths) → after ≡ before ++ (place, piece) ∷ [] → Sets place piece before after
 sets_pushed place piece before after pushed = rw pushed (record {
   held = rw (at_path-push before place piece place, same_path place) refl;
-  others = λ path other. rw (at_path-push before place piece path, other_path place path other) refl
+  others = λ path other. rw (at_path-push before place piece path, other_path place path other) refl;
 })
 
 -- a call that adds a pair where it succeeds sets a path there

@@ -25,7 +25,7 @@ abbrev pub called : CallRecord → CallRecord
 called calls = record {
   fails = calls.fails;
   next = raised calls.next;
-  faults = if fails_now calls then raised calls.faults else calls.faults
+  faults = if fails_now calls then raised calls.faults else calls.faults;
 }
 
 -- a failure that is no call of its own is counted

@@ -5,3 +5,4 @@ pub mod Files
 pub mod Store
 pub mod Sink
 pub mod Torn
+pub mod Host

@@ -1,5 +1,5 @@
 -- What a sink gains, and how much of a piece it takes.
-use Rattle.std.specs.Prelude.{◌≡◌, ℕ, ◌+◌, ◌-◌, ◌==◌, ◌≤◌, min, nat_lt, Bool, if◌then◌else◌, List, [], ◌++◌, length, take, find, reverse, Option, Some, None, option_map, Result, Ok, Err}
+use Rattle.std.specs.Prelude.{◌≡◌, ℕ, ◌+◌, ◌-◌, ◌==◌, min, nat_lt, Bool, if◌then◌else◌, List, [], ◌++◌, length, take, find, reverse, Option, Some, None, option_map, Result, Ok, Err}
 use Rattle.sx_outside.specs.Causes.{raised}
 use Rattle.sx_outside.specs.declared.sink.PutFailed.{PutFailed}
 
@@ -12,11 +12,6 @@ Gains (Some before) now piece = now ≡ Some (before ++ piece)
 abbrev pub taken_of : Result Unit PutFailed → List ℕ → List ℕ
 taken_of (Ok done) piece = piece
 taken_of (Err error) piece = take error.taken piece
-
--- what a writer that tells its bytes gained: all of a piece, or a part that is no shorter than was said
-abbrev pub Writes : Result Unit PutFailed → Option (List ℕ) → Option (List ℕ) → List ℕ → Type 0
-Writes (Ok done) before now piece = Gains before now piece
-Writes (Err error) before now piece = (gained : ℕ) × (error.taken ≤ gained) × Gains before now (take gained piece)
 
 -- the bytes of a sink in memory, how many more it has room for, the calls that fail with the length taken there,
 -- the number of the next call, and how many have failed
@@ -47,14 +42,14 @@ taken_next sink len = min (allowed (listed sink.fails sink.next) len) sink.room
 -- the sink after a put of a piece
 abbrev pub after_put : SinkRecord → List ℕ → SinkRecord
 after_put sink piece =
-  let taken = taken_next sink (length piece) in
-  record {
-    bytes = sink.bytes ++ take taken piece;
-    room = sink.room - taken;
-    fails = sink.fails;
-    next = raised sink.next;
-    faults = if nat_lt taken (length piece) then raised sink.faults else sink.faults
-  }
+    let taken = taken_next sink (length piece) in
+    record {
+      bytes = sink.bytes ++ take taken piece;
+      room = sink.room - taken;
+      fails = sink.fails;
+      next = raised sink.next;
+      faults = if nat_lt taken (length piece) then raised sink.faults else sink.faults;
+    }
 
 -- what a put answers that takes so much of so many bytes
 abbrev pub answer_of : ℕ → ℕ → Result Unit PutFailed

@@ -1,23 +1,24 @@
 //! The adapters over the system, the trusted edge: what a file holds, and what becomes of bytes that were
 //! written, no proof can tell.
 
-ghost use Rattle.std.specs.Prelude.{◌≡◌, ◌≤◌, ◌<◌, ◌^◌, None, IfOk, IfErr, IfSome, Some, length, take, unwrap_or};
+ghost use Rattle.std.specs.Prelude.{◌≡◌, ◌≤◌, ◌<◌, ◌^◌, None, IfOk, IfErr, IfSome, OnErr, Some, length, take, unwrap_or};
 ghost use Rattle.sx_outside.specs.Causes.{Rose};
 ghost use Rattle.sx_outside.specs.Contents.{read_of};
 ghost use Rattle.sx_outside.specs.Files.{file_reading};
-ghost use Rattle.sx_outside.specs.Sink.{Gains, Writes};
+ghost use Rattle.sx_outside.specs.Host.{Writes};
+ghost use Rattle.sx_outside.specs.Sink.{Gains, taken_of};
 
 use crate::causes::{OutsideError, failed};
 use crate::files::{FileAnswer, Files};
 use crate::sink::{PutFailed, Sink};
 use crate::store::{Store, StoreAnswer};
 use std::alloc::Global;
-use std::fs;
 use std::fs::File;
-use std::io;
 use std::io::{ErrorKind, Read, Write};
+use std::marker::Model;
 use std::path::Path;
 use std::rt::Files as System;
+use std::{fs, io};
 
 /// Files of the system.
 #[derive(Drop)]
@@ -27,9 +28,23 @@ pub struct HostFiles<R> {
     faults: u64,
 }
 
+impl<R> Model for HostFiles<R> {
+    ghost use Rattle.std.specs.Prelude.{ℕ};
+
+    ghost Value = { ℕ };
+
+    ghost view = { λ m. m.faults };
+}
+
 impl<R: System> HostFiles<R> {
-    pub fn new(alloc: Global, rt: R) -> HostFiles<R> {
-        HostFiles { alloc, rt, faults: 0 }
+    pub fn new(alloc: Global, rt: R) -> HostFiles<R>
+        ensures { result ≡ 0 }
+    {
+        HostFiles {
+            alloc,
+            rt,
+            faults: 0,
+        }
     }
 }
 
@@ -84,7 +99,7 @@ fn cause(error: &io::Error, faults: &mut u64) -> OutsideError
 impl<R: System> Files for HostFiles<R> {
     ghost told = { λ m. None };
 
-    ghost faults = { λ m. m.faults };
+    ghost faults = { λ m. m };
 
     fn read(&mut self, path: &str, max: usize) -> Result<FileAnswer, OutsideError> {
         match read_path(self.alloc, &self.rt, path, max) {
@@ -102,9 +117,23 @@ pub struct HostStore<R> {
     faults: u64,
 }
 
+impl<R> Model for HostStore<R> {
+    ghost use Rattle.std.specs.Prelude.{ℕ};
+
+    ghost Value = { ℕ };
+
+    ghost view = { λ m. m.faults };
+}
+
 impl<R: System> HostStore<R> {
-    pub fn new(alloc: Global, rt: R) -> HostStore<R> {
-        HostStore { alloc, rt, faults: 0 }
+    pub fn new(alloc: Global, rt: R) -> HostStore<R>
+        ensures { result ≡ 0 }
+    {
+        HostStore {
+            alloc,
+            rt,
+            faults: 0,
+        }
     }
 }
 
@@ -123,7 +152,7 @@ fn write_path<R: System>(rt: &R, path: &str, bytes: &[u8]) -> io::Result<()> {
 impl<R: System> Store for HostStore<R> {
     ghost told = { λ m. None };
 
-    ghost faults = { λ m. m.faults };
+    ghost faults = { λ m. m };
 
     fn get(&mut self, place: &str, max: usize) -> Result<StoreAnswer, OutsideError> {
         match read_path(self.alloc, &self.rt, place, max) {
@@ -147,8 +176,18 @@ pub struct HostSink<W> {
     faults: u64,
 }
 
+impl<W> Model for HostSink<W> {
+    ghost use Rattle.sx_outside.specs.Host.{Written};
+
+    ghost Value = { Written W };
+
+    ghost view = { λ m. record { writer = m.writer; faults = m.faults } };
+}
+
 impl<W: Write> HostSink<W> {
-    pub fn new(writer: W) -> HostSink<W> {
+    pub fn new(writer: W) -> HostSink<W>
+        ensures { result ≡ record { writer = writer; faults = 0 } }
+    {
         HostSink { writer, faults: 0 }
     }
 }
@@ -212,7 +251,15 @@ impl<W: Write> Sink for HostSink<W> {
 
     ghost faults = { λ m. m.faults };
 
-    fn put(&mut self, bytes: &[u8]) -> Result<(), PutFailed> {
+    fn put(&mut self, bytes: &[u8]) -> Result<(), PutFailed>
+        ensures gains { Gains None None (taken_of result bytes.now) }
+        ensures short { IfErr result (λ error. error.taken < length bytes.now) }
+        ensures later { self.old.faults ≤ self.new.faults }
+        ensures failed { OnErr result (Rose self.old.faults self.new.faults) }
+
+        // The writer may tell what it holds, as one in memory does.
+        ensures writes { Writes result (W.contents self.old.writer) (W.contents self.new.writer) bytes.now }
+    {
         let result = write_piece(&mut self.writer, bytes);
         if result.is_err() {
             failed(&mut self.faults);

@@ -1,12 +1,11 @@
 use super::*;
 use std::alloc::{AllocError, Global};
-use std::env;
-use std::fs;
-use std::io;
+use std::cmp::Ordering;
 use std::io::{ErrorKind, Write};
 use std::path::PathBuf;
-use std::process;
+use std::process::Abort;
 use std::test::Fail;
+use std::{env, fs, io, process};
 
 /// A list of pairs in memory.
 fn pairs(alloc: Global, texts: &[(&str, &[u8])]) -> Result<Vec<(String, Vec<u8>)>, AllocError> {
@@ -39,13 +38,30 @@ fn got(answer: &Result<StoreAnswer, OutsideError>) -> &[u8] {
     }
 }
 
+fn done(answer: &Result<(), OutsideError>) -> &'static [u8] {
+    match answer {
+        Ok(()) => b"done",
+        Err(OutsideError::Failed) => b"failed",
+        Err(OutsideError::Memory) => b"memory",
+    }
+}
+
+/// How much a put took of its piece.
+fn taken(answer: Result<(), PutFailed>, piece: &[u8]) -> usize {
+    match answer {
+        Ok(()) => piece.len(),
+        Err(error) => error.taken,
+    }
+}
+
+fn same(rt: &impl Abort, row: usize, found: &[u8], expected: &[u8]) {
+    assert_eq!(rt; found, expected, "row {row}");
+}
+
 #[test]
 fn files_in_memory_answer_by_their_last_pairs(rt: HostRuntime) -> Result<(), Fail> {
     let alloc = rt.alloc();
-    let held = pairs(
-        alloc,
-        &[("a", b"first"), ("b", b"12345"), ("a", b"last")],
-    )?;
+    let held = pairs(alloc, &[("a", b"first"), ("b", b"12345"), ("a", b"last")])?;
     let mut files = MemFiles::new(alloc, held, vec![in alloc; 2]?);
     let rows: [(&str, usize, &[u8]); 6] = [
         ("a", 4, b"last"),
@@ -55,8 +71,8 @@ fn files_in_memory_answer_by_their_last_pairs(rt: HostRuntime) -> Result<(), Fai
         ("c", 9, b"absent"),
         ("a", 3, b"longer"),
     ];
-    for (path, max, expected) in rows {
-        assert_eq!(rt; read(&files.read(path, max)), expected, "{path} up to {max}");
+    for (row, (path, max, expected)) in rows.into_iter().enumerate() {
+        same(&rt, row, read(&files.read(path, max)), expected);
     }
     Ok(())
 }
@@ -66,61 +82,80 @@ fn a_store_in_memory_keeps_what_was_put(rt: HostRuntime) -> Result<(), Fail> {
     let alloc = rt.alloc();
     let held = pairs(alloc, &[("a", b"first"), ("a", b"last")])?;
     let mut store = MemStore::new(alloc, held, vec![in alloc; 1, 4]?);
-    assert_eq!(rt; got(&store.get("a", 9)), b"last".as_slice());
-    assert_eq!(rt; store.put("a", b"new"), Err(OutsideError::Failed));
-    assert_eq!(rt; got(&store.get("a", 3)), b"longer".as_slice());
-    store.put("a", b"new")?;
-    assert_eq!(rt; got(&store.get("a", 9)), b"failed".as_slice());
-    assert_eq!(rt; got(&store.get("a", 3)), b"new".as_slice());
-    assert_eq!(rt; got(&store.get("b", 3)), b"absent".as_slice());
+    // what is put at the place, or how much is asked for, and the answer
+    let rows: [(Option<&[u8]>, usize, &[u8]); 6] = [
+        (None, 4, b"last"),
+        (Some(b"new"), 0, b"failed"),
+        (None, 3, b"longer"),
+        (Some(b"new"), 0, b"done"),
+        (None, 3, b"failed"),
+        (None, 3, b"new"),
+    ];
+    for (row, (piece, max, expected)) in rows.into_iter().enumerate() {
+        match piece {
+            Some(piece) => same(&rt, row, done(&store.put("a", piece)), expected),
+            None => same(&rt, row, got(&store.get("a", max)), expected),
+        }
+    }
     Ok(())
 }
 
 #[test]
 fn a_sink_in_memory_takes_what_it_may(rt: HostRuntime) -> Result<(), Fail> {
     let alloc = rt.alloc();
-    let mut sink = MemSink::new(alloc, vec![in alloc; (1, 3), (1, 10), (2, 0), (3, 99)]?);
-    sink.reserve(40)?;
-    assert_eq!(rt; sink.put(b"twelve bytes"), Ok(()));
-    assert_eq!(rt; sink.put(b"twelve bytes"), Err(PutFailed { taken: 10 }));
-    assert_eq!(rt; sink.put(b""), Ok(()));
-    assert_eq!(rt; sink.put(b"abc"), Err(PutFailed { taken: 2 }));
-    assert_eq!(rt; sink.bytes(), b"twelve bytestwelve bytab".as_slice());
-    Ok(())
-}
-
-#[test]
-fn a_sink_in_memory_takes_what_fits(rt: HostRuntime) -> Result<(), Fail> {
-    let alloc = rt.alloc();
-    let mut sink = MemSink::new(alloc, vec![in alloc]?);
-    assert_eq!(rt; sink.put(b"a"), Err(PutFailed { taken: 0 }));
+    let mut sink = MemSink::new(alloc, vec![in alloc; (2, 3), (2, 10), (3, 0), (4, 99)]?);
+    // the room that is made, the piece, and how much of it is taken
+    let rows: [(usize, &[u8], usize); 6] = [
+        (0, b"a", 0),
+        (40, b"twelve bytes", 12),
+        (0, b"twelve bytes", 10),
+        (0, b"", 0),
+        (0, b"abc", 2),
+        (0, b"room for sixteen", 16),
+    ];
+    for (room, piece, expected) in rows {
+        sink.reserve(room)?;
+        assert_eq!(rt; taken(sink.put(piece), piece), expected);
+    }
     sink.reserve(4)?;
-    assert_eq!(rt; sink.put(b"abc"), Ok(()));
-    assert_eq!(rt; sink.put(b"defg"), Err(PutFailed { taken: 1 }));
-    assert_eq!(rt; sink.bytes(), b"abcd".as_slice());
+    assert_eq!(rt; sink.put(b"abcdef"), Err(PutFailed { taken: 4 }));
+    same(
+        &rt,
+        6,
+        sink.bytes(),
+        b"twelve bytestwelve bytabroom for sixteenabcd",
+    );
     Ok(())
 }
 
 /// Puts a piece at three places of a store that is torn, and compares each answer and what is left.
-fn tear(rt: &(impl process::Abort), alloc: Global, good: u64, keep: usize, stop: bool) -> Result<(), Fail> {
+fn tear(rt: &impl Abort, alloc: Global, good: usize, keep: usize, stop: bool) -> Result<(), Fail> {
     let piece = b"twelve bytes";
+    let part = &piece[..keep.min(12)];
     let inner = MemStore::new(alloc, vec![in alloc]?, vec![in alloc]?);
-    let mut torn = TornStore::new(inner, good, keep, stop);
-    for (number, place) in (0u64..).zip(["a", "b", "c"]) {
-        let fails = number == good || number > good && stop;
-        assert_eq!(rt; torn.put(place, piece).is_err(), fails, "put {number} of {good}, {keep}, {stop}");
-    }
-    assert_eq!(rt; got(&torn.get("d", 9)), if stop { b"failed".as_slice() } else { b"absent" });
-    let mut left = torn.into_inner();
-    for (number, place) in (0u64..).zip(["a", "b", "c"]) {
-        let expected = if number == good {
-            &piece[..keep.min(piece.len())]
-        } else if number > good && stop {
-            b"absent".as_slice()
-        } else {
-            piece
+    let mut torn = TornStore::new(inner, good as u64, keep, stop);
+    let behind: [&[u8]; 2] = if stop {
+        [b"failed", b"absent"]
+    } else {
+        [b"done", piece]
+    };
+    for (row, place) in ["a", "b", "c"].into_iter().enumerate() {
+        let expected = match row.cmp(&good) {
+            Ordering::Less => b"done".as_slice(),
+            Ordering::Equal => b"failed",
+            Ordering::Greater => behind[0],
         };
-        assert_eq!(rt; got(&left.get(place, 99)), expected, "place {number} of {good}, {keep}, {stop}");
+        same(rt, row, done(&torn.put(place, piece)), expected);
+    }
+    assert_eq!(rt; torn.get("d", 9).is_err(), stop);
+    let mut left = torn.into_inner();
+    for (row, place) in ["a", "b", "c"].into_iter().enumerate() {
+        let expected = match row.cmp(&good) {
+            Ordering::Less => piece.as_slice(),
+            Ordering::Equal => part,
+            Ordering::Greater => behind[1],
+        };
+        same(rt, row, got(&left.get(place, 99)), expected);
     }
     Ok(())
 }
@@ -163,8 +198,12 @@ fn files_of_the_system(rt: HostRuntime) -> Result<(), Fail> {
         (top.as_str(), 5, b"failed"),
         (below_a_file.as_str(), 5, b"failed"),
     ];
-    for (path, max, expected) in rows {
-        assert_eq!(rt; read(&files.read(path, max)), expected, "{path} up to {max}");
+    for (row, (path, max, expected)) in rows.into_iter().enumerate() {
+        assert_eq!(rt;
+            read(&files.read(path, max)),
+            expected,
+            "{path} up to {max}"
+        );
     }
     fs::remove_dir_all(&rt, top.as_str())?;
     Ok(())
@@ -177,13 +216,12 @@ fn a_store_of_the_system_makes_its_folders(rt: HostRuntime) -> Result<(), Fail> 
     let place = format!(in alloc; "{top}/x/y/z")?;
     let below_a_file = format!(in alloc; "{place}/w")?;
     let mut store = HostStore::new(alloc, rt.clone()?);
-    assert_eq!(rt; got(&store.get(&place, 9)), b"absent".as_slice());
-    store.put(&place, b"old bytes")?;
-    store.put(&place, b"new")?;
-    assert_eq!(rt; got(&store.get(&place, 3)), b"new".as_slice());
-    assert_eq!(rt; got(&store.get(&place, 2)), b"longer".as_slice());
-    assert_eq!(rt; store.put(&below_a_file, b"new"), Err(OutsideError::Failed));
-    assert_eq!(rt; store.put(&top, b"new"), Err(OutsideError::Failed));
+    same(&rt, 0, got(&store.get(&place, 9)), b"absent");
+    same(&rt, 1, done(&store.put(&place, b"old bytes")), b"done");
+    same(&rt, 2, done(&store.put(&place, b"new")), b"done");
+    same(&rt, 3, got(&store.get(&place, 3)), b"new");
+    same(&rt, 4, done(&store.put(&below_a_file, b"new")), b"failed");
+    same(&rt, 5, done(&store.put(&top, b"new")), b"failed");
     fs::remove_dir_all(&rt, top.as_str())?;
     Ok(())
 }
@@ -224,14 +262,16 @@ impl Write for Narrow<'_> {
 #[test]
 fn a_sink_of_the_system_counts_what_was_taken(rt: HostRuntime) -> Result<(), Fail> {
     let alloc = rt.alloc();
+    let piece = b"twelve bytes";
+    // the room of the writer, whether it can flush, and how much is taken
     let rows = [
-        (20, true, Ok(()), b"twelve bytes".as_slice()),
-        (12, true, Ok(()), b"twelve bytes"),
-        (10, true, Err(PutFailed { taken: 10 }), b"twelve byt"),
-        (0, true, Err(PutFailed { taken: 0 }), b""),
-        (12, false, Err(PutFailed { taken: 11 }), b"twelve bytes"),
+        (20, true, 12),
+        (12, true, 12),
+        (10, true, 10),
+        (0, true, 0),
+        (12, false, 11),
     ];
-    for (room, can_flush, expected, bytes) in rows {
+    for (room, can_flush, expected) in rows {
         let mut held = Vec::new(alloc);
         let mut sink = HostSink::new(Narrow {
             held: &mut held,
@@ -240,9 +280,9 @@ fn a_sink_of_the_system_counts_what_was_taken(rt: HostRuntime) -> Result<(), Fai
             can_flush,
         });
         assert_eq!(rt; sink.put(b""), Ok(()));
-        assert_eq!(rt; sink.put(b"twelve bytes"), expected, "room for {room}");
+        assert_eq!(rt; taken(sink.put(piece), piece), expected, "room for {room}");
         drop(sink);
-        assert_eq!(rt; held.as_slice(), bytes, "room for {room}");
+        same(&rt, room, &held, &piece[..room.min(12)]);
     }
     Ok(())
 }

@@ -7,5 +7,5 @@ use Rattle.sx_outside.proofs.host.write_some.Goals as goal
 pub loop-preserved : goal.loop-preserved
 loop-preserved g c = record {
   within = grind (arith, common_steps);
-  gains = gains_more _ _ _ _ _ _ c.loop.invariant.gains (simp take_rest at c.in-Some.ensures.gains)
+  gains = gains_more _ _ _ _ _ _ c.loop.invariant.gains (simp take_rest at c.in-Some.ensures.gains);
 }

@@ -5,5 +5,5 @@ use Rattle.sx_outside.proofs.host.write_some.Given as goal
 abbrev pub invariant-loop : goal.invariant-loop
 invariant-loop g l = record {
   within : l.taken ≤ length l.piece;
-  gains : Gains (g.W.Write.contents l.fn.writer) (g.W.Write.contents l.writer) (take l.taken l.piece)
+  gains : Gains (g.W.Write.contents l.fn.writer) (g.W.Write.contents l.writer) (take l.taken l.piece);
 }
