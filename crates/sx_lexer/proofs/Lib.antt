@@ -1,2 +1,5 @@
-pub mod Gaps
+pub mod RepeatTurns
+pub mod NameTurns
+pub mod StringTurns
 pub mod Values
+pub mod SpeltLemmas

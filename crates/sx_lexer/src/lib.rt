@@ -16,10 +16,15 @@
 //! This crate stands on `sx_base`. A reader makes data of its lexemes.
 #![tactic(auto)]
 
+mod characters;
+mod escapes;
 mod faults;
 mod gap;
 mod identifiers;
 mod numbers;
 mod source;
+pub mod start;
+mod strings;
 pub mod token;
 pub mod tokens;
+mod whitespace;

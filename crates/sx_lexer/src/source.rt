@@ -26,7 +26,16 @@ pub fn front(bytes: &[u8]) -> Option<Piece>
 
 /// The byte at an index, or 0 past the end.
 pub fn byte_at(bytes: &[u8], i: usize) -> u8
-    ensures { result ≡ slice_index bytes.now i }
+    ensures gives { result ≡ slice_index bytes.now i }
+    ensures there { 0 < result → i < length bytes.now }
 {
     if i < bytes.len() { bytes[i] } else { 0 }
+}
+
+/// The bytes behind the first `n`, or none where there are fewer.
+pub fn behind(bytes: &[u8], n: usize) -> &[u8]
+    ensures { result.now ≡ drop n bytes.now }
+{
+    let (_, after) = bytes.split_at(n.min(bytes.len()));
+    after
 }
