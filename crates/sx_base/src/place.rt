@@ -64,7 +64,8 @@ fn byte_at(bytes: &[u8], i: usize) -> u8
     if i < bytes.len() { bytes[i] } else { 0 }
 }
 
-fn line_end(bytes: &[u8]) -> usize
+/// How many bytes the line end takes that the bytes begin with, or 0 where none comes.
+pub fn line_end(bytes: &[u8]) -> usize
     ensures { result ≡ line_end bytes.now }
 {
     let b = byte_at(bytes, 0);

@@ -1,0 +1,5 @@
+pub mod RepeatTurns
+pub mod NameTurns
+pub mod StringTurns
+pub mod Values
+pub mod SpeltLemmas

@@ -1,0 +1,218 @@
+//! Strings (R6RS 4.2.7).
+
+ghost use Rattle.std.specs.Prelude.{◌≡◌, ◌+◌, ◌<◌, ◌≤◌, ◌^◌, ◌++◌, drop, length, IfOk, OnOk, slice_index};
+ghost use Rattle.std.specs.String.{string_bytes};
+ghost use Rattle.sx_base.specs.Gives.{Gives};
+ghost use Rattle.sx_base.specs.Place.{line_end};
+ghost use Rattle.sx_lexer.specs.Numbers.{digits_size};
+ghost use Rattle.sx_lexer.specs.Source.{characters, piece};
+ghost use Rattle.sx_lexer.specs.Strings.{char_here, simple_escape, hex_part, line_part, escape_part, line_or_char, string_part, char_text, string_at};
+
+use crate::escapes::escape;
+use crate::faults::refuse;
+use crate::numbers::digits_size;
+use crate::source::{Piece, behind, byte_at, front};
+use crate::token::{Lexeme, Token};
+use crate::whitespace::blanks_end;
+use std::alloc::{AllocError, Global};
+use sx_base::atom::Atom;
+use sx_base::fault::{FaultKind, Stop};
+use sx_base::place::line_end;
+use sx_base::symbol::Symbol;
+
+/// The string whose opening quote is the first of the bytes.
+pub fn string_at(alloc: Global, file: &Symbol, bytes: &[u8], from: u32) -> Result<Lexeme, Stop>
+    requires some { 0 < length bytes.now }
+    requires fits { from + length bytes.now < 2 ^ 32 }
+    ensures gives { Gives (λ x. x) result (string_at file.now bytes.now from) }
+    ensures forward { IfOk result (λ l. (l.from ≡ from) × (from < l.to) × (l.to ≤ from + length bytes.now)) }
+{
+    let mut text = String::new(alloc);
+    let (_, mut rest) = bytes.split_at(1);
+    let mut at = from + 1;
+    loop {
+        if byte_at(rest, 0) == b'"' {
+            let text = Symbol::from_string(text)?;
+            return Ok(Lexeme {
+                token: Token::Atom(Atom::Str(text)),
+                from,
+                to: at + 1,
+            });
+        }
+        let part = string_part(alloc, file, from, rest, at)?;
+        push_char(&mut text, part.char)?;
+        let (_, after) = rest.split_at(part.size);
+        rest = after;
+        at += part.size as u32;
+    }
+}
+
+fn push_char(text: &mut String, char: Option<char>) -> Result<(), AllocError>
+    ensures { OnOk result (string_bytes text.new ≡ string_bytes text.old ++ char_text char) }
+{
+    match char {
+        Some(c) => text.push(c),
+        None => Ok(()),
+    }
+}
+
+/// What the string goes on with at `at`: the character that it stands for, if any, and how many
+/// bytes it takes.
+#[tactic(auto, unfolding(crate::specs::Strings::string_part))]
+fn string_part(
+    alloc: Global,
+    file: &Symbol,
+    quote: u32,
+    bytes: &[u8],
+    at: u32,
+) -> Result<Piece, Stop>
+    requires quoted { quote < at }
+    requires fits { at + length bytes.now < 2 ^ 32 }
+    ensures gives { Gives (λ p. piece p.char p.size) result (string_part file.now quote bytes.now at) }
+    ensures size { IfOk result (λ p. (0 < p.size) × (p.size ≤ length bytes.now)) }
+{
+    if byte_at(bytes, 0) == b'\\' {
+        return escape_part(alloc, file, quote, bytes, at);
+    }
+    let size = line_end(bytes);
+    if size == 0 {
+        return char_here(alloc, file, quote, bytes, at);
+    }
+    Ok(Piece {
+        char: Some('\n'),
+        size,
+    })
+}
+
+/// The character with which the string goes on at `at`.
+fn char_here(alloc: Global, file: &Symbol, quote: u32, bytes: &[u8], at: u32) -> Result<Piece, Stop>
+    requires quoted { quote < at }
+    requires fits { at + length bytes.now < 2 ^ 32 }
+    ensures gives { Gives (λ p. piece p.char p.size) result (char_here file.now quote at (characters bytes.now)) }
+    ensures size { IfOk result (λ p. (0 < p.size) × (p.size ≤ length bytes.now)) }
+{
+    match front(bytes) {
+        Some(
+            Piece {
+                char: Some(c),
+                size,
+            },
+        ) => Ok(Piece {
+            char: Some(c),
+            size,
+        }),
+        Some(
+            Piece {
+                char: None,
+                size: _,
+            },
+        ) => refuse(alloc, file, FaultKind::BadUtf8, at, at + 1),
+        None => refuse(alloc, file, FaultKind::Unclosed, quote, quote + 1),
+    }
+}
+
+/// What a letter, a quote or a backslash stands for behind a backslash.
+fn simple_escape(b: u8) -> Option<char>
+    ensures { result ≡ simple_escape b }
+{
+    match b {
+        b'a' => Some('\u{7}'),
+        b'b' => Some('\u{8}'),
+        b't' => Some('\t'),
+        b'n' => Some('\n'),
+        b'v' => Some('\u{B}'),
+        b'f' => Some('\u{C}'),
+        b'r' => Some('\r'),
+        b'"' => Some('"'),
+        b'\\' => Some('\\'),
+        _ => None,
+    }
+}
+
+/// What the backslash at `at` begins, which is the first of the bytes.
+fn escape_part(
+    alloc: Global,
+    file: &Symbol,
+    quote: u32,
+    bytes: &[u8],
+    at: u32,
+) -> Result<Piece, Stop>
+    requires some { 0 < length bytes.now }
+    requires quoted { quote < at }
+    requires fits { at + length bytes.now < 2 ^ 32 }
+    ensures gives { Gives (λ p. piece p.char p.size) result (escape_part file.now quote bytes.now at (simple_escape (slice_index bytes.now 1))) }
+    ensures size { IfOk result (λ p. (0 < p.size) × (p.size ≤ length bytes.now)) }
+{
+    let b = byte_at(bytes, 1);
+    if let Some(c) = simple_escape(b) {
+        return Ok(Piece {
+            char: Some(c),
+            size: 2,
+        });
+    }
+    if b == b'x' {
+        return hex_part(
+            alloc,
+            file,
+            quote,
+            digits_size(16, behind(bytes, 2)),
+            bytes,
+            at,
+        );
+    }
+    let here = blanks_end(behind(bytes, 1), at + 1);
+    let (_, rest) = bytes.split_at((here - at) as usize);
+    line_part(alloc, file, quote, at, rest, here)
+}
+
+/// The escape `\xHEX;` at `at`, which has `n` digits.
+fn hex_part(
+    alloc: Global,
+    file: &Symbol,
+    quote: u32,
+    n: usize,
+    bytes: &[u8],
+    at: u32,
+) -> Result<Piece, Stop>
+    requires digits { n + 2 ≤ length bytes.now }
+    requires quoted { quote < at }
+    requires fits { at + length bytes.now < 2 ^ 32 }
+    ensures gives { Gives (λ p. piece p.char p.size) result (hex_part file.now quote at n bytes.now) }
+    ensures size { IfOk result (λ p. (0 < p.size) × (p.size ≤ length bytes.now)) }
+{
+    let _end = char_here(alloc, file, quote, behind(bytes, 2 + n), at + 2 + n as u32)?;
+    match escape(bytes) {
+        Some(letter) => Ok(Piece {
+            char: Some(letter.char),
+            size: letter.size,
+        }),
+        None => refuse(alloc, file, FaultKind::BadEscape, quote, at),
+    }
+}
+
+/// Behind a backslash at `at` and blanks: a line end and blanks, which stand for nothing.
+fn line_part(
+    alloc: Global,
+    file: &Symbol,
+    quote: u32,
+    at: u32,
+    rest: &[u8],
+    here: u32,
+) -> Result<Piece, Stop>
+    requires quoted { quote < at }
+    requires forward { at < here }
+    requires fits { here + length rest.now < 2 ^ 32 }
+    ensures gives { Gives (λ p. piece p.char p.size) result (line_part file.now quote at here (line_end rest.now) rest.now) }
+    ensures size { IfOk result (λ p. (0 < p.size) × (at + p.size ≤ here + length rest.now)) }
+{
+    let _end = char_here(alloc, file, quote, rest, here)?;
+    let n = line_end(rest);
+    if n == 0 {
+        return refuse(alloc, file, FaultKind::BadEscape, quote, at);
+    }
+    let to = blanks_end(behind(rest, n), here + n as u32);
+    Ok(Piece {
+        char: None,
+        size: (to - at) as usize,
+    })
+}

@@ -1,0 +1,372 @@
+//! Tokens, one after another (R6RS 4.2.1).
+
+ghost use Rattle.std.specs.Prelude.{◌≡◌, ◌+◌, ◌-◌, ◌<◌, ◌≤◌, ◌^◌, length, take, drop, IfOk, IfSome, slice_index, true};
+ghost use Rattle.std.specs.List.{list_all};
+ghost use Rattle.sx_base.specs.Gives.{Gives};
+ghost use Rattle.sx_lexer.specs.Source.{characters};
+ghost use Rattle.sx_lexer.specs.Tokens.{next_lexeme, lexeme_at, hash_at, word_at, marked_at, integer_in, radix, is_number_mark, unquoting, bare_at, bare_to, bare, bare_end, bare_step, char_end, no_identifier, number_of, begins_number, is_dot, is_true, is_false, lexeme};
+ghost use Rattle.sx_lexer.specs.Numbers.{is_ascii};
+
+use crate::characters::character_at;
+use crate::escapes::escape;
+use crate::faults::refuse;
+use crate::gap::gap_end;
+use crate::identifiers::identifier_of;
+use crate::numbers::{integer_of, is_integer, is_spelt};
+use crate::source::{behind, byte_at, front};
+use crate::strings::string_at;
+use crate::token::{Abbreviation, Bracket, Lexeme, Token};
+use crate::whitespace::{is_delimited, run_end, runs_on};
+use std::alloc::Global;
+use sx_base::atom::Atom;
+use sx_base::fault::{FaultKind, Stop};
+use sx_base::symbol::Symbol;
+
+/// The lexeme behind the gap at `at`, or none where the source ends there.
+pub fn next_lexeme(
+    alloc: Global,
+    file: &Symbol,
+    bytes: &[u8],
+    at: u32,
+) -> Result<Option<Lexeme>, Stop>
+    requires within { at ≤ length bytes.now }
+    requires fits { length bytes.now < 2 ^ 32 }
+    ensures gives { Gives (λ x. x) result (next_lexeme file.now bytes.now at) }
+    ensures forward { IfOk result (λ found. IfSome found (λ l. (at ≤ l.from) × (l.from < l.to) × (l.to ≤ length bytes.now))) }
+{
+    let (_, rest) = bytes.split_at(at as usize);
+    let from = gap_end(alloc, file, rest, at)?;
+    let (_, rest) = bytes.split_at(from as usize);
+    if rest.is_empty() {
+        return Ok(None);
+    }
+    let lexeme = lexeme_at(alloc, file, rest, from)?;
+    Ok(Some(lexeme))
+}
+
+fn lexeme_at(alloc: Global, file: &Symbol, bytes: &[u8], from: u32) -> Result<Lexeme, Stop>
+    requires some { 0 < length bytes.now }
+    requires fits { from + length bytes.now < 2 ^ 32 }
+    ensures gives { Gives (λ x. x) result (lexeme_at file.now bytes.now from) }
+    ensures forward { IfOk result (λ l. (l.from ≡ from) × (from < l.to) × (l.to ≤ from + length bytes.now)) }
+{
+    match bytes[0] {
+        b'(' => Ok(lexeme(Token::Open(Bracket::Round), from, from + 1)),
+        b')' => Ok(lexeme(Token::Close(Bracket::Round), from, from + 1)),
+        b'[' => Ok(lexeme(Token::Open(Bracket::Square), from, from + 1)),
+        b']' => Ok(lexeme(Token::Close(Bracket::Square), from, from + 1)),
+        b'\'' => Ok(lexeme(Token::Abbreviation(Abbreviation::Quote), from, from + 1)),
+        b'`' => Ok(lexeme(
+            Token::Abbreviation(Abbreviation::Quasiquote),
+            from,
+            from + 1,
+        )),
+        b',' => Ok(unquoting(
+            bytes,
+            from,
+            1,
+            Abbreviation::Unquote,
+            Abbreviation::UnquoteSplicing,
+        )),
+        b'"' => string_at(alloc, file, bytes, from),
+        b'#' => hash_at(alloc, file, bytes, from),
+        _ => bare_at(alloc, file, bytes, from),
+    }
+}
+
+fn lexeme(token: Token, from: u32, to: u32) -> Lexeme
+    ensures { result ≡ lexeme token from to }
+{
+    Lexeme { token, from, to }
+}
+
+/// `one`, which takes `n` bytes, or `all`, which has an at sign behind them.
+fn unquoting(bytes: &[u8], from: u32, n: u32, one: Abbreviation, all: Abbreviation) -> Lexeme
+    requires some { (0 < n) × (n ≤ length bytes.now) }
+    requires fits { from + length bytes.now < 2 ^ 32 }
+    ensures gives { result ≡ unquoting bytes.now from n one all }
+    ensures forward { (result.from ≡ from) × (from < result.to) × (result.to ≤ from + length bytes.now) }
+{
+    if byte_at(bytes, n as usize) == b'@' {
+        lexeme(Token::Abbreviation(all), from, from + n + 1)
+    } else {
+        lexeme(Token::Abbreviation(one), from, from + n)
+    }
+}
+
+/// A token that begins with `#`.
+fn hash_at(alloc: Global, file: &Symbol, bytes: &[u8], from: u32) -> Result<Lexeme, Stop>
+    requires some { 0 < length bytes.now }
+    requires fits { from + length bytes.now < 2 ^ 32 }
+    ensures gives { Gives (λ x. x) result (hash_at file.now bytes.now from) }
+    ensures forward { IfOk result (λ l. (l.from ≡ from) × (from < l.to) × (l.to ≤ from + length bytes.now)) }
+{
+    match byte_at(bytes, 1) {
+        b'(' => Ok(lexeme(Token::OpenVector, from, from + 2)),
+        b';' => Ok(lexeme(Token::SkipDatum, from, from + 2)),
+        b'\'' => Ok(lexeme(Token::Abbreviation(Abbreviation::Syntax), from, from + 2)),
+        b'`' => Ok(lexeme(
+            Token::Abbreviation(Abbreviation::Quasisyntax),
+            from,
+            from + 2,
+        )),
+        b',' => Ok(unquoting(
+            bytes,
+            from,
+            2,
+            Abbreviation::Unsyntax,
+            Abbreviation::UnsyntaxSplicing,
+        )),
+        b'\\' => character_at(alloc, file, bytes, from),
+        b => {
+            if is_number_mark(b) {
+                marked_at(alloc, file, bytes, from)
+            } else {
+                word_at(alloc, file, bytes, from)
+            }
+        }
+    }
+}
+
+/// A token of letters behind `#`.
+fn word_at(alloc: Global, file: &Symbol, bytes: &[u8], from: u32) -> Result<Lexeme, Stop>
+    requires some { 0 < length bytes.now }
+    requires fits { from + length bytes.now < 2 ^ 32 }
+    ensures gives { Gives (λ x. x) result (word_at file.now bytes.now from) }
+    ensures forward { IfOk result (λ l. (l.from ≡ from) × (from < l.to) × (l.to ≤ from + length bytes.now)) }
+{
+    if bytes.starts_with(b"#vu8(") {
+        return Ok(lexeme(Token::OpenBytes, from, from + 5));
+    }
+    let b = byte_at(bytes, 1);
+    let delimited = is_delimited(behind(bytes, 2));
+    if is_true(b) && delimited {
+        return Ok(lexeme(Token::Atom(Atom::Bool(true)), from, from + 2));
+    }
+    if is_false(b) && delimited {
+        return Ok(lexeme(Token::Atom(Atom::Bool(false)), from, from + 2));
+    }
+    let to = run_end(behind(bytes, 1), from + 1);
+    refuse(alloc, file, FaultKind::BadToken, from, to)
+}
+
+fn is_true(b: u8) -> bool
+    ensures { result ≡ is_true b }
+{
+    b == b't' || b == b'T'
+}
+
+fn is_false(b: u8) -> bool
+    ensures { result ≡ is_false b }
+{
+    b == b'f' || b == b'F'
+}
+
+fn is_number_mark(b: u8) -> bool
+    ensures { result ≡ is_number_mark b }
+{
+    b == b'x'
+        || b == b'X'
+        || b == b'b'
+        || b == b'B'
+        || b == b'o'
+        || b == b'O'
+        || b == b'd'
+        || b == b'D'
+        || b == b'e'
+        || b == b'E'
+        || b == b'i'
+        || b == b'I'
+}
+
+/// The base that a mark names, or 0 for `e` and `i`, behind which no number is taken.
+fn radix(b: u8) -> u8
+    ensures { result ≡ radix b }
+{
+    match b {
+        b'x' | b'X' => 16,
+        b'b' | b'B' => 2,
+        b'o' | b'O' => 8,
+        b'd' | b'D' => 10,
+        _ => 0,
+    }
+}
+
+/// A number behind its mark, which is the second of the bytes.
+fn marked_at(alloc: Global, file: &Symbol, bytes: &[u8], from: u32) -> Result<Lexeme, Stop>
+    requires some { 2 ≤ length bytes.now }
+    requires fits { from + length bytes.now < 2 ^ 32 }
+    ensures gives { Gives (λ x. x) result (marked_at file.now bytes.now from) }
+    ensures forward { IfOk result (λ l. (l.from ≡ from) × (from < l.to) × (l.to ≤ from + length bytes.now)) }
+{
+    let to = bare_end(alloc, file, from, behind(bytes, 2), from + 2)?;
+    let (text, _) = bytes.split_at((to - from) as usize);
+    let token = integer_in(
+        alloc,
+        file,
+        radix(byte_at(bytes, 1)),
+        behind(text, 2),
+        from,
+        to,
+    )?;
+    Ok(lexeme(token, from, to))
+}
+
+/// The integer that a text spells in a base.
+fn integer_in(
+    alloc: Global,
+    file: &Symbol,
+    base: u8,
+    text: &[u8],
+    from: u32,
+    to: u32,
+) -> Result<Token, Stop>
+    ensures { Gives (λ x. x) result (integer_in file.now base text.now from to) }
+{
+    if base == 0 || !is_integer(base, text) {
+        return refuse(alloc, file, FaultKind::BadNumber, from, to);
+    }
+    match integer_of(base, text) {
+        Some(n) => Ok(Token::Atom(Atom::Int(n))),
+        None => refuse(alloc, file, FaultKind::BadNumber, from, to),
+    }
+}
+
+/// A token that runs up to a delimiter.
+fn bare_at(alloc: Global, file: &Symbol, bytes: &[u8], from: u32) -> Result<Lexeme, Stop>
+    requires some { 0 < length bytes.now }
+    requires fits { from + length bytes.now < 2 ^ 32 }
+    ensures gives { Gives (λ x. x) result (bare_at file.now bytes.now from) }
+    ensures forward { IfOk result (λ l. (l.from ≡ from) × (from < l.to) × (l.to ≤ from + length bytes.now)) }
+{
+    let to = bare_end(alloc, file, from, bytes, from)?;
+    if to == from {
+        return refuse(alloc, file, FaultKind::BadUtf8, from, from + 1);
+    }
+    let (text, _) = bytes.split_at((to - from) as usize);
+    let token = bare(alloc, file, text, from, to)?;
+    Ok(lexeme(token, from, to))
+}
+
+/// The offset behind the bare token that begins at `from`, where the bytes at `at` are what is left.
+fn bare_end(alloc: Global, file: &Symbol, from: u32, bytes: &[u8], at: u32) -> Result<u32, Stop>
+    requires { at + length bytes.now < 2 ^ 32 }
+    ensures gives { Gives (λ x. x) result (bare_end file.now from bytes.now at) }
+    ensures within { IfOk result (λ to. (at ≤ to) × (to ≤ at + length bytes.now)) }
+{
+    let mut rest = bytes;
+    let mut here = at;
+    loop {
+        let to = bare_step(alloc, file, from, rest, here)?;
+        if to == here {
+            return Ok(here);
+        }
+        let (_, after) = rest.split_at((to - here) as usize);
+        rest = after;
+        here = to;
+    }
+}
+
+/// The offset behind an escape, or behind a character that is no delimiter.
+#[tactic(auto, unfolding(crate::specs::Tokens::bare_step))]
+fn bare_step(alloc: Global, file: &Symbol, from: u32, bytes: &[u8], at: u32) -> Result<u32, Stop>
+    requires { at + length bytes.now < 2 ^ 32 }
+    ensures gives { Gives (λ x. x) result (bare_step file.now from bytes.now at) }
+    ensures within { IfOk result (λ to. (at ≤ to) × (to ≤ at + length bytes.now)) }
+{
+    if byte_at(bytes, 0) != b'\\' {
+        return Ok(char_end(bytes, at));
+    }
+    match escape(bytes) {
+        Some(letter) => Ok(at + letter.size as u32),
+        None => refuse(alloc, file, FaultKind::BadEscape, from, at),
+    }
+}
+
+/// The offset behind the first character, or `at` where that is a delimiter.
+fn char_end(bytes: &[u8], at: u32) -> u32
+    requires { at + length bytes.now < 2 ^ 32 }
+    ensures gives { result ≡ char_end at (characters bytes.now) }
+    ensures within { (at ≤ result) × (result ≤ at + length bytes.now) }
+{
+    match front(bytes) {
+        Some(piece) => {
+            if runs_on(piece.char) {
+                at + piece.size as u32
+            } else {
+                at
+            }
+        }
+        None => at,
+    }
+}
+
+/// The token that a bare text spells.
+fn bare(alloc: Global, file: &Symbol, text: &[u8], from: u32, to: u32) -> Result<Token, Stop>
+    ensures { Gives (λ x. x) result (bare file.now text.now from to) }
+{
+    if is_dot(text) {
+        return Ok(Token::Dot);
+    }
+    match identifier_of(alloc, text)? {
+        Some(name) => Ok(Token::Symbol(name)),
+        None => no_identifier(alloc, file, text, from, to),
+    }
+}
+
+fn is_dot(text: &[u8]) -> bool
+    ensures { result ≡ is_dot text.now }
+{
+    text.len() == 1 && text[0] == b'.'
+}
+
+fn no_identifier(
+    alloc: Global,
+    file: &Symbol,
+    text: &[u8],
+    from: u32,
+    to: u32,
+) -> Result<Token, Stop>
+    ensures { Gives (λ x. x) result (no_identifier file.now text.now from to) }
+{
+    if begins_number(byte_at(text, 0)) {
+        number_of(alloc, file, text, from, to)
+    } else {
+        refuse(alloc, file, FaultKind::BadToken, from, to)
+    }
+}
+
+fn begins_number(b: u8) -> bool
+    ensures { result ≡ begins_number b }
+{
+    (b'0' <= b && b <= b'9') || b == b'+' || b == b'-' || b == b'.'
+}
+
+#[tactic(auto, using(crate::proofs::SpeltLemmas::spelt_ascii))]
+/// The number that a text spells: an integer, or a ratio or a decimal as it is spelt.
+fn number_of(alloc: Global, file: &Symbol, text: &[u8], from: u32, to: u32) -> Result<Token, Stop>
+    ensures { Gives (λ x. x) result (number_of file.now text.now from to) }
+{
+    if is_integer(10, text) {
+        return match integer_of(10, text) {
+            Some(n) => Ok(Token::Atom(Atom::Int(n))),
+            None => refuse(alloc, file, FaultKind::BadNumber, from, to),
+        };
+    }
+    if is_spelt(text) {
+        return Ok(Token::Atom(Atom::Spelt(ascii(alloc, text)?)));
+    }
+    refuse(alloc, file, FaultKind::BadNumber, from, to)
+}
+
+/// A text of ASCII alone, as a symbol.
+fn ascii(alloc: Global, text: &[u8]) -> Result<Symbol, Stop>
+    requires { list_all is_ascii text.now ≡ true }
+    ensures { Gives (λ x. x) result (Ok text.now) }
+{
+    let mut out = String::new(alloc);
+    for b in text {
+        out.push(*b as char)?;
+    }
+    Ok(Symbol::from_string(out)?)
+}
