@@ -1,5 +1,5 @@
 -- What is open, innermost first.
-use Rattle.std.specs.Prelude.{ℕ, Bool, true, false, List, [], ◌∷◌}
+use Rattle.std.specs.Prelude.{◌≡◌, ℕ, Bool, true, false, List, [], ◌∷◌}
 use Rattle.sx_base.specs.Datum.{PlainDatum}
 use Rattle.sx_lexer.specs.declared.token.Bracket.{Bracket}
 use Rattle.sx_lexer.specs.declared.token.Abbreviation.{Abbreviation}
@@ -32,3 +32,7 @@ has_bytes parts.Skipped = false
 abbrev pub takes_bytes : List Partial → Bool
 takes_bytes [] = false
 takes_bytes (f ∷ fs) = has_bytes f.parts
+
+-- the innermost of what is open
+abbrev pub IsFirst : Partial → List Partial → Type 0
+IsFirst f fs = (rest : List Partial) × (fs ≡ f ∷ rest)

@@ -15,6 +15,7 @@
 #![tactic(auto)]
 
 pub mod extent;
+pub mod form;
 
 pub mod partial;
 

@@ -1,7 +1,6 @@
 //! What is open: forms whose last token hasn't come.
 
-ghost use Rattle.std.specs.Prelude.{◌≡◌, [], ◌∷◌, OnOk, MatchOption};
-ghost use Rattle.sx_machine.specs.Partial.{room_in, takes_bytes};
+ghost use Rattle.std.specs.Prelude.{◌≡◌, [], ◌∷◌, List, OnOk, MatchOption};
 
 use crate::extent::Extent;
 use std::alloc::Global;
@@ -78,6 +77,36 @@ impl Stack {
         ensures { MatchOption result ((self.old ≡ []) × (self.new ≡ [])) (λ f. self.old ≡ f ∷ self.new) }
     {
         self.forms.pop()
+    }
+}
+
+impl Stack {
+    ghost use Rattle.sx_machine.specs.Partial.{IsFirst, room_in, takes_bytes};
+
+    fn innermost(&self) -> Option<&Partial>
+        ensures { MatchOption result (self.now ≡ []) (λ f. IsFirst f.now self.now) }
+    {
+        self.forms.last()
+    }
+
+    /// How many more forms may be opened, where so many may be at the top.
+    pub fn room(&self, nesting: u32) -> u32
+        ensures { result ≡ room_in nesting self.now }
+    {
+        match self.innermost() {
+            None => nesting,
+            Some(form) => form.room,
+        }
+    }
+
+    /// Whether the next token stands in a bytevector, and in nothing else there.
+    pub fn takes_bytes(&self) -> bool
+        ensures { result ≡ takes_bytes self.now }
+    {
+        match self.innermost() {
+            None => false,
+            Some(form) => matches!(&form.parts, Parts::Bytes(_)),
+        }
     }
 }
 
