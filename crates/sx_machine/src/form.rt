@@ -46,7 +46,12 @@ pub fn named(file: &Symbol, name: Symbol, at: Extent) -> Result<Datum, Memory>
 /// A list with a tail, which is joined on where it is a list. Without elements it is the tail, with
 /// this span.
 #[tactic(auto, using(crate::proofs::Joining::joined_list))]
-pub fn joined(alloc: Global, span: Option<Span>, items: Items<Datum>, tail: Datum) -> Result<Datum, Memory>
+pub fn joined(
+    alloc: Global,
+    span: Option<Span>,
+    items: Items<Datum>,
+    tail: Datum,
+) -> Result<Datum, Memory>
     ensures { IfOk result (λ d. d ≡ joined span items tail) }
 {
     let mut items = items.into_vec();

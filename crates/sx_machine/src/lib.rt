@@ -16,6 +16,5 @@
 
 pub mod extent;
 pub mod form;
-
 pub mod partial;
-
+pub mod step;
