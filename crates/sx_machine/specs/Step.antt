@@ -11,6 +11,7 @@ use Rattle.sx_lexer.specs.declared.token.Token.{Token}
 use Rattle.sx_lexer.specs.declared.token.Token.TheVariants as t
 use Rattle.sx_lexer.specs.declared.token.Lexeme.{Lexeme}
 use Rattle.sx_machine.specs.declared.extent.Extent.{Extent}
+use Rattle.sx_machine.specs.declared.extent.Misplaced.{Misplaced}
 use Rattle.sx_machine.specs.declared.partial.Tail.{Tail}
 use Rattle.sx_machine.specs.declared.partial.Tail.TheVariants as tail
 use Rattle.sx_machine.specs.declared.partial.Parts.{Parts}
@@ -18,7 +19,7 @@ use Rattle.sx_machine.specs.declared.partial.Parts.TheVariants as parts
 use Rattle.sx_machine.specs.declared.partial.Partial.{Partial}
 use Rattle.sx_machine.specs.declared.partial.State.{State}
 use Rattle.sx_machine.specs.Extent.{span_at, fault_at, through}
-use Rattle.sx_machine.specs.Partial.{on_parts, room_in, takes_bytes}
+use Rattle.sx_machine.specs.Partial.{on_parts, room_in, misplaced}
 use Rattle.sx_machine.specs.Form.{joined, abbreviated, byte_of}
 
 abbrev pub state : List Partial → List PlainDatum → State
@@ -79,14 +80,19 @@ abbrev pub nested : List ℕ → ℕ → State → Parts → Extent → Result S
 nested file nesting s p at = if room_in nesting s.stack == 0 then Err (fault_at file fault.TooNested at)
     else Ok (state (record { opening = at; room = room_in nesting s.stack - 1; parts = p } ∷ s.stack) s.done)
 
--- a form is opened that is no byte
+-- a fault, or else this
+abbrev pub unless : {A : Type 0} → List ℕ → Option Misplaced → Result A Fault → Result A Fault
+unless file None r = r
+unless file (Some w) r = Err (fault_at file w.kind w.at)
+
+-- a form other than a comment is opened that counts
 abbrev pub opened : List ℕ → ℕ → State → Parts → Extent → Result State Fault
-opened file nesting s p at = if takes_bytes s.stack then Err (fault_at file fault.BadNumber at) else nested file nesting s p at
+opened file nesting s p at = unless file (misplaced s.stack at) (nested file nesting s p at)
 
 -- a bytevector is opened, which doesn't count
 abbrev pub opened_bytes : List ℕ → ℕ → State → Extent → Result State Fault
-opened_bytes file nesting s at = if takes_bytes s.stack then Err (fault_at file fault.BadNumber at)
-    else Ok (state (record { opening = at; room = room_in nesting s.stack; parts = parts.Bytes [] } ∷ s.stack) s.done)
+opened_bytes file nesting s at = unless file (misplaced s.stack at)
+    (Ok (state (record { opening = at; room = room_in nesting s.stack; parts = parts.Bytes [] } ∷ s.stack) s.done))
 
 -- what stands behind the elements of an open list, once a dot comes there
 abbrev pub dot_in : List ℕ → List PlainDatum → Tail → Extent → Result Tail Fault

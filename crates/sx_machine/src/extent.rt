@@ -17,6 +17,13 @@ pub struct Extent {
     pub to: u32,
 }
 
+/// What is wrong, and at which bytes.
+#[derive(Clone, Copy)]
+pub struct Misplaced {
+    pub kind: FaultKind,
+    pub at: Extent,
+}
+
 /// The span of these bytes of a file.
 pub fn span_at(file: &Symbol, at: Extent) -> Result<Option<Span>, Memory>
     ensures { IfOk result (λ s. s ≡ span_at file.now at) }

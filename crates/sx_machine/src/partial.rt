@@ -1,11 +1,13 @@
 //! What is open: forms whose last token hasn't come.
 
 ghost use Rattle.std.specs.Prelude.{◌≡◌, [], ◌∷◌, List, OnOk, MatchOption};
+ghost use Rattle.sx_machine.specs.Partial.{misplaced_in};
 
-use crate::extent::Extent;
+use crate::extent::{Extent, Misplaced};
 use std::alloc::Global;
 use std::marker::Model;
 use sx_base::datum::Datum;
+use sx_base::fault::FaultKind;
 use sx_base::items::Items;
 use sx_base::memory::Memory;
 use sx_lexer::token::{Abbreviation, Bracket};
@@ -81,7 +83,7 @@ impl Stack {
 }
 
 impl Stack {
-    ghost use Rattle.sx_machine.specs.Partial.{IsFirst, room_in, takes_bytes};
+    ghost use Rattle.sx_machine.specs.Partial.{IsFirst, room_in, misplaced};
 
     fn innermost(&self) -> Option<&Partial>
         ensures { MatchOption result (self.now ≡ []) (λ f. IsFirst f.now self.now) }
@@ -99,14 +101,31 @@ impl Stack {
         }
     }
 
-    /// Whether the next token stands in a bytevector, and in nothing else there.
-    pub fn takes_bytes(&self) -> bool
-        ensures { result ≡ takes_bytes self.now }
+    /// What is wrong where a form other than a comment begins here: in a bytevector stands no form,
+    /// and behind a dot stands one.
+    pub fn misplaced(&self, at: Extent) -> Option<Misplaced>
+        ensures { result ≡ misplaced self.now at }
     {
         match self.innermost() {
-            None => false,
-            Some(form) => matches!(&form.parts, Parts::Bytes(_)),
+            None => None,
+            Some(form) => misplaced_in(&form.parts, at),
         }
+    }
+}
+
+fn misplaced_in(parts: &Parts, at: Extent) -> Option<Misplaced>
+    ensures { result ≡ misplaced_in parts.now at }
+{
+    match parts {
+        Parts::List(_, _, Tail::Given(dot, _)) => Some(Misplaced {
+            kind: FaultKind::BadDot,
+            at: *dot,
+        }),
+        Parts::Bytes(_) => Some(Misplaced {
+            kind: FaultKind::BadNumber,
+            at,
+        }),
+        _ => None,
     }
 }
 

@@ -69,7 +69,7 @@ pub fn finish(alloc: Global, file: &Symbol, mut state: State) -> Result<Vec<Datu
     }
 }
 
-/// A form is opened that is no element of a bytevector.
+/// A form other than a comment is opened that counts.
 fn opened(
     alloc: Global,
     file: &Symbol,
@@ -80,8 +80,8 @@ fn opened(
 ) -> Result<State, Stop>
     ensures { Gives (λ s. s) result (opened file.now nesting state parts at) }
 {
-    if state.stack.takes_bytes() {
-        let fault = fault_at(alloc, file, FaultKind::BadNumber, at)?;
+    if let Some(wrong) = state.stack.misplaced(at) {
+        let fault = fault_at(alloc, file, wrong.kind, wrong.at)?;
         return Err(Stop::Fault(fault));
     }
     nested(alloc, file, nesting, state, parts, at)
@@ -123,8 +123,8 @@ fn opened_bytes(
 ) -> Result<State, Stop>
     ensures { Gives (λ s. s) result (opened_bytes file.now nesting state at) }
 {
-    if state.stack.takes_bytes() {
-        let fault = fault_at(alloc, file, FaultKind::BadNumber, at)?;
+    if let Some(wrong) = state.stack.misplaced(at) {
+        let fault = fault_at(alloc, file, wrong.kind, wrong.at)?;
         return Err(Stop::Fault(fault));
     }
     let room = state.stack.room(nesting);
