@@ -1,3 +1,4 @@
 pub mod Lexemes
 pub mod Read
 pub mod Grammar
+pub mod Partial
