@@ -106,6 +106,7 @@ module _ (file : List ℕ) (nesting : ℕ) where
 
     mutual
       unfolding run
+
       reads : {n : ℕ} {ls : List Lexeme} {d : PlainDatum} {x : Extent} → IsDatum file n ls d x → (fs : List Partial) (found : List PlainDatum) (rest : List Lexeme)
           → room_in nesting fs ≡ n → Takes fs → run file nesting (state fs found) (ls ++ rest) g ≡ behind (deliver file fs found d x) rest
       reads (constant c x) fs found rest h fits = refl

@@ -1,3 +1,4 @@
 pub mod Turns
 pub mod Complete
 pub mod Sound
+pub mod Laws

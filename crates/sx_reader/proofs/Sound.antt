@@ -131,7 +131,7 @@ module _ (file : List ℕ) (nesting : ℕ) where
   pub data Held : ℕ → List Lexeme → List Partial → List PlainDatum → Type 0 where
     at_top : {ls : List Lexeme} {ds : List PlainDatum} {n : ℕ} → n ≡ nesting → AreItems file n ls ds → Held n ls [] ds
     within : {n : ℕ} {ls ms : List Lexeme} {p : Parts} {fs : List Partial} {found : List PlainDatum} (x : Extent) → Held (room_round p n) ls fs found → Fits p x fs → Inside file n ms p
-      → Held n (ls ++ (lexeme (opening_of p) x ∷ ms)) (partial x n p ∷ fs) found
+        → Held n (ls ++ (lexeme (opening_of p) x ∷ ms)) (partial x n p ∷ fs) found
 
   pub room : {n : ℕ} {ls : List Lexeme} {fs : List Partial} {found : List PlainDatum} → Held n ls fs found → room_in nesting fs ≡ n
   room (at_top e items) = sym e
@@ -181,12 +181,12 @@ module _ (file : List ℕ) (nesting : ℕ) where
       let same : state (partial x n (parts.Vector (ds ++ d ∷ [])) ∷ fs) found ≡ s = cc in
       holds_at (sym (append_assoc us (lexeme t.OpenVector x ∷ vs) ms)) same (n, within x h fits (in_vector (items_snoc file items new)))
   delivered {n} {ls} {ms} {found = found} {d = d} {s = s} y (within {ls = us} {ms = vs} {fs = fs} x h fits (in_bytes {ns = ns} items)) new e = tested (byte_of d) refl where
-      tested : (o : Option ℕ) → byte_of d ≡ o → Holds ((us ++ (lexeme t.OpenBytes x ∷ vs)) ++ ms) s
-      tested (Some k) is =
-          let put = rw is at e in
-          let same : state (partial x n (parts.Bytes (ns ++ k ∷ [])) ∷ fs) found ≡ s = cc in
-          holds_at (sym (append_assoc us (lexeme t.OpenBytes x ∷ vs) ms)) same (n, within x h fits (in_bytes (bytes_snoc file items (byte_token file k new is))))
-      tested None is = let put = rw is at e in cc
+    tested : (o : Option ℕ) → byte_of d ≡ o → Holds ((us ++ (lexeme t.OpenBytes x ∷ vs)) ++ ms) s
+    tested (Some k) is =
+        let put = rw is at e in
+        let same : state (partial x n (parts.Bytes (ns ++ k ∷ [])) ∷ fs) found ≡ s = cc in
+        holds_at (sym (append_assoc us (lexeme t.OpenBytes x ∷ vs) ms)) same (n, within x h fits (in_bytes (bytes_snoc file items (byte_token file k new is))))
+    tested None is = let put = rw is at e in cc
   delivered {n} {ls} {ms} {d = d} {s = s} y (within {ls = us} {ms = vs} x h fits (behind_prefix k skips)) new e =
       rw (append_assoc us (lexeme (t.Abbreviation k) x ∷ vs) ms) (delivered (through x y) h (abbreviation k x (next_of file skips new)) e)
   delivered {n} {ls} {ms} {found = found} {d = d} {s = s} y (within {ls = us} {ms = vs} {fs = fs} x h fits (behind_skip skips)) new e =

@@ -2,3 +2,4 @@ pub mod Lexemes
 pub mod Read
 pub mod Grammar
 pub mod Partial
+pub mod Spells

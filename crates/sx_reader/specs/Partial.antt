@@ -33,10 +33,10 @@ module _ (file : List ℕ) where
   pub data Inside : ℕ → List Lexeme → Parts → Type 0 where
     in_list : {n : ℕ} {ls : List Lexeme} {ds : List PlainDatum} (b : Bracket) → AreItems file n ls ds → Inside n ls (parts.List b ds tail.Absent)
     behind_dot : {n : ℕ} {ls ms : List Lexeme} {d : PlainDatum} {ds : List PlainDatum} (b : Bracket) (dot : Extent) → AreItems file n ls (d ∷ ds) → AreItems file n ms []
-      → Inside n (ls ++ (lexeme t.Dot dot ∷ ms)) (parts.List b (d ∷ ds) (tail.Dotted dot))
+        → Inside n (ls ++ (lexeme t.Dot dot ∷ ms)) (parts.List b (d ∷ ds) (tail.Dotted dot))
     behind_tail : {n : ℕ} {ls ms us : List Lexeme} {d e : PlainDatum} {ds : List PlainDatum} {z : Extent} (b : Bracket) (dot : Extent)
-      → AreItems file n ls (d ∷ ds) → IsNext file n ms e z → AreItems file n us []
-      → Inside n (ls ++ (lexeme t.Dot dot ∷ (ms ++ us))) (parts.List b (d ∷ ds) (tail.Given dot e))
+        → AreItems file n ls (d ∷ ds) → IsNext file n ms e z → AreItems file n us []
+        → Inside n (ls ++ (lexeme t.Dot dot ∷ (ms ++ us))) (parts.List b (d ∷ ds) (tail.Given dot e))
     in_vector : {n : ℕ} {ls : List Lexeme} {ds : List PlainDatum} → AreItems file n ls ds → Inside n ls (parts.Vector ds)
     in_bytes : {n : ℕ} {ls : List Lexeme} {ns : List ℕ} → AreBytes file n ls ns → Inside n ls (parts.Bytes ns)
     behind_prefix : {n : ℕ} {ls : List Lexeme} (k : Abbreviation) → AreItems file n ls [] → Inside n ls (parts.Abbreviation k)

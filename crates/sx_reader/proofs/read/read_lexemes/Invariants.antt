@@ -2,7 +2,7 @@ use Rattle.std.proofs.Common.{◌≤◌, ◌-◌, length}
 use Rattle.sx_lexer.specs.Tokens.{next_lexeme}
 use Rattle.sx_reader.specs.Read.{data_of}
 use Rattle.sx_reader.proofs.Turns.{Comes}
-use Rattle.sx_reader.proofs.read.read_deep.Given as goal
+use Rattle.sx_reader.proofs.read.read_lexemes.Given as goal
 
 abbrev pub invariant-loop-state : goal.invariant-loop-state
 invariant-loop-state l = record {
