@@ -3,3 +3,4 @@ pub mod Read
 pub mod Grammar
 pub mod Partial
 pub mod Spells
+pub mod FirstFault
