@@ -3,3 +3,5 @@ pub mod Complete
 pub mod Sound
 pub mod Laws
 pub mod GoesOn
+pub mod Room
+pub mod Stuck
