@@ -1,0 +1,4 @@
+pub mod Extent
+pub mod Partial
+pub mod Form
+pub mod Step

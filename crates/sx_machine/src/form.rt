@@ -1,0 +1,149 @@
+//! The data that complete forms are (R6RS 4.3).
+
+ghost use Rattle.std.specs.Prelude.{◌≡◌, IfOk};
+ghost use Rattle.sx_base.specs.Datum.{atom, nil, symbol, vector, chain};
+ghost use Rattle.sx_base.specs.declared.atom.Atom.TheVariants as atoms;
+ghost use Rattle.sx_machine.specs.Extent.{span_at};
+ghost use Rattle.sx_machine.specs.Form.{joined, keyword_of, abbreviated, byte_of_int, byte_of};
+
+use crate::extent::{Extent, span_at};
+use std::alloc::Global;
+use sx_base::atom::Atom;
+use sx_base::bytes::Bytes;
+use sx_base::datum::{Datum, Node};
+use sx_base::items::Items;
+use sx_base::memory::Memory;
+use sx_base::span::Span;
+use sx_base::symbol::Symbol;
+use sx_lexer::token::Abbreviation;
+
+/// The empty list that ends a list.
+pub fn nil() -> Datum
+    ensures { result ≡ nil }
+{
+    let node = Node::Atom(Atom::Nil);
+    Datum { span: None, node }
+}
+
+/// An atom with the span of its token.
+pub fn constant(file: &Symbol, value: Atom, at: Extent) -> Result<Datum, Memory>
+    ensures { IfOk result (λ d. d ≡ atom (span_at file.now at) value) }
+{
+    let span = span_at(file, at)?;
+    let node = Node::Atom(value);
+    Ok(Datum { span, node })
+}
+
+/// A symbol with the span of its token.
+pub fn named(file: &Symbol, name: Symbol, at: Extent) -> Result<Datum, Memory>
+    ensures { IfOk result (λ d. d ≡ symbol (span_at file.now at) name) }
+{
+    let span = span_at(file, at)?;
+    let node = Node::Symbol(name);
+    Ok(Datum { span, node })
+}
+
+/// A list with a tail, which is joined on where it is a list. Without elements it is the tail, with
+/// this span.
+#[tactic(auto, using(crate::proofs::Joining::joined_list))]
+pub fn joined(
+    alloc: Global,
+    span: Option<Span>,
+    items: Items<Datum>,
+    tail: Datum,
+) -> Result<Datum, Memory>
+    ensures { IfOk result (λ d. d ≡ joined span items tail) }
+{
+    let mut items = items.into_vec();
+    if items.is_empty() {
+        let node = tail.node;
+        return Ok(Datum { span, node });
+    }
+    let Datum { span: other, node } = tail;
+    match node {
+        Node::Atom(Atom::Nil) => {
+            let tail = Box::new(alloc, nil())?;
+            let node = Node::List(items, tail);
+            Ok(Datum { span, node })
+        }
+        Node::List(mut more, tail) => {
+            items.append(&mut more)?;
+            let node = Node::List(items, tail);
+            Ok(Datum { span, node })
+        }
+        node => {
+            let tail = Box::new(alloc, Datum { span: other, node })?;
+            let node = Node::List(items, tail);
+            Ok(Datum { span, node })
+        }
+    }
+}
+
+/// A vector with these elements.
+pub fn vector(file: &Symbol, items: Items<Datum>, at: Extent) -> Result<Datum, Memory>
+    ensures { IfOk result (λ d. d ≡ vector (span_at file.now at) (chain items nil)) }
+{
+    let span = span_at(file, at)?;
+    let node = Node::Vector(items.into_vec());
+    Ok(Datum { span, node })
+}
+
+/// A bytevector with these elements.
+pub fn bytevector(file: &Symbol, bytes: Items<u8>, at: Extent) -> Result<Datum, Memory>
+    ensures { IfOk result (λ d. d ≡ atom (span_at file.now at) (atoms.Bytes bytes)) }
+{
+    let bytes = Bytes::from_vec(bytes.into_vec())?;
+    constant(file, Atom::Bytes(bytes), at)
+}
+
+/// The symbol that an abbreviation stands for (R6RS 4.3.5).
+pub fn keyword_of(abbreviation: Abbreviation) -> &'static str
+    ensures { result.now ≡ keyword_of abbreviation }
+{
+    match abbreviation {
+        Abbreviation::Quote => "quote",
+        Abbreviation::Quasiquote => "quasiquote",
+        Abbreviation::Unquote => "unquote",
+        Abbreviation::UnquoteSplicing => "unquote-splicing",
+        Abbreviation::Syntax => "syntax",
+        Abbreviation::Quasisyntax => "quasisyntax",
+        Abbreviation::Unsyntax => "unsyntax",
+        Abbreviation::UnsyntaxSplicing => "unsyntax-splicing",
+    }
+}
+
+/// The list that an abbreviation with its datum is. The symbol stands at the prefix, the list at the
+/// whole.
+pub fn abbreviated(
+    alloc: Global,
+    file: &Symbol,
+    abbreviation: Abbreviation,
+    prefix: Extent,
+    datum: Datum,
+    all: Extent,
+) -> Result<Datum, Memory>
+    ensures { IfOk result (λ d. d ≡ abbreviated file.now abbreviation prefix datum all) }
+{
+    let keyword = Symbol::new(alloc, keyword_of(abbreviation))?;
+    let mut items = Items::new(alloc);
+    items.push(named(file, keyword, prefix)?)?;
+    items.push(datum)?;
+    let span = span_at(file, all)?;
+    joined(alloc, span, items, nil())
+}
+
+/// The byte that a datum is in a bytevector.
+pub fn byte_of(datum: &Datum) -> Option<u8>
+    ensures { result ≡ byte_of datum.now }
+{
+    match &datum.node {
+        Node::Atom(Atom::Int(number)) => byte_of_int(*number),
+        _ => None,
+    }
+}
+
+fn byte_of_int(number: i128) -> Option<u8>
+    ensures { result ≡ byte_of_int number }
+{
+    u8::try_from(number).ok()
+}

@@ -1,0 +1,130 @@
+-- What the machine has taken can go on to data.
+use Rattle.std.proofs.Common.{◌≡◌, ℕ, zero, suc, ◌+◌, ◌<◌, ◌≤◌, ◌-◌, Bool, true, false, List, [], ◌∷◌, ◌++◌, length, arith, refl, sym, ap, ◌∙◌, subst, append_assoc, Option, Some, None, Result, Ok, Err, pos}
+use Rattle.std.specs.Prelude.{◌==◌, nat_lt}
+use Rattle.sx_base.specs.declared.atom.Atom.TheVariants as a
+use Rattle.sx_base.specs.declared.fault.Fault.{Fault}
+use Rattle.sx_base.specs.Datum.{PlainDatum, atom, vector, chain, nil}
+use Rattle.sx_base.specs.Gives.{◌>>=◌}
+use Rattle.sx_lexer.specs.declared.token.Bracket.{Bracket}
+use Rattle.sx_lexer.specs.declared.token.Bracket.TheVariants as bracket
+use Rattle.sx_lexer.specs.declared.token.Lexeme.{Lexeme}
+use Rattle.sx_lexer.specs.declared.token.Token.{Token}
+use Rattle.sx_lexer.specs.declared.token.Token.TheVariants as t
+use Rattle.sx_machine.specs.declared.extent.Extent.{Extent}
+use Rattle.sx_machine.specs.declared.partial.Tail.TheVariants as tail
+use Rattle.sx_machine.specs.declared.partial.Parts.{Parts}
+use Rattle.sx_machine.specs.declared.partial.Parts.TheVariants as parts
+use Rattle.sx_machine.specs.declared.partial.Partial.{Partial}
+use Rattle.sx_machine.specs.declared.partial.State.{State}
+use Rattle.sx_machine.specs.Extent.{span_at, through}
+use Rattle.sx_machine.specs.Form.{joined, abbreviated}
+use Rattle.sx_machine.specs.Partial.{room_in, misplaced}
+use Rattle.sx_machine.specs.Step.{state, step, step_by, deliver, closed, same_bracket, finish}
+use Rattle.sx_reader.specs.Read.{run}
+use Rattle.sx_reader.specs.Grammar.{lexeme, AreItems}
+use Rattle.sx_reader.specs.Partial.{room_round, Inside, in_list, behind_dot, behind_tail, in_vector, in_bytes, behind_prefix, behind_skip}
+use Rattle.sx_reader.specs.FirstFault.{CanGoOn}
+use Rattle.sx_reader.proofs.Sound.{partial, Fits, Held, at_top, within, Holds, stepped, ran, room}
+
+-- the only place that is needed of a token that might follow
+abbrev nowhere : Extent
+nowhere = record { from = 0; to = 0 }
+
+same-bracket : (b : Bracket) → same_bracket b b ≡ true
+same-bracket bracket.Round = refl
+same-bracket bracket.Square = refl
+
+module _ (file : List ℕ) (nesting : ℕ) where
+  -- a call that succeeds with a stack that isn't higher
+  pub record Shrinks (r : Result State Fault) (height : ℕ) : Type 0 where
+    pub next : State
+    pub same : r ≡ Ok next
+    pub lower : length next.stack ≤ height
+
+  -- where a form may begin a datum may end
+  pub delivers : {n : ℕ} {ls : List Lexeme} {fs : List Partial} {found : List PlainDatum} → Held file nesting n ls fs found → (x : Extent) → misplaced fs x ≡ None
+      → (d : PlainDatum) (y : Extent) → Shrinks (deliver file fs found d y) (length fs)
+  delivers {found = found} (at_top r items) x fits d y = record { next = state [] (found ++ d ∷ []); same = refl; lower = omega arith }
+  delivers {n} {found = found} (within {fs = fs} z h at_z (in_list {ds = ds} b items)) x fits d y =
+      record { next = state (partial z n (parts.List b (ds ++ d ∷ []) tail.Absent) ∷ fs) found; same = refl; lower = omega arith }
+  delivers {n} {found = found} (within {fs = fs} z h at_z (behind_dot {d = first} {ds = ds} b dot items skips)) x fits d y =
+      record { next = state (partial z n (parts.List b (first ∷ ds) (tail.Given dot d)) ∷ fs) found; same = refl; lower = omega arith }
+  delivers (within z h at_z (behind_tail b dot items next skips)) x fits d y = cc
+  delivers {n} {found = found} (within {fs = fs} z h at_z (in_vector {ds = ds} items)) x fits d y =
+      record { next = state (partial z n (parts.Vector (ds ++ d ∷ [])) ∷ fs) found; same = refl; lower = omega arith }
+  delivers (within z h at_z (in_bytes items)) x fits d y = cc
+  delivers (within {fs = fs} z h at_z (behind_prefix k skips)) x fits d y =
+      let below = delivers h z at_z (abbreviated file k z d (through z y)) (through z y) in
+      record { next = below.next; same = below.same; lower = let l = below.lower in omega arith }
+  delivers {found = found} (within {fs = fs} z h at_z (behind_skip skips)) x fits d y =
+      record { next = state fs found; same = refl; lower = omega arith }
+
+  -- some lexemes lead from this state to data
+  pub record Finishes (s : State) : Type 0 where
+    pub others : List Lexeme
+    pub data_there : List PlainDatum
+    pub same : run file nesting s others None ≡ Ok data_there
+
+  one : (s next : State) (l : Lexeme) → step file nesting s l ≡ Ok next → Finishes next → Finishes s
+  unfolding run
+  one s next l e f = record { others = l ∷ f.others; data_there = f.data_there; same = rw e f.same }
+
+  none : (found : List PlainDatum) → Finishes (state [] found)
+  unfolding run
+  none found = record { others = []; data_there = found; same = refl }
+
+  -- a close
+  abbrev close : Bracket → Lexeme
+  close b = lexeme (t.Close b) nowhere
+
+  -- a datum
+  abbrev any : Lexeme
+  any = lexeme (t.Atom a.Nil) nowhere
+
+  module _ (k : ℕ) (goes_on : (next : State) (seen : List Lexeme) → Holds file nesting seen next → length next.stack ≤ k → Finishes next) where
+    by_one : {seen : List Lexeme} (s : State) (l : Lexeme) → Holds file nesting seen s → Shrinks (step file nesting s l) k → Finishes s
+    by_one {seen} s l h r = one s r.next l r.same (goes_on r.next (seen ++ l ∷ []) (stepped file nesting s r.next l h r.same) r.lower)
+
+    lowered : {r : Result State Fault} (q : Result State Fault) (i : ℕ) → q ≡ r → i ≤ k → Shrinks r i → Shrinks q k
+    lowered q i e le r = record { next = r.next; same = e ∙ r.same; lower = let l = r.lower in omega arith }
+
+    finishes_from : {n : ℕ} {seen : List Lexeme} {fs : List Partial} {found : List PlainDatum} → Held file nesting n seen fs found → length fs ≤ suc k → Finishes (state fs found)
+    finishes_from (at_top {ds = ds} r items) le = none ds
+    finishes_from {n} {found = found} (within {fs = fs} z h at_z (in_list {ds = ds} b items)) le =
+        by_one (state (partial z n (parts.List b ds tail.Absent) ∷ fs) found) (close b) (n, within z h at_z (in_list b items))
+        (lowered _ (length fs) (rw (same-bracket b) refl) (omega arith) (delivers h z at_z (joined (span_at file (through z nowhere)) ds nil) (through z nowhere)))
+    finishes_from {n} {found = found} (within {fs = fs} z h at_z (behind_dot {d = d} {ds = ds} b dot items skips)) le =
+        let s = state (partial z n (parts.List b (d ∷ ds) (tail.Dotted dot)) ∷ fs) found in
+        let s' = state (partial z n (parts.List b (d ∷ ds) (tail.Given dot (atom (span_at file nowhere) a.Nil))) ∷ fs) found in
+        one s s' any refl
+        (by_one s' (close b) (stepped file nesting s s' any (n, within z h at_z (behind_dot b dot items skips)) refl)
+        (lowered _ (length fs) (rw (same-bracket b) refl) (omega arith) (delivers h z at_z (joined (span_at file (through z nowhere)) (d ∷ ds) (atom (span_at file nowhere) a.Nil)) (through z nowhere))))
+    finishes_from {n} {found = found} (within {fs = fs} z h at_z (behind_tail {d = d} {e = e} {ds = ds} b dot items next skips)) le =
+        by_one (state (partial z n (parts.List b (d ∷ ds) (tail.Given dot e)) ∷ fs) found) (close b) (n, within z h at_z (behind_tail b dot items next skips))
+        (lowered _ (length fs) (rw (same-bracket b) refl) (omega arith) (delivers h z at_z (joined (span_at file (through z nowhere)) (d ∷ ds) e) (through z nowhere)))
+    finishes_from {n} {found = found} (within {fs = fs} z h at_z (in_vector {ds = ds} items)) le =
+        by_one (state (partial z n (parts.Vector ds) ∷ fs) found) (close bracket.Round) (n, within z h at_z (in_vector items))
+        (lowered _ (length fs) refl (omega arith) (delivers h z at_z (vector (span_at file (through z nowhere)) (chain ds nil)) (through z nowhere)))
+    finishes_from {n} {found = found} (within {fs = fs} z h at_z (in_bytes {ns = ns} items)) le =
+        by_one (state (partial z n (parts.Bytes ns) ∷ fs) found) (close bracket.Round) (n, within z h at_z (in_bytes items))
+        (lowered _ (length fs) refl (omega arith) (delivers h z at_z (atom (span_at file (through z nowhere)) (a.Bytes ns)) (through z nowhere)))
+    finishes_from {n} {found = found} (within {fs = fs} z h at_z (behind_prefix j skips)) le =
+        by_one (state (partial z n (parts.Abbreviation j) ∷ fs) found) any (n, within z h at_z (behind_prefix j skips))
+        (lowered _ (length fs) refl (omega arith) (delivers h z at_z (abbreviated file j z (atom (span_at file nowhere) a.Nil) (through z nowhere)) (through z nowhere)))
+    finishes_from {n} {found = found} (within {fs = fs} z h at_z (behind_skip skips)) le =
+        by_one (state (partial z n parts.Skipped ∷ fs) found) any (n, within z h at_z (behind_skip skips))
+        (record { next = state fs found; same = refl; lower = omega arith })
+
+  only_top : {n : ℕ} {seen : List Lexeme} {fs : List Partial} {found : List PlainDatum} → Held file nesting n seen fs found → length fs ≤ 0 → Finishes (state fs found)
+  only_top (at_top {ds = ds} r items) le = none ds
+  only_top (within z h at_z inside) le = absurd (omega arith)
+
+  finishes : (k : ℕ) (s : State) (seen : List Lexeme) → Holds file nesting seen s → length s.stack ≤ k → Finishes s
+  finishes zero s seen h le = only_top h.1 le
+  finishes (suc k) s seen h le = finishes_from k (λ next seen' h' le'. finishes k next seen' h' le') h.1 le
+
+  -- lexemes that are taken begin some data
+  pub can_go_on : (seen : List Lexeme) (s : State) → Holds file nesting seen s → CanGoOn file nesting seen
+  can_go_on seen s h =
+      let f = finishes (length s.stack) s seen h (omega arith) in
+      record { others = f.others; data_there = f.data_there; items = (ran file nesting seen f.others s None f.data_there h f.same).1 }

@@ -1,0 +1,119 @@
+-- A token that the machine refuses stands where none such can.
+use Rattle.std.proofs.Common.{◌≡◌, ℕ, zero, suc, ◌+◌, ◌<◌, ◌≤◌, ◌-◌, Bool, true, false, not, List, [], ◌∷◌, ◌++◌, length, arith, refl, sym, ap, ◌∙◌, subst, append_assoc, Option, Some, None, Result, Ok, Err, pos, IsTrue}
+use Rattle.std.specs.Prelude.{◌==◌, nat_lt, ◌||◌, if◌then◌else◌}
+use Rattle.std.proofs.lemmas.Bool.Decides.{nat_tests}
+use Rattle.sx_base.specs.declared.atom.Atom.TheVariants as a
+use Rattle.sx_base.specs.declared.fault.Fault.{Fault}
+use Rattle.sx_base.specs.declared.fault.FaultKind.TheVariants as fault
+use Rattle.sx_base.specs.Datum.{PlainDatum, atom, symbol, vector, chain, nil}
+use Rattle.sx_base.specs.Gives.{◌>>=◌}
+use Rattle.sx_lexer.specs.declared.token.Bracket.{Bracket}
+use Rattle.sx_lexer.specs.declared.token.Bracket.TheVariants as bracket
+use Rattle.sx_lexer.specs.declared.token.Lexeme.{Lexeme}
+use Rattle.sx_lexer.specs.declared.token.Token.{Token}
+use Rattle.sx_lexer.specs.declared.token.Token.TheVariants as t
+use Rattle.sx_machine.specs.declared.extent.Extent.{Extent}
+use Rattle.sx_machine.specs.declared.extent.Misplaced.{Misplaced}
+use Rattle.sx_machine.specs.declared.partial.Tail.TheVariants as tail
+use Rattle.sx_machine.specs.declared.partial.Parts.{Parts}
+use Rattle.sx_machine.specs.declared.partial.Parts.TheVariants as parts
+use Rattle.sx_machine.specs.declared.partial.Partial.{Partial}
+use Rattle.sx_machine.specs.declared.partial.State.{State}
+use Rattle.sx_machine.specs.Extent.{span_at, fault_at, through}
+use Rattle.sx_machine.specs.Form.{joined, abbreviated, byte_of}
+use Rattle.sx_machine.specs.Partial.{room_in, misplaced}
+use Rattle.sx_machine.specs.Step.{state, step, step_by, deliver, closed, same_bracket, nested, opened, opened_bytes, dotted as dots, extent_of, unless}
+use Rattle.sx_reader.specs.Grammar.{lexeme, IsDatum, IsNext, AreItems, AreBytes}
+use Rattle.sx_reader.specs.Partial.{opening_of, room_round, Inside, in_list, behind_dot, behind_tail, in_vector, in_bytes, behind_prefix, behind_skip}
+use Rattle.sx_reader.specs.FirstFault.{CanGoOn, EndsInside, IsFaultAt, is_stray, has_no_dot, begins_datum, is_dot, is_close, close_of_nothing, close_of_another, dot_at_top, dot_in_another, nothing_behind_dot, much_behind_dot, no_byte, too_nested}
+use Rattle.sx_reader.proofs.Sound.{partial, Fits, Held, at_top, within, Holds, room}
+use Rattle.sx_reader.proofs.GoesOn.{Shrinks, delivers, can_go_on}
+use Rattle.sx_reader.proofs.Room.{roomier, held_roomier, fits_roomier}
+
+or_left : (b c : Bool) → IsTrue b → IsTrue (b || c)
+or_left true c h = h
+or_left false c h = absurd (cc)
+
+ok_is_no_fault : {A : Type 0} (r : Result A Fault) (x : A) (f : Fault) → r ≡ Ok x → r ≡ Err f → ⊥
+ok_is_no_fault r x f p q = cc
+
+not_same : (b : Bool) → b ≡ false → not b ≡ true
+not_same b h = rw h refl
+
+is_none : (n : ℕ) → n == 0 ≡ true → n ≡ 0
+is_none n h = grind (arith, nat_tests)
+
+some_is : (n : ℕ) → suc n == 0 ≡ false
+some_is n = grind (arith, nat_tests)
+
+module _ (file : List ℕ) (nesting : ℕ) where
+  abbrev At : List Lexeme → Token → Extent → Fault → Type 0
+  At ls k y f = IsFaultAt file nesting ls k y f
+
+  -- the innermost form
+  abbrev here : {n : ℕ} {ms : List Lexeme} {p : Parts} (ls : List Lexeme) (x : Extent) → Inside file n ms p → EndsInside file (ls ++ (lexeme (opening_of p) x ∷ ms)) p x
+  here {n} {ms} ls x inside = record { before = ls; behind = ms; room = n; same = refl; inside = inside }
+
+  moved : {ls : List Lexeme} {k : Token} {y : Extent} {e f : Fault} → e ≡ f → At ls k y e → At ls k y f
+  moved {ls} {k} {y} e h = subst (λ (z : Fault). At ls k y z) e h
+
+  -- a form may not begin here
+  no_form : {n : ℕ} {ls : List Lexeme} {fs : List Partial} {found : List PlainDatum} → Held file nesting n ls fs found → (k : Token) → IsTrue (begins_datum k)
+      → (y : Extent) (w : Misplaced) → misplaced fs y ≡ Some w → At ls k y (fault_at file w.kind w.at)
+  no_form (at_top r items) k begins y w e = cc
+  no_form (within x h fits (in_list b items)) k begins y w e = cc
+  no_form (within x h fits (behind_dot b dot items skips)) k begins y w e = cc
+  no_form (within {ls = ls} x h fits (behind_tail b dot items next skips)) k begins y w e =
+      let same : fault_at file fault.BadDot dot ≡ fault_at file w.kind w.at = cc in
+      moved same (much_behind_dot k y (here ls x (behind_tail b dot items next skips)) (or_left (begins_datum k) (is_dot k) begins))
+  no_form (within x h fits (in_vector items)) k begins y w e = cc
+  no_form (within {ls = ls} x h fits (in_bytes items)) k begins y w e =
+      let same : fault_at file fault.BadNumber y ≡ fault_at file w.kind w.at = cc in
+      moved same (no_byte k y (here ls x (in_bytes items)) begins)
+  no_form (within x h fits (behind_prefix j skips)) k begins y w e = cc
+  no_form (within x h fits (behind_skip skips)) k begins y w e = cc
+
+  -- a form that counts is refused where there is no room
+  no_room : {n : ℕ} {ls : List Lexeme} {found : List PlainDatum} (fs : List Partial) → Held file nesting n ls fs found → (p : Parts) (y : Extent) (f : Fault)
+      → ((k : ℕ) → Inside file k [] p) → ((k : ℕ) → room_round p k ≡ suc k) → Fits p y fs
+      → nested file nesting (state fs found) p y ≡ Err f → At ls (opening_of p) y f
+  no_room {n} {ls} {found} fs h p y f fresh grows fits e = tested (room_in nesting fs == 0) refl where
+    tested : (full : Bool) → room_in nesting fs == 0 ≡ full → At ls (opening_of p) y f
+    tested true is =
+        let refused = rw is at e in
+        let same : fault_at file fault.TooNested y ≡ f = cc in
+        let full : n ≡ 0 = sym (room file nesting h) ∙ is_none (room_in nesting fs) is in
+        let one : suc n ≡ room_round p 0 = ap suc full ∙ sym (grows 0) in
+        let round = subst (λ (k : ℕ). Held file (suc nesting) k ls (roomier fs) found) one (held_roomier file nesting h) in
+        moved same (too_nested (opening_of p) y
+        (can_go_on file (suc nesting) (ls ++ lexeme (opening_of p) y ∷ []) (state (partial y 0 p ∷ roomier fs) found) (0, within y round (fits_roomier p y fs fits) (fresh 0))))
+    tested false is = let opened_so = rw is at e in cc
+
+  refused_by : {A : Type 0} {ls : List Lexeme} {k : Token} {y : Extent} {f : Fault} (w : Option Misplaced) (r : Result A Fault) → unless file w r ≡ Err f
+      → ((v : Misplaced) → w ≡ Some v → At ls k y (fault_at file v.kind v.at)) → (w ≡ None → r ≡ Err f → At ls k y f) → At ls k y f
+  refused_by None r e bad good = good refl e
+  refused_by {f = f} (Some v) r e bad good =
+      let same : fault_at file v.kind v.at ≡ f = cc in
+      moved same (bad v refl)
+
+  -- a datum that is refused
+  no_datum : {n : ℕ} {ls : List Lexeme} {fs : List Partial} {found : List PlainDatum} → Held file nesting n ls fs found → (k : Token) → IsTrue (begins_datum k)
+      → (d : PlainDatum) (y : Extent) (f : Fault) → deliver file fs found d y ≡ Err f → At ls k y f
+  no_datum (at_top r items) k begins d y f e = cc
+  no_datum (within x h fits (in_list b items)) k begins d y f e = cc
+  no_datum (within x h fits (behind_dot b dot items skips)) k begins d y f e = cc
+  no_datum (within {ls = ls} x h fits (behind_tail b dot items next skips)) k begins d y f e =
+      let same : fault_at file fault.BadDot dot ≡ f = cc in
+      moved same (much_behind_dot k y (here ls x (behind_tail b dot items next skips)) (or_left (begins_datum k) (is_dot k) begins))
+  no_datum (within x h fits (in_vector items)) k begins d y f e = cc
+  no_datum (within {ls = ls} {ms = ms} x h fits (in_bytes items)) k begins d y f e = tested (byte_of d) refl where
+      tested : (o : Option ℕ) → byte_of d ≡ o → At (ls ++ (lexeme t.OpenBytes x ∷ ms)) k y f
+      tested (Some m) is = let put = rw is at e in cc
+      tested None is =
+          let refused = rw is at e in
+          let same : fault_at file fault.BadNumber y ≡ f = cc in
+          moved same (no_byte k y (here ls x (in_bytes items)) begins)
+  no_datum (within {fs = fs} {found = found} x h fits (behind_prefix j skips)) k begins d y f e =
+      let below = delivers file nesting h x fits (abbreviated file j x d (through x y)) (through x y) in
+      absurd (ok_is_no_fault _ below.next f below.same e)
+  no_datum (within x h fits (behind_skip skips)) k begins d y f e = cc

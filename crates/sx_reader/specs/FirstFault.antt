@@ -1,0 +1,113 @@
+-- Where and how a source that spells no data is at fault: at the first token with which no data can be spelt.
+use Rattle.std.specs.Prelude.{◌≡◌, ℕ, suc, Bool, true, false, not, List, [], ◌∷◌, ◌++◌, ◌||◌, Option, Some, None, IsTrue}
+use Rattle.sx_base.specs.Datum.{PlainDatum, atom}
+use Rattle.sx_base.specs.declared.fault.Fault.{Fault}
+use Rattle.sx_base.specs.declared.fault.FaultKind.TheVariants as fault
+use Rattle.sx_lexer.specs.declared.token.Bracket.{Bracket}
+use Rattle.sx_lexer.specs.declared.token.Bracket.TheVariants as bracket
+use Rattle.sx_lexer.specs.declared.token.Token.{Token}
+use Rattle.sx_lexer.specs.declared.token.Token.TheVariants as t
+use Rattle.sx_lexer.specs.declared.token.Lexeme.{Lexeme}
+use Rattle.sx_machine.specs.declared.extent.Extent.{Extent}
+use Rattle.sx_machine.specs.declared.partial.Tail.{Tail}
+use Rattle.sx_machine.specs.declared.partial.Tail.TheVariants as tail
+use Rattle.sx_machine.specs.declared.partial.Parts.{Parts}
+use Rattle.sx_machine.specs.declared.partial.Parts.TheVariants as parts
+use Rattle.sx_machine.specs.Extent.{fault_at}
+use Rattle.sx_machine.specs.Step.{same_bracket}
+use Rattle.sx_reader.specs.Grammar.{lexeme, AreItems}
+use Rattle.sx_reader.specs.Lexemes.{Lexed, lexed}
+use Rattle.sx_reader.specs.Partial.{opening_of, Inside}
+
+-- a close of this kind ends no such form; where a dot waits for its datum, the dot is at fault
+abbrev pub is_stray : Bracket → Parts → Bool
+is_stray b (parts.List c ds tail.Absent) = not (same_bracket b c)
+is_stray b (parts.List c ds (tail.Dotted dot)) = false
+is_stray b (parts.List c ds (tail.Given dot e)) = not (same_bracket b c)
+is_stray b (parts.Vector ds) = not (same_bracket b bracket.Round)
+is_stray b (parts.Bytes ns) = not (same_bracket b bracket.Round)
+is_stray b (parts.Abbreviation k) = true
+is_stray b parts.Skipped = true
+
+-- there is nothing before a dot
+abbrev pub has_no_dot : Parts → Bool
+has_no_dot (parts.List b [] tail.Absent) = true
+has_no_dot (parts.List b (d ∷ ds) tail.Absent) = false
+has_no_dot (parts.List b ds (tail.Dotted dot)) = false
+has_no_dot (parts.List b ds (tail.Given dot e)) = false
+has_no_dot (parts.Vector ds) = true
+has_no_dot (parts.Bytes ns) = true
+has_no_dot (parts.Abbreviation k) = true
+has_no_dot parts.Skipped = true
+
+-- a datum begins with such a token
+abbrev pub begins_datum : Token → Bool
+begins_datum (t.Open b) = true
+begins_datum (t.Close b) = false
+begins_datum t.OpenVector = true
+begins_datum t.OpenBytes = true
+begins_datum (t.Abbreviation k) = true
+begins_datum t.SkipDatum = false
+begins_datum t.Dot = false
+begins_datum (t.Atom c) = true
+begins_datum (t.Symbol x) = true
+
+abbrev pub is_dot : Token → Bool
+is_dot (t.Open b) = false
+is_dot (t.Close b) = false
+is_dot t.OpenVector = false
+is_dot t.OpenBytes = false
+is_dot (t.Abbreviation k) = false
+is_dot t.SkipDatum = false
+is_dot t.Dot = true
+is_dot (t.Atom c) = false
+is_dot (t.Symbol x) = false
+
+abbrev pub is_close : Token → Bool
+is_close (t.Open b) = false
+is_close (t.Close b) = true
+is_close t.OpenVector = false
+is_close t.OpenBytes = false
+is_close (t.Abbreviation k) = false
+is_close t.SkipDatum = false
+is_close t.Dot = false
+is_close (t.Atom c) = false
+is_close (t.Symbol x) = false
+
+module _ (file : List ℕ) where
+  -- data can be spelt that begin with these lexemes
+  pub record CanGoOn (nesting : ℕ) (ls : List Lexeme) : Type 0 where
+    pub others : List Lexeme
+    pub data_there : List PlainDatum
+    pub items : AreItems file nesting (ls ++ others) data_there
+
+  -- the innermost form that is open behind these lexemes was opened here, and has these parts
+  pub record EndsInside (ls : List Lexeme) (p : Parts) (x : Extent) : Type 0 where
+    pub before : List Lexeme
+    pub behind : List Lexeme
+    pub room : ℕ
+    pub same : ls ≡ before ++ (lexeme (opening_of p) x ∷ behind)
+    pub inside : Inside file room behind p
+
+  -- what is wrong with this token behind these lexemes
+  pub data IsFaultAt (nesting : ℕ) (ls : List Lexeme) : Token → Extent → Fault → Type 0 where
+    close_of_nothing : {ds : List PlainDatum} (b : Bracket) (y : Extent) → AreItems file nesting ls ds → IsFaultAt nesting ls (t.Close b) y (fault_at file fault.StrayClose y)
+    close_of_another : {p : Parts} {x : Extent} (b : Bracket) (y : Extent) → EndsInside ls p x → is_stray b p ≡ true → IsFaultAt nesting ls (t.Close b) y (fault_at file fault.StrayClose y)
+    dot_at_top : {ds : List PlainDatum} (y : Extent) → AreItems file nesting ls ds → IsFaultAt nesting ls t.Dot y (fault_at file fault.BadDot y)
+    dot_in_another : {p : Parts} {x : Extent} (y : Extent) → EndsInside ls p x → has_no_dot p ≡ true → IsFaultAt nesting ls t.Dot y (fault_at file fault.BadDot y)
+    nothing_behind_dot : {b : Bracket} {ds : List PlainDatum} {dot x : Extent} (k : Token) (y : Extent) → EndsInside ls (parts.List b ds (tail.Dotted dot)) x
+      → IsTrue (is_close k || is_dot k) → IsFaultAt nesting ls k y (fault_at file fault.BadDot dot)
+    much_behind_dot : {b : Bracket} {ds : List PlainDatum} {e : PlainDatum} {dot x : Extent} (k : Token) (y : Extent) → EndsInside ls (parts.List b ds (tail.Given dot e)) x
+      → IsTrue (begins_datum k || is_dot k) → IsFaultAt nesting ls k y (fault_at file fault.BadDot dot)
+    no_byte : {ns : List ℕ} {x : Extent} (k : Token) (y : Extent) → EndsInside ls (parts.Bytes ns) x → IsTrue (begins_datum k) → IsFaultAt nesting ls k y (fault_at file fault.BadNumber y)
+    too_nested : (k : Token) (y : Extent) → CanGoOn (suc nesting) (ls ++ lexeme k y ∷ []) → IsFaultAt nesting ls k y (fault_at file fault.TooNested y)
+
+  -- these lexemes are no data, and this is their first fault, where what stands behind them is at fault or not
+  pub data IsFirstFault (nesting : ℕ) : List Lexeme → Option Fault → Fault → Type 0 where
+    -- bytes are no token
+    no_token : {ls : List Lexeme} (f : Fault) → CanGoOn nesting ls → IsFirstFault nesting ls (Some f) f
+    -- a token stands where none such can
+    out_of_place : {g : Option Fault} {f : Fault} (ls ms : List Lexeme) (k : Token) (y : Extent) → CanGoOn nesting ls → (CanGoOn nesting (ls ++ lexeme k y ∷ []) → ⊥)
+      → IsFaultAt nesting ls k y f → IsFirstFault nesting (ls ++ (lexeme k y ∷ ms)) g f
+    -- the source ends too early
+    unclosed : {ls : List Lexeme} {p : Parts} {x : Extent} → CanGoOn nesting ls → EndsInside ls p x → IsFirstFault nesting ls None (fault_at file fault.Unclosed x)

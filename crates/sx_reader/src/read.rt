@@ -1,0 +1,66 @@
+//! Reading all data of a source.
+
+ghost use Rattle.std.specs.Prelude.{◌≡◌, ◌≤◌, ◌<◌, ◌^◌, length, List, Ok, IfOk};
+ghost use Rattle.sx_base.specs.Datum.{PlainDatum};
+ghost use Rattle.sx_base.specs.Gives.{Gives};
+ghost use Rattle.sx_reader.specs.Read.{data_of};
+ghost use Rattle.sx_reader.specs.Spells.{Spells};
+
+use std::alloc::Global;
+use sx_base::datum::Datum;
+use sx_base::fault::Stop;
+use sx_base::symbol::Symbol;
+use sx_lexer::tokens::{next_lexeme, start_of};
+use sx_machine::partial::State;
+use sx_machine::step::{finish, step};
+
+/// How many forms may be nested in a program or library.
+pub const NESTING: u32 = 500;
+
+/// The data of a program or library, in order, as `read_deep` reads them at a nesting of 500.
+pub fn read_all(alloc: Global, file: &Symbol, bytes: &[u8]) -> Result<Vec<Datum>, Stop>
+    requires { length bytes.now < 2 ^ 32 }
+    ensures gives { Gives (λ v. v.items) result (data_of file.now bytes.now 500) }
+    ensures spelled { IfOk result (λ v. Spells file.now bytes.now 500 v.items) }
+    ensures complete { (ds : List PlainDatum) → Spells file.now bytes.now 500 ds → Gives (λ v. v.items) result (Ok ds) }
+{
+    read_deep(alloc, file, bytes, NESTING)
+}
+
+/// The data of a source in which so many forms may be nested, in order. What is read is spelt so, what
+/// is spelt so is read, unless memory runs out, and a source spells one list of data at most.
+pub fn read_deep(
+    alloc: Global,
+    file: &Symbol,
+    bytes: &[u8],
+    nesting: u32,
+) -> Result<Vec<Datum>, Stop>
+    requires deep { nesting ≤ 8192 }
+    requires fits { length bytes.now < 2 ^ 32 }
+    ensures gives { Gives (λ v. v.items) result (data_of file.now bytes.now nesting) }
+    ensures spelled { IfOk result (λ v. Spells file.now bytes.now nesting v.items) }
+    ensures complete { (ds : List PlainDatum) → Spells file.now bytes.now nesting ds → Gives (λ v. v.items) result (Ok ds) }
+    ensures single { (ds es : List PlainDatum) → Spells file.now bytes.now nesting ds → Spells file.now bytes.now nesting es → ds ≡ es }
+{
+    read_lexemes(alloc, file, bytes, nesting)
+}
+
+fn read_lexemes(
+    alloc: Global,
+    file: &Symbol,
+    bytes: &[u8],
+    nesting: u32,
+) -> Result<Vec<Datum>, Stop>
+    requires { length bytes.now < 2 ^ 32 }
+    ensures { Gives (λ v. v.items) result (data_of file.now bytes.now nesting) }
+{
+    let mut state = State::new(alloc);
+    let mut at = start_of(alloc, file, bytes)?;
+    loop {
+        let Some(lexeme) = next_lexeme(alloc, file, bytes, at)? else {
+            return finish(alloc, file, state);
+        };
+        at = lexeme.to;
+        state = step(alloc, file, nesting, state, lexeme)?;
+    }
+}
