@@ -1,0 +1,1 @@
+(import (rnrs base)) (define x 1) (+ x 2)

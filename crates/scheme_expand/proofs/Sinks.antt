@@ -1,0 +1,56 @@
+-- From what sinks and parts promise to what a run promises.
+use Rattle.std.proofs.Common.{◌≡◌, ℕ, ◌<◌, List, [], length, take, Option, Some, None, IfSome, Result, Ok, Err, refl, ap, sym, ◌∙◌}
+use Rattle.std.proofs.lemmas.List.{append-nil}
+use Rattle.sx_outside.specs.declared.sink.PutFailed.{PutFailed}
+use Rattle.sx_outside.specs.Contents.{Paths}
+use Rattle.sx_outside.specs.Causes.{Rose}
+use Rattle.sx_outside.specs.Sink.{Gains}
+use Rattle.scheme_expand.specs.declared.status.Status.{Status}
+use Rattle.scheme_expand.specs.declared.status.Status.TheVariants as status
+use Rattle.scheme_expand.specs.Words.{program_of, usage_line}
+use Rattle.scheme_expand.specs.Whole.{Outcome, usage, done, fault, whole, of_path, of_program}
+use Rattle.scheme_expand.specs.Headline.{Sunk, Broke, Says, Finishes, written, broken, Complains, said, no_line, Headline, wrote_text, wrote_fault, wrong_words, read_fault, no_memory, Complete, status_of}
+
+pub gains_nothing : (b : Option (List ℕ)) → Gains b b []
+gains_nothing None = tt
+gains_nothing (Some b) = ap Some (sym (append-nil b))
+
+pub broke : (s : Sunk) (piece : List ℕ) (taken : ℕ) → taken < length piece → Gains s.before s.after (take taken piece) → Rose s.faults_before s.faults_after → Broke s piece
+broke s piece taken short gains rose = record { taken = taken; short = short; part = gains; rose = rose }
+
+-- the path that the words ask for, and what it gives
+pub says : (told : Option Paths) (words : List (List ℕ)) (path : List ℕ) (o : Outcome) → program_of words ≡ Some path
+    → IfSome told (λ files. of_path files path ≡ o) → Says told words o
+says None words path o asked given = tt
+says (Some files) words path o asked given = ap (of_program files) asked ∙ given
+
+usage_said : (told : Option Paths) (words : List (List ℕ)) → program_of words ≡ None → Says told words usage
+usage_said None words h = tt
+usage_said (Some files) words h = ap (of_program files) h
+
+same_status : (told : Option Paths) (words : List (List ℕ)) (o : Outcome) (s : Status) (P Q R M : Type 0) → Says told words o → s ≡ status_of o
+    → IfSome told (λ files. ¬ P → ¬ Q → ¬ R → ¬ M → s ≡ status_of (whole files words))
+same_status None words o s P Q R M given e = tt
+same_status (Some files) words o s P Q R M given e = λ p q r m. e ∙ ap status_of (sym given)
+
+excused : (told : Option Paths) (words : List (List ℕ)) (s : Status) (P Q R M : Type 0) → (¬ P → ¬ Q → ¬ R → ¬ M → ⊥)
+    → IfSome told (λ files. ¬ P → ¬ Q → ¬ R → ¬ M → s ≡ status_of (whole files words))
+excused None words s P Q R M h = tt
+excused (Some files) words s P Q R M h = λ p q r m. absurd (h p q r m)
+
+module _ (told : Option Paths) (words : List (List ℕ)) (fb fa : ℕ) (out err : Sunk) where
+  by_text : (s : Status) (text : List ℕ) → Says told words (done text) → Finishes out err text s → Complete told words (Rose fb fa) (Rose out.faults_before out.faults_after) (Rose err.faults_before err.faults_after) s
+  by_text s text given (written a b) = same_status told words (done text) s _ _ _ _ given refl
+  by_text s text given (broken a b) = excused told words s _ _ _ _ (λ p q r m. q a.rose)
+
+  by_line : (s want : Status) (line : List ℕ) (o : Outcome) → Says told words o → want ≡ status_of o → Complains out err line want s → Complete told words (Rose fb fa) (Rose out.faults_before out.faults_after) (Rose err.faults_before err.faults_after) s
+  by_line s want line o given e (said a b) = same_status told words o s _ _ _ _ given e
+  by_line s want line o given e (no_line a b) = excused told words s _ _ _ _ (λ p q r m. r b.rose)
+
+  -- completeness follows from the headline
+  pub complete : (s : Status) → Headline told words fb fa out err s → Complete told words (Rose fb fa) (Rose out.faults_before out.faults_after) (Rose err.faults_before err.faults_after) s
+  complete s (wrote_text text given h) = by_text s text given h
+  complete s (wrote_fault line given h) = by_line s status.Fault line (fault line) given refl h
+  complete s (wrong_words none h) = by_line s status.Usage usage_line usage (usage_said told words none) refl h
+  complete s (read_fault e rose a b) = excused told words s _ _ _ _ (λ p q r m. p rose)
+  complete s (no_memory e a b) = excused told words s _ _ _ _ (λ p q r m. m e)

@@ -1,0 +1,53 @@
+//! `scheme-expand`: an R6RS library and `syntax-case` expander.
+//!
+//! The program takes the path of a top-level program (R6RS 8), expands it, and writes its core text. For
+//! the file `p.sps` that holds `(import (rnrs base)) (define x 1) (+ x 2)` it writes
+//!
+//! ```text
+//! (import (rnrs))
+//! (define %/x/0 1)
+//! (+ %/x/0 2)
+//! ```
+//!
+//! and a program at fault gets the line of its first fault, as `p.sps:1:25: 21 Unbound: x`.
+//!
+//! The promise, on `run`: for every set of files, what is written and answered is what the eager
+//! definition `whole` gives, its core text or its first fault with its place; any other answer is a
+//! usage fault, a read or write fault that was counted in the call, or want of memory.
+//!
+//! This crate stands topmost: `words` reads the words, `prepare` makes all text with no sink at hand,
+//! and `top` writes it. `expander` and `program` are a first expansion, of definitions and calls.
+#![tactic(auto)]
+
+mod expander;
+mod prepare;
+mod program;
+mod status;
+mod top;
+mod words;
+
+use std::alloc::Global;
+use std::process::ExitCode;
+use std::{env, io};
+use sx_outside::{HostFiles, HostSink};
+
+fn arguments(rt: &HostRuntime, alloc: Global) -> io::Result<Vec<String>> {
+    let mut words = Vec::new(alloc);
+    for word in env::args(rt)?.skip(1) {
+        words.push(word)?;
+    }
+    Ok(words)
+}
+
+fn main(rt: HostRuntime) -> io::Result<ExitCode> {
+    let alloc = rt.alloc();
+    let words = arguments(&rt, alloc)?;
+    let mut files = HostFiles::new(alloc, rt.clone()?);
+    let mut out = HostSink::new(rt.stdout());
+    let mut err = HostSink::new(rt.stderr());
+    let status = top::run(alloc, &words, &mut files, &mut out, &mut err);
+    Ok(ExitCode::from(status as u8))
+}
+
+#[cfg(test)]
+mod tests;

@@ -1,0 +1,109 @@
+//! All that is to be written, before anything is.
+
+ghost use Rattle.std.specs.Prelude.{◌≡◌, ◌≢◌, ◌<◌, ◌≤◌, ◌^◌, length, [], IfSome, Err};
+ghost use Rattle.std.specs.String.{string_bytes};
+ghost use Rattle.sx_base.specs.Gives.{Gives};
+ghost use Rattle.sx_outside.specs.Causes.{Rose};
+ghost use Rattle.sx_outside.specs.Files.{file_reading};
+ghost use Rattle.scheme_expand.specs.Whole.{source_text, outcome_of, of_reading, of_path, at_start};
+ghost use Rattle.scheme_expand.specs.Prepared.{Prepares, capped};
+ghost use Rattle.scheme_expand.specs.declared.prepare.Unfinished.TheVariants as unfinished;
+
+use crate::expander::span_or_start;
+use crate::program::program_text;
+use std::alloc::Global;
+use sx_base::fault::{Fault, FaultKind, Stop};
+use sx_base::fault_line::fault_line;
+use sx_base::items::Items;
+use sx_base::memory::Memory;
+use sx_base::symbol::Symbol;
+use sx_outside::{FileAnswer, Files, OutsideError};
+use sx_reader::read::read_all;
+
+// The most bytes of a file.
+const FILE_LIMIT: usize = 4_194_304;
+
+/// Why there is no core text.
+#[derive(Drop)]
+pub enum Unfinished {
+    /// A fault, by its line.
+    Line(String),
+    /// A file couldn't be read.
+    Read,
+    Memory,
+}
+
+impl From<Memory> for Unfinished {
+    ghost from_gives = { λ _ e. e ≡ unfinished.Memory };
+
+    fn from(_error: Memory) -> Unfinished {
+        Unfinished::Memory
+    }
+}
+
+#[tactic(auto, unfolding(crate::specs::Whole::source_text))]
+fn source_text(alloc: Global, path: &Symbol, source: &[u8]) -> Result<String, Stop>
+    requires { length source.now < 2 ^ 32 }
+    ensures { Gives (λ text. string_bytes text) result (source_text path.now source.now) }
+{
+    let data = read_all(alloc, path, source)?;
+    program_text(alloc, path, &data)
+}
+
+// The text of a source, or the line of its fault.
+fn of_source(alloc: Global, path: &Symbol, source: &[u8]) -> Result<String, Unfinished>
+    requires { length source.now < 2 ^ 32 }
+    ensures gives { Prepares result (outcome_of source.now (source_text path.now source.now)) }
+    ensures unread { result ≢ Err Unfinished.Read }
+{
+    match source_text(alloc, path, source) {
+        Ok(text) => Ok(text),
+        Err(Stop::Fault(fault)) => Err(Unfinished::Line(fault_line(alloc, &fault, source)?)),
+        Err(Stop::Memory) => Err(Unfinished::Memory),
+    }
+}
+
+// The line of a fault of a file that was not read.
+fn of_no_source(alloc: Global, path: &Symbol, kind: FaultKind, words: Items<Symbol>) -> Result<String, Unfinished>
+    ensures gives { Prepares result (outcome_of [] (Err (at_start kind path.now words))) }
+    ensures unread { result ≢ Err Unfinished.Read }
+{
+    let span = span_or_start(path, &None)?;
+    let fault = Fault { kind, span, words };
+    Err(Unfinished::Line(fault_line(alloc, &fault, &[])?))
+}
+
+fn of_answer(alloc: Global, path: &Symbol, answer: FileAnswer) -> Result<String, Unfinished>
+    ensures gives { Prepares result (of_reading path.now (capped (file_reading answer))) }
+    ensures unread { result ≢ Err Unfinished.Read }
+{
+    match answer {
+        FileAnswer::Bytes(source) => {
+            if source.len() <= FILE_LIMIT {
+                of_source(alloc, path, &source)
+            } else {
+                of_no_source(alloc, path, FaultKind::TooLong, Items::new(alloc))
+            }
+        }
+        FileAnswer::Longer => of_no_source(alloc, path, FaultKind::TooLong, Items::new(alloc)),
+        FileAnswer::Absent => {
+            let mut words = Items::new(alloc);
+            words.push(path.share()?)?;
+            of_no_source(alloc, path, FaultKind::LibraryNotFound, words)
+        }
+    }
+}
+
+/// The core text of the program at a path, or why there is none.
+#[tactic(auto, unfolding(crate::specs::Whole::of_path), using(crate::proofs::Capped::capped_read))]
+pub fn prepare<F: Files>(alloc: Global, path: &str, files: &mut F) -> Result<String, Unfinished>
+    ensures gives { IfSome (F.told files.old) (λ fs. Prepares result (of_path fs path.now)) }
+    ensures read { result ≡ Err Unfinished.Read → Rose (F.faults files.old) (F.faults files.new) }
+{
+    let name = Symbol::new(alloc, path)?;
+    match files.read(path, FILE_LIMIT) {
+        Ok(answer) => of_answer(alloc, &name, answer),
+        Err(OutsideError::Failed) => Err(Unfinished::Read),
+        Err(OutsideError::Memory) => Err(Unfinished::Memory),
+    }
+}

@@ -1,0 +1,76 @@
+//! The top call.
+
+ghost use Rattle.std.specs.Prelude.{◌≡◌, []};
+ghost use Rattle.sx_outside.specs.Causes.{Rose};
+ghost use Rattle.scheme_expand.specs.Words.{texts};
+ghost use Rattle.scheme_expand.specs.Headline.{Sunk, Wrote, Finishes, Complains, Headline, Complete};
+
+use crate::prepare::{Unfinished, prepare};
+use crate::status::Status;
+use crate::words::read_words;
+use std::alloc::Global;
+use sx_outside::{Files, Sink};
+
+const USAGE: &[u8] = b"usage: scheme-expand [--root DIR[:DIR]...] [--cache DIR] [--report] [--write core|xref] PROGRAM | --make N\n";
+
+// Puts a text on `out`.
+fn finish<O: Sink, E: Sink>(out: &mut O, err: &mut E, text: &[u8]) -> Status
+    ensures { Finishes (record { before = O.told out.old; after = O.told out.new; faults_before = O.faults out.old; faults_after = O.faults out.new })
+        (record { before = E.told err.old; after = E.told err.new; faults_before = E.faults err.old; faults_after = E.faults err.new }) text.now result }
+{
+    match out.put(text) {
+        Ok(()) => Status::Done,
+        Err(_) => Status::WriteFault,
+    }
+}
+
+// Puts a line on `err`, for a status.
+fn complain<O: Sink, E: Sink>(out: &mut O, err: &mut E, line: &[u8], status: Status) -> Status
+    ensures { Complains (record { before = O.told out.old; after = O.told out.new; faults_before = O.faults out.old; faults_after = O.faults out.new })
+        (record { before = E.told err.old; after = E.told err.new; faults_before = E.faults err.old; faults_after = E.faults err.new }) line.now status result }
+{
+    match err.put(line) {
+        Ok(()) => status,
+        Err(_) => Status::WriteFault,
+    }
+}
+
+fn run_words<F: Files, O: Sink, E: Sink>(
+    alloc: Global,
+    words: &[String],
+    files: &mut F,
+    out: &mut O,
+    err: &mut E,
+) -> Status
+    ensures { Headline (F.told files.old) (texts words.now) (F.faults files.old) (F.faults files.new)
+        (record { before = O.told out.old; after = O.told out.new; faults_before = O.faults out.old; faults_after = O.faults out.new })
+        (record { before = E.told err.old; after = E.told err.new; faults_before = E.faults err.old; faults_after = E.faults err.new }) result }
+{
+    let Some(path) = read_words(words) else {
+        return complain(out, err, USAGE, Status::Usage);
+    };
+    match prepare(alloc, path, files) {
+        Ok(text) => finish(out, err, text.as_bytes()),
+        Err(Unfinished::Line(line)) => complain(out, err, line.as_bytes(), Status::Fault),
+        Err(Unfinished::Read) => Status::ReadFault,
+        Err(Unfinished::Memory) => Status::Memory,
+    }
+}
+
+/// All that the program does. Of the words, which are one path, it reads the program there, and writes
+/// its core text on `out`, or the line of its first fault on `err`. All text is made before the first
+/// write: `out` gets at most one put, and `err` at most one behind it.
+pub fn run<F: Files, O: Sink, E: Sink>(
+    alloc: Global,
+    words: &[String],
+    files: &mut F,
+    out: &mut O,
+    err: &mut E,
+) -> Status
+    ensures headline { Headline (F.told files.old) (texts words.now) (F.faults files.old) (F.faults files.new)
+        (record { before = O.told out.old; after = O.told out.new; faults_before = O.faults out.old; faults_after = O.faults out.new })
+        (record { before = E.told err.old; after = E.told err.new; faults_before = E.faults err.old; faults_after = E.faults err.new }) result }
+    ensures complete { Complete (F.told files.old) (texts words.now) (Rose (F.faults files.old) (F.faults files.new)) (Rose (O.faults out.old) (O.faults out.new)) (Rose (E.faults err.old) (E.faults err.new)) result }
+{
+    run_words(alloc, words, files, out, err)
+}
