@@ -3,10 +3,9 @@ use Rattle.std.proofs.Common.{◌≡◌, ℕ, List, [], ◌∷◌, Bool, true, f
 use Rattle.std.specs.Prelude.{find, reverse, string_bytes}
 use Rattle.std.specs.Global.{Global}
 use Rattle.sx_outside.specs.Contents.{Paths, at_path, paths_of}
-use Rattle.sx_outside.specs.Store.{Sets, KeepsOthers}
+use Rattle.sx_outside.specs.Store.{Sets}
 use Rattle.std.specs.Str.{bytes_eq}
 use Rattle.std.specs.Cmp.Lexicographic.{bytes_decides}
-use Rattle.std.specs.Bool.{MatchBool, Decides}
 use Rattle.std.proofs.lemmas.List.{reverse-append}
 use mathlib.Core.List.{reverse_aux}
 

@@ -1,4 +1,4 @@
--- The calls of a version in memory, of which those with listed numbers fail.
+-- A version in memory: what it holds, and its calls, of which those with listed numbers fail.
 use Rattle.std.specs.Prelude.{◌≡◌, ◌↔◌, ℕ, ◌==◌, Bool, IsTrue, if◌then◌else◌, List, Result, Err}
 use Rattle.std.specs.List.{list_any}
 use Rattle.sx_outside.specs.Causes.{raised}

@@ -1,5 +1,5 @@
 -- The adapters over the system, as contracts see them: their counts, and what a sink's writer holds.
-use Rattle.std.specs.Prelude.{◌≡◌, ℕ, ◌≤◌, List, take, Option, Result, Ok, Err}
+use Rattle.std.specs.Prelude.{ℕ, ◌≤◌, List, take, Option, Result, Ok, Err}
 use Rattle.sx_outside.specs.Sink.{Gains}
 use Rattle.sx_outside.specs.declared.sink.PutFailed.{PutFailed}
 

@@ -1,5 +1,5 @@
 -- What a sink gains, and how much of a piece it takes.
-use Rattle.std.specs.Prelude.{◌≡◌, ℕ, ◌+◌, ◌-◌, ◌==◌, min, nat_lt, Bool, if◌then◌else◌, List, [], ◌++◌, length, take, find, reverse, Option, Some, None, option_map, Result, Ok, Err}
+use Rattle.std.specs.Prelude.{◌≡◌, ℕ, ◌-◌, ◌==◌, min, nat_lt, if◌then◌else◌, List, [], ◌++◌, length, take, find, reverse, Option, Some, None, option_map, Result, Ok, Err}
 use Rattle.sx_outside.specs.Causes.{raised}
 use Rattle.sx_outside.specs.declared.sink.PutFailed.{PutFailed}
 

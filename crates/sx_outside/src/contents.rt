@@ -11,7 +11,8 @@ use std::alloc::Global;
 use sx_base::memory::Memory;
 
 fn last_pair<'a>(pairs: &'a [(String, Vec<u8>)], path: &str) -> Option<&'a (String, Vec<u8>)>
-    ensures { option_copied result ≡ find (λ pair. bytes_eq (string_bytes pair.0) path.now) (reverse pairs.now) }
+    ensures { option_copied result ≡
+        find (λ pair. bytes_eq (string_bytes pair.0) path.now) (reverse pairs.now) }
 {
     pairs.iter().rev().find(|pair| pair.0.as_str() == path)
 }
@@ -34,7 +35,8 @@ pub(crate) fn read_pairs(
     path: &str,
     max: usize,
 ) -> Result<FileAnswer, Memory>
-    ensures { IfOk result (λ answer. file_reading answer ≡ read_of (at_path (paths_of pairs.now) path.now) max) }
+    ensures { IfOk result
+        (λ answer. file_reading answer ≡ read_of (at_path (paths_of pairs.now) path.now) max) }
 {
     let Some(held) = bytes_at(pairs, path) else {
         return Ok(FileAnswer::Absent);

@@ -15,13 +15,15 @@ use std::marker::Model;
 /// What a read answers.
 #[derive(Drop)]
 pub enum FileAnswer {
+    /// All the bytes at the path.
     Bytes(Vec<u8>),
-    /// The file has more bytes than were asked for.
+    /// There are more bytes at the path than were asked for.
     Longer,
+    /// There is nothing at the path.
     Absent,
 }
 
-/// A finite map from paths to bytes.
+/// A finite map from paths to bytes, as the texts of libraries and programs stand in (R6RS 7.1, 8.1).
 pub trait Files {
     /// The bytes at each path, where they are told.
     ghost told: { Self → Option Paths };
@@ -29,13 +31,15 @@ pub trait Files {
     /// How many calls have failed.
     ghost faults: { Self → ℕ };
 
-    /// The bytes at a path, if they are at most `max`.
+    /// The bytes at a path, if they are at most `max`. It answers `Failed` only where the count rose,
+    /// and after an error as after an answer the files are as they were.
     fn read(&mut self, path: &str, max: usize) -> Result<FileAnswer, OutsideError>
         ensures same { told self.new ≡ told self.old }
         ensures answer { IfSome (told self.old)
             (λ files. IfOk result (λ answer. file_reading answer ≡ read_of (at_path files path.now) max)) }
         ensures later { faults self.old ≤ faults self.new }
-        ensures failed { result ≡ Err OutsideError.Failed → Rose (faults self.old) (faults self.new) };
+        ensures failed { result ≡ Err OutsideError.Failed →
+            Rose (faults self.old) (faults self.new) };
 }
 
 /// Files in memory, of which the reads with listed numbers fail.
@@ -56,7 +60,8 @@ impl Model for MemFiles {
 }
 
 impl MemFiles {
-    /// Of two pairs with one path the last counts. Reads are numbered from 0.
+    /// Files of these paths and bytes; of two pairs with one path the last counts. Reads are numbered
+    /// from 0, and `fails` lists those that fail. It takes no memory.
     pub fn new(alloc: Global, files: Vec<(String, Vec<u8>)>, fails: Vec<u64>) -> MemFiles
         ensures { result ≡ record { contents = paths_of files.items; calls = uncalled fails.items } }
     {
@@ -75,9 +80,11 @@ impl Files for MemFiles {
 
     fn read(&mut self, path: &str, max: usize) -> Result<FileAnswer, OutsideError>
         ensures same { Some self.new.contents ≡ Some self.old.contents }
-        ensures answer { IfOk result (λ answer. file_reading answer ≡ read_of (at_path self.old.contents path.now) max) }
+        ensures answer { IfOk result
+            (λ answer. file_reading answer ≡ read_of (at_path self.old.contents path.now) max) }
         ensures later { self.old.calls.faults ≤ self.new.calls.faults }
-        ensures failed { result ≡ Err OutsideError.Failed → Rose self.old.calls.faults self.new.calls.faults }
+        ensures failed { result ≡ Err OutsideError.Failed →
+            Rose self.old.calls.faults self.new.calls.faults }
 
         // Exactly the listed calls fail.
         ensures calls { Counts self.old.calls result self.new.calls }

@@ -20,7 +20,8 @@ use std::path::Path;
 use std::rt::Files as System;
 use std::{fs, io};
 
-/// Files of the system.
+/// Files of the system. Only a file that isn't there is `Absent`: a directory, and every other refusal
+/// of the system, is a failure.
 #[derive(Drop)]
 pub struct HostFiles<R> {
     alloc: Global,
@@ -50,7 +51,8 @@ impl<R: System> HostFiles<R> {
 
 // The first bytes of a file, at most `limit` of them.
 fn first_bytes<F: Read + Drop>(alloc: Global, file: F, limit: u64) -> io::Result<Vec<u8>>
-    ensures bytes { IfSome (F.remaining file) (λ held. IfOk result (λ first. first.items ≡ take limit held)) }
+    ensures bytes { IfSome (F.remaining file)
+        (λ held. IfOk result (λ first. first.items ≡ take limit held)) }
     ensures small { IfOk result (λ first. length first.items < 2 ^ 63) }
 {
     let mut first = Vec::new(alloc);
@@ -70,7 +72,8 @@ fn answer_of(held: Vec<u8>, max: usize) -> FileAnswer
 
 // What a file gives, of which one byte more than `max` is read at most.
 fn read_file<F: Read + Drop>(alloc: Global, file: F, max: usize) -> io::Result<FileAnswer>
-    ensures { IfSome (F.remaining file) (λ held. IfOk result (λ answer. file_reading answer ≡ read_of (Some held) max)) }
+    ensures { IfSome (F.remaining file)
+        (λ held. IfOk result (λ answer. file_reading answer ≡ read_of (Some held) max)) }
 {
     let limit = (max as u64).saturating_add(1);
     let first = first_bytes(alloc, file, limit)?;
@@ -109,7 +112,7 @@ impl<R: System> Files for HostFiles<R> {
     }
 }
 
-/// A store in the system's files: a place is a path.
+/// A store in the system's files. A place is a path, whose folder is made where it is missing.
 #[derive(Drop)]
 pub struct HostStore<R> {
     alloc: Global,
@@ -169,7 +172,8 @@ impl<R: System> Store for HostStore<R> {
     }
 }
 
-/// A writer of the system, as standard output.
+/// A sink over a writer, as over standard output. A writer that refuses, or that takes nothing of a
+/// piece, is a failure; one that was interrupted is asked again.
 #[derive(Drop)]
 pub struct HostSink<W> {
     writer: W,
@@ -196,7 +200,8 @@ impl<W: Write> HostSink<W> {
 #[tactic(auto, using(crate::proofs::Streams::gains_nothing))]
 fn write_part<W: Write>(writer: &mut W, piece: &[u8]) -> Option<usize>
     ensures within { IfSome result (λ taken. taken ≤ length piece.now) }
-    ensures gains { Gains (W.contents writer.old) (W.contents writer.new) (take (unwrap_or result 0) piece.now) }
+    ensures gains { Gains (W.contents writer.old) (W.contents writer.new)
+        (take (unwrap_or result 0) piece.now) }
 {
     match writer.write(piece) {
         Ok(0) => None,

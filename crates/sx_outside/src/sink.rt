@@ -23,7 +23,8 @@ pub trait Sink {
     /// How many puts have failed.
     ghost faults: { Self → ℕ };
 
-    /// Adds a piece, or a part of it from the front. It takes no memory.
+    /// Adds a piece. Where it fails it added only a part of it from the front, and the count rose. It
+    /// takes no memory.
     fn put(&mut self, bytes: &[u8]) -> Result<(), PutFailed>
         ensures gains { Gains (told self.old) (told self.new) (taken_of result bytes.now) }
         ensures short { IfErr result (λ error. error.taken < length bytes.now) }
@@ -47,14 +48,21 @@ impl Model for MemSink {
 
     ghost Value = { SinkRecord };
 
-    ghost view = { λ m. record { bytes = m.bytes.items; room = m.room; fails = m.fails.items; next = m.next; faults = m.faults } };
+    ghost view = { λ m. record {
+      bytes = m.bytes.items;
+      room = m.room;
+      fails = m.fails.items;
+      next = m.next;
+      faults = m.faults;
+    } };
 
     ghost invariant = { λ m. vec_len m.bytes + m.room ≤ vec_capacity m.bytes };
 }
 
 impl MemSink {
-    /// An empty sink without room. Puts are numbered from 0; each pair of `fails` has the number of one
-    /// that fails and the most that it takes, and of two with one number the last counts.
+    /// An empty sink without room. Puts are numbered from 0. Each pair of `fails` has the number of one
+    /// that fails and how many bytes it takes, or one less than all where that is fewer; of two with one
+    /// number the last counts. A put of nothing takes nothing and succeeds. It takes no memory.
     pub fn new(alloc: Global, fails: Vec<(u64, usize)>) -> MemSink
         ensures { result ≡ empty_sink fails.items }
     {
@@ -67,7 +75,7 @@ impl MemSink {
         }
     }
 
-    /// Makes room for `n` more bytes.
+    /// Makes room for `n` more bytes. A piece is added as far as there is room.
     pub fn reserve(&mut self, n: usize) -> Result<(), Memory>
         ensures ok { OnOk result (self.new ≡ record self.old { room = max self.old.room n }) }
         ensures err { OnErr result (self.new ≡ self.old) }
@@ -77,7 +85,7 @@ impl MemSink {
         Ok(())
     }
 
-    /// What it has.
+    /// The bytes that it has.
     pub fn bytes(&self) -> &[u8]
         ensures { result.now ≡ self.now.bytes }
     {
@@ -107,13 +115,15 @@ impl Sink for MemSink {
     ghost faults = { λ m. m.faults };
 
     fn put(&mut self, bytes: &[u8]) -> Result<(), PutFailed>
-        ensures gains { Gains (Some self.old.bytes) (Some self.new.bytes) (taken_of result bytes.now) }
+        ensures gains { Gains (Some self.old.bytes) (Some self.new.bytes)
+            (taken_of result bytes.now) }
         ensures short { IfErr result (λ error. error.taken < length bytes.now) }
         ensures later { self.old.faults ≤ self.new.faults }
         ensures failed { OnErr result (Rose self.old.faults self.new.faults) }
 
         // Exactly the listed puts fail, and those of pieces that don't fit.
-        ensures answer { result ≡ answer_of (taken_next self.old (length bytes.now)) (length bytes.now) }
+        ensures answer { result ≡ answer_of
+            (taken_next self.old (length bytes.now)) (length bytes.now) }
         ensures after { self.new ≡ after_put self.old bytes.now }
     {
         let number = self.next;

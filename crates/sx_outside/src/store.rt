@@ -18,9 +18,11 @@ use sx_base::memory::Memory;
 /// What a `get` answers.
 #[derive(Drop)]
 pub enum StoreAnswer {
+    /// All the bytes at the place.
     Found(Vec<u8>),
-    /// The place holds more bytes than were asked for.
+    /// There are more bytes at the place than were asked for.
     Longer,
+    /// There is nothing at the place.
     Absent,
 }
 
@@ -36,7 +38,7 @@ impl From<FileAnswer> for StoreAnswer {
     }
 }
 
-/// A finite map from places to bytes.
+/// A finite map from places to bytes, which keeps what was made for a later run.
 pub trait Store {
     /// The bytes at each place, where they are told.
     ghost told: { Self → Option Paths };
@@ -44,19 +46,23 @@ pub trait Store {
     /// How many calls have failed.
     ghost faults: { Self → ℕ };
 
-    /// The bytes at a place, if they are at most `max`.
+    /// The bytes at a place, if they are at most `max`. It answers `Failed` only where the count rose,
+    /// and after an error as after an answer the store is as it was.
     fn get(&mut self, place: &str, max: usize) -> Result<StoreAnswer, OutsideError>
         ensures same { told self.new ≡ told self.old }
         ensures answer { IfSome (told self.old)
             (λ held. IfOk result (λ answer. store_reading answer ≡ read_of (at_path held place.now) max)) }
         ensures later { faults self.old ≤ faults self.new }
-        ensures failed { result ≡ Err OutsideError.Failed → Rose (faults self.old) (faults self.new) };
+        ensures failed { result ≡ Err OutsideError.Failed →
+            Rose (faults self.old) (faults self.new) };
 
-    /// Sets the bytes at a place. After a failure the place may hold anything or nothing.
+    /// Sets the bytes at a place. It answers `Failed` only where the count rose; then the place may
+    /// hold anything or nothing, and every other what it held. After `Memory` all is as it was.
     fn put(&mut self, place: &str, bytes: &[u8]) -> Result<(), OutsideError>
         ensures puts { WhereTold (told self.old) (told self.new) (Puts result place.now bytes.now) }
         ensures later { faults self.old ≤ faults self.new }
-        ensures failed { result ≡ Err OutsideError.Failed → Rose (faults self.old) (faults self.new) };
+        ensures failed { result ≡ Err OutsideError.Failed →
+            Rose (faults self.old) (faults self.new) };
 }
 
 /// A store in memory, of which the calls with listed numbers fail.
@@ -83,7 +89,8 @@ fn add_pair(
     place: &str,
     bytes: &[u8],
 ) -> Result<(), Memory>
-    ensures ok { OnOk result (paths_of pairs.new.items ≡ paths_of pairs.old.items ++ (place.now, bytes.now) ∷ []) }
+    ensures ok { OnOk result (paths_of pairs.new.items ≡ paths_of pairs.old.items
+        ++ (place.now, bytes.now) ∷ []) }
     ensures err { OnErr result (pairs.new.items ≡ pairs.old.items) }
 {
     let place = String::from_str(alloc, place)?;
@@ -93,7 +100,8 @@ fn add_pair(
 }
 
 impl MemStore {
-    /// Of two pairs with one place the last counts. Calls of `get` and `put` are numbered together, from 0.
+    /// A store of these places and bytes; of two pairs with one place the last counts. Calls of `get`
+    /// and `put` are numbered together, from 0, and `fails` lists those that fail. It takes no memory.
     pub fn new(alloc: Global, entries: Vec<(String, Vec<u8>)>, fails: Vec<u64>) -> MemStore
         ensures { result ≡ record { contents = paths_of entries.items; calls = uncalled fails.items } }
     {
@@ -131,9 +139,11 @@ impl Store for MemStore {
 
     fn get(&mut self, place: &str, max: usize) -> Result<StoreAnswer, OutsideError>
         ensures same { Some self.new.contents ≡ Some self.old.contents }
-        ensures answer { IfOk result (λ answer. store_reading answer ≡ read_of (at_path self.old.contents place.now) max) }
+        ensures answer { IfOk result
+            (λ answer. store_reading answer ≡ read_of (at_path self.old.contents place.now) max) }
         ensures later { self.old.calls.faults ≤ self.new.calls.faults }
-        ensures failed { result ≡ Err OutsideError.Failed → Rose self.old.calls.faults self.new.calls.faults }
+        ensures failed { result ≡ Err OutsideError.Failed →
+            Rose self.old.calls.faults self.new.calls.faults }
 
         // Exactly the listed calls fail.
         ensures calls { Counts self.old.calls result self.new.calls }
@@ -144,9 +154,11 @@ impl Store for MemStore {
     }
 
     fn put(&mut self, place: &str, bytes: &[u8]) -> Result<(), OutsideError>
-        ensures puts { WhereTold (Some self.old.contents) (Some self.new.contents) (Puts result place.now bytes.now) }
+        ensures puts { WhereTold (Some self.old.contents) (Some self.new.contents)
+            (Puts result place.now bytes.now) }
         ensures later { self.old.calls.faults ≤ self.new.calls.faults }
-        ensures failed { result ≡ Err OutsideError.Failed → Rose self.old.calls.faults self.new.calls.faults }
+        ensures failed { result ≡ Err OutsideError.Failed →
+            Rose self.old.calls.faults self.new.calls.faults }
 
         // Exactly the listed calls fail, and one that fails sets nothing.
         ensures calls { Counts self.old.calls result self.new.calls }

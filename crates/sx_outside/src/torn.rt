@@ -19,7 +19,7 @@ pub enum Turn {
     Stopped,
 }
 
-/// A store whose puts go to another, until one is torn; from then on every call fails, or goes there again.
+/// A store in memory of which one put is torn, as by a machine that stops half way.
 #[derive(Drop)]
 pub struct TornStore {
     inner: MemStore,
@@ -48,8 +48,10 @@ fn tear(store: &mut MemStore, place: &str, part: &[u8]) -> Result<(), OutsideErr
 }
 
 impl TornStore {
-    /// The first `good` puts go to `inner`. The next writes at most `keep` bytes of its piece and fails.
-    /// With `stop` every call behind it fails and changes nothing.
+    /// The first `good` puts go to `inner`. The next writes the first `keep` bytes of its piece, or all
+    /// where they are fewer, and fails. Behind it every call fails and changes nothing with `stop`, and
+    /// goes to `inner` without. Each failure counts; the torn put is no numbered call of `inner`. It
+    /// takes no memory.
     pub fn new(inner: MemStore, good: u64, keep: usize, stop: bool) -> TornStore
         ensures { result ≡ record { inner = inner; left = Some good; keep = keep; stop = stop } }
     {
@@ -86,9 +88,11 @@ impl Store for TornStore {
 
     fn get(&mut self, place: &str, max: usize) -> Result<StoreAnswer, OutsideError>
         ensures same { Some self.new.inner.contents ≡ Some self.old.inner.contents }
-        ensures answer { IfOk result (λ answer. store_reading answer ≡ read_of (at_path self.old.inner.contents place.now) max) }
+        ensures answer { IfOk result
+            (λ answer. store_reading answer ≡ read_of (at_path self.old.inner.contents place.now) max) }
         ensures later { self.old.inner.calls.faults ≤ self.new.inner.calls.faults }
-        ensures failed { result ≡ Err OutsideError.Failed → Rose self.old.inner.calls.faults self.new.inner.calls.faults }
+        ensures failed { result ≡ Err OutsideError.Failed →
+            Rose self.old.inner.calls.faults self.new.inner.calls.faults }
 
         ensures turn { GetsAt (turn_of self.old) self.old.inner result self.new.inner }
         ensures rest { self.new ≡ record self.old { inner = self.new.inner } }
@@ -100,12 +104,16 @@ impl Store for TornStore {
     }
 
     fn put(&mut self, place: &str, bytes: &[u8]) -> Result<(), OutsideError>
-        ensures puts { WhereTold (Some self.old.inner.contents) (Some self.new.inner.contents) (Puts result place.now bytes.now) }
+        ensures puts { WhereTold (Some self.old.inner.contents) (Some self.new.inner.contents)
+            (Puts result place.now bytes.now) }
         ensures later { self.old.inner.calls.faults ≤ self.new.inner.calls.faults }
-        ensures failed { result ≡ Err OutsideError.Failed → Rose self.old.inner.calls.faults self.new.inner.calls.faults }
+        ensures failed { result ≡ Err OutsideError.Failed →
+            Rose self.old.inner.calls.faults self.new.inner.calls.faults }
 
-        ensures turn { PutsAt (turn_of self.old) place.now (take self.old.keep bytes.now) self.old.inner result self.new.inner }
-        ensures rest { self.new ≡ record self.old { inner = self.new.inner; left = left_after self.old.left } }
+        ensures turn { PutsAt (turn_of self.old) place.now
+            (take self.old.keep bytes.now) self.old.inner result self.new.inner }
+        ensures rest { self.new ≡
+            record self.old { inner = self.new.inner; left = left_after self.old.left } }
     {
         let turn = self.turn();
         self.left = self.left.and_then(|left| left.checked_sub(1));
