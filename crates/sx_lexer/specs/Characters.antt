@@ -6,11 +6,11 @@ use Rattle.sx_base.specs.Gives.{◌>>=◌}
 use Rattle.sx_base.specs.declared.atom.Atom.TheVariants as atom
 use Rattle.sx_base.specs.declared.fault.Fault.{Fault}
 use Rattle.sx_base.specs.declared.fault.FaultKind.TheVariants as kind
-use Rattle.sx_lexer.specs.Escapes.{scalar_of}
+use Rattle.sx_spelling.specs.Escapes.{scalar_of}
 use Rattle.sx_lexer.specs.Faults.{refused}
-use Rattle.sx_lexer.specs.Numbers.{is_digits}
-use Rattle.sx_lexer.specs.Source.{characters}
-use Rattle.sx_lexer.specs.Whitespace.{run_end, is_delimited}
+use Rattle.sx_spelling.specs.Numbers.{is_digits}
+use Rattle.sx_spelling.specs.Source.{characters}
+use Rattle.sx_spelling.specs.Whitespace.{run_end, is_delimited}
 use Rattle.sx_lexer.specs.declared.token.Lexeme.{Lexeme}
 use Rattle.sx_lexer.specs.declared.token.Token.TheVariants as token
 

@@ -6,8 +6,8 @@ use Rattle.sx_base.specs.declared.fault.Fault.{Fault}
 use Rattle.sx_base.specs.declared.fault.FaultKind.TheVariants as kind
 use Rattle.sx_lexer.specs.Faults.{refused}
 use Rattle.sx_lexer.specs.Repeat.{repeat}
-use Rattle.sx_lexer.specs.Source.{characters}
-use Rattle.sx_lexer.specs.Whitespace.{ends_line, is_delimited, whitespace_end}
+use Rattle.sx_spelling.specs.Source.{characters}
+use Rattle.sx_spelling.specs.Whitespace.{ends_line, is_delimited, whitespace_end}
 use Rattle.sx_lexer.specs.declared.gap.Until.{Until}
 use Rattle.sx_lexer.specs.declared.gap.Until.TheVariants as until
 

@@ -1,12 +1,7 @@
-pub mod Source
 pub mod Faults
-pub mod Whitespace
 pub mod Repeat
 pub mod Gap
 pub mod Start
-pub mod Numbers
-pub mod Escapes
 pub mod Strings
 pub mod Characters
-pub mod Identifiers
 pub mod Tokens

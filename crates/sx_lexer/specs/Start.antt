@@ -3,7 +3,7 @@ use Rattle.std.specs.Prelude.{ℕ, Bool, List, [], ◌∷◌, drop, Result, Ok, 
 use Rattle.std.specs.List.{starts_with}
 use Rattle.sx_base.specs.declared.fault.Fault.{Fault}
 use Rattle.sx_lexer.specs.Gap.{rest_of_line}
-use Rattle.sx_lexer.specs.Source.{characters}
+use Rattle.sx_spelling.specs.Source.{characters}
 use Rattle.sx_lexer.specs.declared.gap.Until.TheVariants as until
 
 -- U+FEFF in UTF-8

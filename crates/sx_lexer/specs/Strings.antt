@@ -6,12 +6,12 @@ use Rattle.sx_base.specs.Place.{line_end}
 use Rattle.sx_base.specs.declared.atom.Atom.TheVariants as atom
 use Rattle.sx_base.specs.declared.fault.Fault.{Fault}
 use Rattle.sx_base.specs.declared.fault.FaultKind.TheVariants as kind
-use Rattle.sx_lexer.specs.Escapes.{escape}
+use Rattle.sx_spelling.specs.Escapes.{escape}
 use Rattle.sx_lexer.specs.Faults.{refused}
-use Rattle.sx_lexer.specs.Numbers.{digits_size}
-use Rattle.sx_lexer.specs.Source.{characters, piece}
-use Rattle.sx_lexer.specs.Whitespace.{blanks_end}
-use Rattle.sx_lexer.specs.declared.escapes.Letter.{Letter}
+use Rattle.sx_spelling.specs.Numbers.{digits_size}
+use Rattle.sx_spelling.specs.Source.{characters, piece}
+use Rattle.sx_spelling.specs.Whitespace.{blanks_end}
+use Rattle.sx_spelling.specs.declared.escapes.Letter.{Letter}
 use Rattle.sx_lexer.specs.declared.token.Lexeme.{Lexeme}
 use Rattle.sx_lexer.specs.declared.token.Token.TheVariants as token
 

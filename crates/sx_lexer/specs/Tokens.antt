@@ -7,16 +7,16 @@ use Rattle.sx_base.specs.declared.atom.Atom.TheVariants as atom
 use Rattle.sx_base.specs.declared.fault.Fault.{Fault}
 use Rattle.sx_base.specs.declared.fault.FaultKind.TheVariants as kind
 use Rattle.sx_lexer.specs.Characters.{character_at}
-use Rattle.sx_lexer.specs.Escapes.{escape}
+use Rattle.sx_spelling.specs.Escapes.{escape}
 use Rattle.sx_lexer.specs.Faults.{refused}
 use Rattle.sx_lexer.specs.Gap.{gap_end}
-use Rattle.sx_lexer.specs.Identifiers.{identifier}
-use Rattle.sx_lexer.specs.Numbers.{is_integer, integer, is_spelt, is_number_sign}
+use Rattle.sx_spelling.specs.Identifiers.{identifier}
+use Rattle.sx_spelling.specs.Numbers.{is_integer, integer, spelt, is_number_sign}
 use Rattle.sx_lexer.specs.Repeat.{repeat}
-use Rattle.sx_lexer.specs.Source.{characters}
+use Rattle.sx_spelling.specs.Source.{characters}
 use Rattle.sx_lexer.specs.Strings.{string_at}
-use Rattle.sx_lexer.specs.Whitespace.{is_delimited, run_end, runs_on}
-use Rattle.sx_lexer.specs.declared.escapes.Letter.{Letter}
+use Rattle.sx_spelling.specs.Whitespace.{is_delimited, run_end, runs_on}
+use Rattle.sx_spelling.specs.declared.escapes.Letter.{Letter}
 use Rattle.sx_lexer.specs.declared.token.Abbreviation.TheVariants as abbreviation
 use Rattle.sx_lexer.specs.declared.token.Bracket.TheVariants as bracket
 use Rattle.sx_lexer.specs.declared.token.Lexeme.{Lexeme}
@@ -47,10 +47,14 @@ abbrev pub number : List ℕ → ℕ → ℕ → Option ℤ → Result Token Fau
 number file from to (Some z) = Ok (token.Atom (atom.Int z))
 number file from to None = refused file kind.BadNumber from to
 
+abbrev pub spelt_or_fault : List ℕ → ℕ → ℕ → Option (List ℕ) → Result Token Fault
+spelt_or_fault file from to (Some text) = Ok (token.Atom (atom.Spelt text))
+spelt_or_fault file from to None = refused file kind.BadNumber from to
+
 -- the number that a text spells: an integer, or a ratio or a decimal as it is spelt
 abbrev pub number_of : List ℕ → List ℕ → ℕ → ℕ → Result Token Fault
 number_of file text from to = if is_integer 10 text then number file from to (integer 10 text)
-    else if is_spelt text then Ok (token.Atom (atom.Spelt text)) else refused file kind.BadNumber from to
+    else spelt_or_fault file from to (spelt text)
 
 abbrev pub begins_number : ℕ → Bool
 begins_number b = (nat_le 0x30 b && nat_le b 0x39) || is_number_sign b || b == 0x2E

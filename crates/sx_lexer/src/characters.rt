@@ -5,16 +5,16 @@ ghost use Rattle.std.specs.Cmp.Lexicographic.{pointwise};
 ghost use Rattle.sx_base.specs.Gives.{Gives};
 ghost use Rattle.sx_lexer.specs.Characters.{named, hex_character, long_character, character_to, character_with, character_end, character_at};
 
-use crate::escapes::scalar_of;
 use crate::faults::refuse;
-use crate::numbers::is_digits;
-use crate::source::{Piece, behind, byte_at, front};
 use crate::token::{Lexeme, Token};
-use crate::whitespace::{is_delimited, run_end};
 use std::alloc::Global;
 use sx_base::atom::Atom;
 use sx_base::fault::{FaultKind, Stop};
 use sx_base::symbol::Symbol;
+use sx_spelling::escapes::scalar_of;
+use sx_spelling::numbers::is_digits;
+use sx_spelling::source::{Piece, behind, byte_at, front};
+use sx_spelling::whitespace::{is_delimited, run_end};
 
 /// The character whose `#\` is the first of the bytes.
 pub fn character_at(alloc: Global, file: &Symbol, bytes: &[u8], from: u32) -> Result<Lexeme, Stop>

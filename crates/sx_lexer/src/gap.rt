@@ -3,14 +3,14 @@
 ghost use Rattle.std.specs.Prelude.{◌≡◌, ◌+◌, ◌<◌, ◌≤◌, ◌^◌, ◌∷◌, [], length, IfOk, None};
 ghost use Rattle.sx_base.specs.Gives.{Gives};
 ghost use Rattle.sx_lexer.specs.Gap.{gap_end, atmosphere_end, rest_of_line, ends_there, is_char, opens_comment, closes_comment, comment_from, innermost};
-ghost use Rattle.sx_lexer.specs.Source.{characters};
+ghost use Rattle.sx_spelling.specs.Source.{characters};
 
 use crate::faults::refuse;
-use crate::source::{byte_at, front};
-use crate::whitespace::{ends_line, is_delimited, whitespace_end};
 use std::alloc::Global;
 use sx_base::fault::{FaultKind, Stop};
 use sx_base::symbol::Symbol;
+use sx_spelling::source::{byte_at, front};
+use sx_spelling::whitespace::{ends_line, is_delimited, whitespace_end};
 
 /// What a line goes up to.
 #[derive(Clone, Copy)]

@@ -17,14 +17,11 @@
 #![tactic(auto)]
 
 mod characters;
-mod escapes;
 mod faults;
 mod gap;
-mod identifiers;
-mod numbers;
-mod source;
 pub mod start;
 mod strings;
+#[cfg(test)]
+mod tests;
 pub mod token;
 pub mod tokens;
-mod whitespace;

@@ -4,21 +4,21 @@ ghost use Rattle.std.specs.Prelude.{◌≡◌, ◌+◌, ◌<◌, ◌≤◌, ◌^
 ghost use Rattle.std.specs.String.{string_bytes};
 ghost use Rattle.sx_base.specs.Gives.{Gives};
 ghost use Rattle.sx_base.specs.Place.{line_end};
-ghost use Rattle.sx_lexer.specs.Numbers.{digits_size};
-ghost use Rattle.sx_lexer.specs.Source.{characters, piece};
+ghost use Rattle.sx_spelling.specs.Numbers.{digits_size};
+ghost use Rattle.sx_spelling.specs.Source.{characters, piece};
 ghost use Rattle.sx_lexer.specs.Strings.{char_here, simple_escape, hex_part, line_part, escape_part, line_or_char, string_part, char_text, string_at};
 
-use crate::escapes::escape;
 use crate::faults::refuse;
-use crate::numbers::digits_size;
-use crate::source::{Piece, behind, byte_at, front};
 use crate::token::{Lexeme, Token};
-use crate::whitespace::blanks_end;
 use std::alloc::{AllocError, Global};
 use sx_base::atom::Atom;
 use sx_base::fault::{FaultKind, Stop};
 use sx_base::place::line_end;
 use sx_base::symbol::Symbol;
+use sx_spelling::escapes::escape;
+use sx_spelling::numbers::digits_size;
+use sx_spelling::source::{Piece, behind, byte_at, front};
+use sx_spelling::whitespace::blanks_end;
 
 /// The string whose opening quote is the first of the bytes.
 pub fn string_at(alloc: Global, file: &Symbol, bytes: &[u8], from: u32) -> Result<Lexeme, Stop>

@@ -1,26 +1,24 @@
 //! Tokens, one after another (R6RS 4.2.1).
 
 ghost use Rattle.std.specs.Prelude.{◌≡◌, ◌+◌, ◌-◌, ◌<◌, ◌≤◌, ◌^◌, length, take, drop, IfOk, IfSome, slice_index, true};
-ghost use Rattle.std.specs.List.{list_all};
 ghost use Rattle.sx_base.specs.Gives.{Gives};
-ghost use Rattle.sx_lexer.specs.Source.{characters};
+ghost use Rattle.sx_spelling.specs.Source.{characters};
 ghost use Rattle.sx_lexer.specs.Tokens.{next_lexeme, lexeme_at, hash_at, word_at, marked_at, integer_in, radix, is_number_mark, unquoting, bare_at, bare_to, bare, bare_end, bare_step, char_end, no_identifier, number_of, begins_number, is_dot, is_true, is_false, lexeme};
-ghost use Rattle.sx_lexer.specs.Numbers.{is_ascii};
 
 use crate::characters::character_at;
-use crate::escapes::escape;
 use crate::faults::refuse;
 use crate::gap::gap_end;
-use crate::identifiers::identifier_of;
-use crate::numbers::{integer_of, is_integer, is_spelt};
-use crate::source::{behind, byte_at, front};
 use crate::strings::string_at;
 use crate::token::{Abbreviation, Bracket, Lexeme, Token};
-use crate::whitespace::{is_delimited, run_end, runs_on};
 use std::alloc::Global;
 use sx_base::atom::Atom;
 use sx_base::fault::{FaultKind, Stop};
 use sx_base::symbol::Symbol;
+use sx_spelling::escapes::escape;
+use sx_spelling::identifiers::identifier_of;
+use sx_spelling::numbers::{integer_of, is_integer, spelt};
+use sx_spelling::source::{behind, byte_at, front};
+use sx_spelling::whitespace::{is_delimited, run_end, runs_on};
 
 /// The lexeme behind the gap at `at`, or none where the source ends there.
 pub fn next_lexeme(
@@ -342,7 +340,6 @@ fn begins_number(b: u8) -> bool
     (b'0' <= b && b <= b'9') || b == b'+' || b == b'-' || b == b'.'
 }
 
-#[tactic(auto, using(crate::proofs::SpeltLemmas::spelt_ascii))]
 /// The number that a text spells: an integer, or a ratio or a decimal as it is spelt.
 fn number_of(alloc: Global, file: &Symbol, text: &[u8], from: u32, to: u32) -> Result<Token, Stop>
     ensures { Gives (λ x. x) result (number_of file.now text.now from to) }
@@ -353,20 +350,8 @@ fn number_of(alloc: Global, file: &Symbol, text: &[u8], from: u32, to: u32) -> R
             None => refuse(alloc, file, FaultKind::BadNumber, from, to),
         };
     }
-    if is_spelt(text) {
-        return Ok(Token::Atom(Atom::Spelt(ascii(alloc, text)?)));
+    match spelt(alloc, text)? {
+        Some(text) => Ok(Token::Atom(Atom::Spelt(text))),
+        None => refuse(alloc, file, FaultKind::BadNumber, from, to),
     }
-    refuse(alloc, file, FaultKind::BadNumber, from, to)
-}
-
-/// A text of ASCII alone, as a symbol.
-fn ascii(alloc: Global, text: &[u8]) -> Result<Symbol, Stop>
-    requires { list_all is_ascii text.now ≡ true }
-    ensures { Gives (λ x. x) result (Ok text.now) }
-{
-    let mut out = String::new(alloc);
-    for b in text {
-        out.push(*b as char)?;
-    }
-    Ok(Symbol::from_string(out)?)
 }

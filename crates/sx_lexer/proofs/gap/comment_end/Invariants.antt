@@ -1,6 +1,6 @@
 use Rattle.std.proofs.Common.{◌≡◌, ℕ, ◌+◌, ◌≤◌, ◌<◌, ◌∷◌, [], None, length, get_or, vec_len}
 use Rattle.sx_lexer.specs.Gap.{comment_from}
-use Rattle.sx_lexer.specs.Source.{characters}
+use Rattle.sx_spelling.specs.Source.{characters}
 use Rattle.sx_lexer.proofs.gap.comment_end.Given as goal
 
 abbrev pub invariant-loop-piece : goal.invariant-loop-piece

@@ -1,6 +1,6 @@
 use Rattle.std.proofs.Common.{◌≡◌, ◌+◌, ◌≤◌, length}
 use Rattle.sx_lexer.specs.Gap.{rest_of_line}
-use Rattle.sx_lexer.specs.Source.{characters}
+use Rattle.sx_spelling.specs.Source.{characters}
 use Rattle.sx_lexer.proofs.gap.rest_of_line.Given as goal
 
 abbrev pub invariant-loop-piece : goal.invariant-loop-piece

@@ -1,6 +1,6 @@
 use Rattle.std.proofs.Common.{◌+◌, ℕ, List, Ok, arith, sym, ap, ◌∙◌}
 use Rattle.std.proofs.lemmas.Result.{err_from_is_err_and}
-use Rattle.sx_lexer.specs.Source.{piece}
+use Rattle.sx_spelling.specs.Source.{piece}
 use Rattle.sx_lexer.specs.Strings.{string_lexeme}
 use Rattle.sx_lexer.proofs.StringTurns.{string_turn, string_ends, string_stops}
 use Rattle.sx_lexer.proofs.strings.string_at.Goals as goal

@@ -1,0 +1,3 @@
+pub mod NameTurns
+pub mod Values
+pub mod SpeltLemmas

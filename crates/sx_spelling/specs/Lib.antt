@@ -1,0 +1,5 @@
+pub mod Source
+pub mod Whitespace
+pub mod Numbers
+pub mod Escapes
+pub mod Identifiers
