@@ -107,12 +107,12 @@ module _ (file : List ℕ) (nesting : ℕ) where
       moved same (much_behind_dot k y (here ls x (behind_tail b dot items next skips)) (or_left (begins_datum k) (is_dot k) begins))
   no_datum (within x h fits (in_vector items)) k begins d y f e = cc
   no_datum (within {ls = ls} {ms = ms} x h fits (in_bytes items)) k begins d y f e = tested (byte_of d) refl where
-      tested : (o : Option ℕ) → byte_of d ≡ o → At (ls ++ (lexeme t.OpenBytes x ∷ ms)) k y f
-      tested (Some m) is = let put = rw is at e in cc
-      tested None is =
-          let refused = rw is at e in
-          let same : fault_at file fault.BadNumber y ≡ f = cc in
-          moved same (no_byte k y (here ls x (in_bytes items)) begins)
+    tested : (o : Option ℕ) → byte_of d ≡ o → At (ls ++ (lexeme t.OpenBytes x ∷ ms)) k y f
+    tested (Some m) is = let put = rw is at e in cc
+    tested None is =
+        let refused = rw is at e in
+        let same : fault_at file fault.BadNumber y ≡ f = cc in
+        moved same (no_byte k y (here ls x (in_bytes items)) begins)
   no_datum (within {fs = fs} {found = found} x h fits (behind_prefix j skips)) k begins d y f e =
       let below = delivers file nesting h x fits (abbreviated file j x d (through x y)) (through x y) in
       absurd (ok_is_no_fault _ below.next f below.same e)
@@ -123,14 +123,14 @@ module _ (file : List ℕ) (nesting : ℕ) where
       → Held file nesting n ls fs found → misplaced fs x ≡ None → EndsInside file us p x → is_stray b p ≡ not (same_bracket b c) → (d : PlainDatum) (f : Fault)
       → ((if same_bracket b c then Ok d else Err (fault_at file fault.StrayClose y)) >>= λ e. deliver file fs found e (through x y)) ≡ Err f → At us (t.Close b) y f
   no_end {us = us} {fs = fs} {found = found} b c x y h fits inside stray d f e = tested (same_bracket b c) refl where
-      tested : (o : Bool) → same_bracket b c ≡ o → At us (t.Close b) y f
-      tested true so =
-          let below = delivers file nesting h x fits d (through x y) in
-          absurd (ok_is_no_fault _ below.next f below.same (rw so at e))
-      tested false so =
-          let refused = rw so at e in
-          let same : fault_at file fault.StrayClose y ≡ f = cc in
-          moved same (close_of_another b y inside (stray ∙ not_same (same_bracket b c) so))
+    tested : (o : Bool) → same_bracket b c ≡ o → At us (t.Close b) y f
+    tested true so =
+        let below = delivers file nesting h x fits d (through x y) in
+        absurd (ok_is_no_fault _ below.next f below.same (rw so at e))
+    tested false so =
+        let refused = rw so at e in
+        let same : fault_at file fault.StrayClose y ≡ f = cc in
+        moved same (close_of_another b y inside (stray ∙ not_same (same_bracket b c) so))
 
   no_close : {n : ℕ} {ls : List Lexeme} {fs : List Partial} {found : List PlainDatum} → Held file nesting n ls fs found → (b : Bracket) (y : Extent) (f : Fault)
       → closed file fs found b y ≡ Err f → At ls (t.Close b) y f
