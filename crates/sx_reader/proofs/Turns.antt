@@ -6,7 +6,8 @@ use Rattle.sx_base.specs.declared.fault.Stop.TheVariants as stops
 use Rattle.sx_base.specs.Datum.{PlainDatum}
 use Rattle.sx_base.specs.Gives.{◌>>=◌, Gives, Stops}
 use Rattle.sx_lexer.specs.declared.token.Lexeme.{Lexeme}
-use Rattle.sx_lexer.specs.Tokens.{next_lexeme, start_of}
+use Rattle.sx_lexer.specs.Start.{start_of}
+use Rattle.sx_lexer.specs.Tokens.{next_lexeme}
 use Rattle.sx_machine.specs.declared.partial.State.{State}
 use Rattle.sx_machine.specs.Step.{state, step, finish}
 use Rattle.sx_reader.specs.Lexemes.{lexed, lexed_on, lexed_from, lexed_behind}

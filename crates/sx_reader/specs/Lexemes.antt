@@ -2,7 +2,8 @@
 use Rattle.std.specs.Prelude.{ℕ, zero, suc, List, [], ◌∷◌, length, Option, Some, None, Result, Ok, Err}
 use Rattle.sx_base.specs.declared.fault.Fault.{Fault}
 use Rattle.sx_lexer.specs.declared.token.Lexeme.{Lexeme}
-use Rattle.sx_lexer.specs.Tokens.{next_lexeme, start_of}
+use Rattle.sx_lexer.specs.Start.{start_of}
+use Rattle.sx_lexer.specs.Tokens.{next_lexeme}
 
 -- the lexemes of a source in order, and the fault behind them, where bytes there are no token
 pub record Lexed : Type 0 where

@@ -11,7 +11,8 @@ use std::alloc::Global;
 use sx_base::datum::Datum;
 use sx_base::fault::Stop;
 use sx_base::symbol::Symbol;
-use sx_lexer::tokens::{next_lexeme, start_of};
+use sx_lexer::start::start_of;
+use sx_lexer::tokens::next_lexeme;
 use sx_machine::partial::State;
 use sx_machine::step::{finish, step};
 
