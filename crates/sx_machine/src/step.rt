@@ -138,60 +138,62 @@ fn opened_bytes(
     Ok(state)
 }
 
-/// A datum is complete: it goes into what is open, and may complete an abbreviation there.
+/// A datum is complete: it goes into what is open, and may complete abbreviations there.
 fn deliver(
     alloc: Global,
     file: &Symbol,
     mut state: State,
-    datum: Datum,
-    at: Extent,
+    mut datum: Datum,
+    mut at: Extent,
 ) -> Result<State, Stop>
     ensures { Gives (λ s. s) result (deliver file.now state.stack state.done datum at) }
 {
-    let Some(form) = state.stack.pop() else {
-        state.done.push(datum)?;
-        return Ok(state);
-    };
-    let Partial {
-        opening,
-        room,
-        parts,
-    } = form;
-    match parts {
-        Parts::List(bracket, items, tail) => {
-            let parts = list_with(alloc, file, bracket, items, tail, datum)?;
-            state.stack.push(Partial {
-                opening,
-                room,
-                parts,
-            })?;
-            Ok(state)
+    loop {
+        let Some(form) = state.stack.pop() else {
+            state.done.push(datum)?;
+            return Ok(state);
+        };
+        let Partial {
+            opening,
+            room,
+            parts,
+        } = form;
+        match parts {
+            Parts::List(bracket, items, tail) => {
+                let parts = list_with(alloc, file, bracket, items, tail, datum)?;
+                state.stack.push(Partial {
+                    opening,
+                    room,
+                    parts,
+                })?;
+                return Ok(state);
+            }
+            Parts::Vector(mut items) => {
+                items.push(datum)?;
+                let parts = Parts::Vector(items);
+                state.stack.push(Partial {
+                    opening,
+                    room,
+                    parts,
+                })?;
+                return Ok(state);
+            }
+            Parts::Bytes(bytes) => {
+                let parts = bytes_with(alloc, file, bytes, byte_of(&datum), at)?;
+                state.stack.push(Partial {
+                    opening,
+                    room,
+                    parts,
+                })?;
+                return Ok(state);
+            }
+            Parts::Abbreviation(kind) => {
+                let all = through(opening, at);
+                datum = abbreviated(alloc, file, kind, opening, datum, all)?;
+                at = all;
+            }
+            Parts::Skipped => return Ok(state),
         }
-        Parts::Vector(mut items) => {
-            items.push(datum)?;
-            let parts = Parts::Vector(items);
-            state.stack.push(Partial {
-                opening,
-                room,
-                parts,
-            })?;
-            Ok(state)
-        }
-        Parts::Bytes(bytes) => {
-            let parts = bytes_with(alloc, file, bytes, byte_of(&datum), at)?;
-            state.stack.push(Partial {
-                opening,
-                room,
-                parts,
-            })?;
-            Ok(state)
-        }
-        Parts::Abbreviation(kind) => {
-            let all = through(opening, at);
-            let datum = abbreviated(alloc, file, kind, opening, datum, all)?;
-            deliver(alloc, file, state, datum, all)
-        }
-        Parts::Skipped => Ok(state),
     }
 }
 

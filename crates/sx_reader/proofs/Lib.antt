@@ -5,3 +5,4 @@ pub mod Laws
 pub mod GoesOn
 pub mod Room
 pub mod Stuck
+pub mod First

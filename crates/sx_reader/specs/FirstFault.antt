@@ -1,8 +1,10 @@
 -- Where and how a source that spells no data is at fault: at the first token with which no data can be spelt.
-use Rattle.std.specs.Prelude.{◌≡◌, ℕ, suc, Bool, true, false, not, List, [], ◌∷◌, ◌++◌, ◌||◌, Option, Some, None, IsTrue}
+use Rattle.std.specs.Prelude.{◌≡◌, ℕ, suc, Bool, true, false, not, List, [], ◌∷◌, ◌++◌, ◌||◌, Option, Some, None, Result, Ok, Err, IsTrue}
 use Rattle.sx_base.specs.Datum.{PlainDatum, atom}
 use Rattle.sx_base.specs.declared.fault.Fault.{Fault}
 use Rattle.sx_base.specs.declared.fault.FaultKind.TheVariants as fault
+use Rattle.sx_base.specs.declared.fault.Stop.{Stop}
+use Rattle.sx_base.specs.declared.fault.Stop.TheVariants as stop
 use Rattle.sx_lexer.specs.declared.token.Bracket.{Bracket}
 use Rattle.sx_lexer.specs.declared.token.Bracket.TheVariants as bracket
 use Rattle.sx_lexer.specs.declared.token.Token.{Token}
@@ -96,9 +98,9 @@ module _ (file : List ℕ) where
     dot_at_top : {ds : List PlainDatum} (y : Extent) → AreItems file nesting ls ds → IsFaultAt nesting ls t.Dot y (fault_at file fault.BadDot y)
     dot_in_another : {p : Parts} {x : Extent} (y : Extent) → EndsInside ls p x → has_no_dot p ≡ true → IsFaultAt nesting ls t.Dot y (fault_at file fault.BadDot y)
     nothing_behind_dot : {b : Bracket} {ds : List PlainDatum} {dot x : Extent} (k : Token) (y : Extent) → EndsInside ls (parts.List b ds (tail.Dotted dot)) x
-      → IsTrue (is_close k || is_dot k) → IsFaultAt nesting ls k y (fault_at file fault.BadDot dot)
+        → IsTrue (is_close k || is_dot k) → IsFaultAt nesting ls k y (fault_at file fault.BadDot dot)
     much_behind_dot : {b : Bracket} {ds : List PlainDatum} {e : PlainDatum} {dot x : Extent} (k : Token) (y : Extent) → EndsInside ls (parts.List b ds (tail.Given dot e)) x
-      → IsTrue (begins_datum k || is_dot k) → IsFaultAt nesting ls k y (fault_at file fault.BadDot dot)
+        → IsTrue (begins_datum k || is_dot k) → IsFaultAt nesting ls k y (fault_at file fault.BadDot dot)
     no_byte : {ns : List ℕ} {x : Extent} (k : Token) (y : Extent) → EndsInside ls (parts.Bytes ns) x → IsTrue (begins_datum k) → IsFaultAt nesting ls k y (fault_at file fault.BadNumber y)
     too_nested : (k : Token) (y : Extent) → CanGoOn (suc nesting) (ls ++ lexeme k y ∷ []) → IsFaultAt nesting ls k y (fault_at file fault.TooNested y)
 
@@ -108,6 +110,16 @@ module _ (file : List ℕ) where
     no_token : {ls : List Lexeme} (f : Fault) → CanGoOn nesting ls → IsFirstFault nesting ls (Some f) f
     -- a token stands where none such can
     out_of_place : {g : Option Fault} {f : Fault} (ls ms : List Lexeme) (k : Token) (y : Extent) → CanGoOn nesting ls → (CanGoOn nesting (ls ++ lexeme k y ∷ []) → ⊥)
-      → IsFaultAt nesting ls k y f → IsFirstFault nesting (ls ++ (lexeme k y ∷ ms)) g f
+        → IsFaultAt nesting ls k y f → IsFirstFault nesting (ls ++ (lexeme k y ∷ ms)) g f
     -- the source ends too early
     unclosed : {ls : List Lexeme} {p : Parts} {x : Extent} → CanGoOn nesting ls → EndsInside ls p x → IsFirstFault nesting ls None (fault_at file fault.Unclosed x)
+
+-- the first fault of a source
+abbrev pub IsFaultOf : List ℕ → List ℕ → ℕ → Fault → Type 0
+IsFaultOf file bytes nesting f = IsFirstFault file nesting (lexed file bytes).lexemes (lexed file bytes).fault f
+
+-- of a call that stops with a fault
+abbrev pub OnFault : {X : Type 0} → Result X Stop → (Fault → Type 0) → Type 0
+OnFault (Ok x) P = Unit {0}
+OnFault (Err (stop.Fault f)) P = P f
+OnFault (Err stop.Memory) P = Unit {0}

@@ -12,3 +12,5 @@
 #![tactic(auto)]
 
 pub mod read;
+#[cfg(test)]
+mod tests;

@@ -3,6 +3,7 @@
 ghost use Rattle.std.specs.Prelude.{◌≡◌, ◌≤◌, ◌<◌, ◌^◌, length, List, Ok, IfOk};
 ghost use Rattle.sx_base.specs.Datum.{PlainDatum};
 ghost use Rattle.sx_base.specs.Gives.{Gives};
+ghost use Rattle.sx_reader.specs.FirstFault.{OnFault, IsFaultOf};
 ghost use Rattle.sx_reader.specs.Read.{data_of};
 ghost use Rattle.sx_reader.specs.Spells.{Spells};
 
@@ -24,6 +25,7 @@ pub fn read_all(alloc: Global, file: &Symbol, bytes: &[u8]) -> Result<Vec<Datum>
     ensures gives { Gives (λ v. v.items) result (data_of file.now bytes.now 500) }
     ensures spelled { IfOk result (λ v. Spells file.now bytes.now 500 v.items) }
     ensures complete { (ds : List PlainDatum) → Spells file.now bytes.now 500 ds → Gives (λ v. v.items) result (Ok ds) }
+    ensures refused { OnFault result (IsFaultOf file.now bytes.now 500) }
 {
     read_deep(alloc, file, bytes, NESTING)
 }
@@ -41,6 +43,7 @@ pub fn read_deep(
     ensures gives { Gives (λ v. v.items) result (data_of file.now bytes.now nesting) }
     ensures spelled { IfOk result (λ v. Spells file.now bytes.now nesting v.items) }
     ensures complete { (ds : List PlainDatum) → Spells file.now bytes.now nesting ds → Gives (λ v. v.items) result (Ok ds) }
+    ensures refused { OnFault result (IsFaultOf file.now bytes.now nesting) }
     ensures single { (ds es : List PlainDatum) → Spells file.now bytes.now nesting ds → Spells file.now bytes.now nesting es → ds ≡ es }
 {
     read_lexemes(alloc, file, bytes, nesting)
