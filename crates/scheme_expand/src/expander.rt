@@ -68,7 +68,13 @@ impl Model for Expander {
 }
 
 // A fault at a datum, or at the start of its file where it has no span.
-pub fn fault_at(alloc: Global, kind: FaultKind, file: &Symbol, datum: &Datum, word: Option<&Symbol>) -> Stop
+pub fn fault_at(
+    alloc: Global,
+    kind: FaultKind,
+    file: &Symbol,
+    datum: &Datum,
+    word: Option<&Symbol>,
+) -> Stop
     ensures { StopsWith result (fault_of kind file.now datum.now (words_of (option_map (λ w. w.now) word.entry))) }
 {
     match fault_made(alloc, kind, file, datum, word) {
@@ -77,7 +83,13 @@ pub fn fault_at(alloc: Global, kind: FaultKind, file: &Symbol, datum: &Datum, wo
     }
 }
 
-fn fault_made(alloc: Global, kind: FaultKind, file: &Symbol, datum: &Datum, word: Option<&Symbol>) -> Result<Fault, Memory>
+fn fault_made(
+    alloc: Global,
+    kind: FaultKind,
+    file: &Symbol,
+    datum: &Datum,
+    word: Option<&Symbol>,
+) -> Result<Fault, Memory>
     ensures { IfOk result (λ fault. fault ≡ fault_of kind file.now datum.now (words_of (option_map (λ w. w.now) word.entry))) }
 {
     let span = span_or_start(file, datum.span())?;
@@ -176,7 +188,12 @@ impl Expander {
     fn put_variable(&mut self, symbol: &Symbol, number: u64) -> Result<(), Stop>
         ensures { GivesAfter (λ x. x) result self.new (put (generated_name LibName.Program symbol.now number) self.old) }
     {
-        put_generated_name(&mut self.written, &LibName::Program, symbol.as_str(), number)?;
+        put_generated_name(
+            &mut self.written,
+            &LibName::Program,
+            symbol.as_str(),
+            number,
+        )?;
         Ok(())
     }
 

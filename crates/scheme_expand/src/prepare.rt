@@ -64,7 +64,12 @@ fn of_source(alloc: Global, path: &Symbol, source: &[u8]) -> Result<String, Unfi
 }
 
 // The line of a fault of a file that was not read.
-fn of_no_source(alloc: Global, path: &Symbol, kind: FaultKind, words: Items<Symbol>) -> Result<String, Unfinished>
+fn of_no_source(
+    alloc: Global,
+    path: &Symbol,
+    kind: FaultKind,
+    words: Items<Symbol>,
+) -> Result<String, Unfinished>
     ensures gives { Prepares result (outcome_of [] (Err (at_start kind path.now words))) }
     ensures unread { result ≢ Err Unfinished.Read }
 {

@@ -15,6 +15,7 @@ use sx_base::symbol::Symbol;
 
 // The names of `(rnrs base)` and of `(rnrs)` are the first ones of all, so many.
 const BASE_NAMES: u16 = 191;
+
 const ALL_NAMES: u16 = 282;
 
 fn is_word(word: &str, datum: &Datum) -> bool

@@ -45,7 +45,8 @@ fn run_over(
     })
 }
 
-const USAGE: &str = "usage: scheme-expand [--root DIR[:DIR]...] [--cache DIR] [--report] [--write core|xref] PROGRAM | --make N\n";
+const USAGE: &str =
+    "usage: scheme-expand [--root DIR[:DIR]...] [--cache DIR] [--report] [--write core|xref] PROGRAM | --make N\n";
 
 #[test]
 fn a_program_gives_its_text_or_its_first_fault(rt: HostRuntime) -> Result<(), Fail> {
@@ -64,10 +65,22 @@ fn a_program_gives_its_text_or_its_first_fault(rt: HostRuntime) -> Result<(), Fa
         ("", "", "p.sps:1:1: 10 NotLibrary\n"),
         ("x (import (rnrs))", "", "p.sps:1:1: 10 NotLibrary\n"),
         (" (export)", "", "p.sps:1:2: 10 NotLibrary\n"),
-        ("(import (rnrs base)) (+ x 2)", "", "p.sps:1:25: 21 Unbound: x\n"),
+        (
+            "(import (rnrs base)) (+ x 2)",
+            "",
+            "p.sps:1:25: 21 Unbound: x\n",
+        ),
         ("(import) car", "", "p.sps:1:10: 21 Unbound: car\n"),
-        ("(import (rnrs base)) cons*", "", "p.sps:1:22: 21 Unbound: cons*\n"),
-        ("(import (rnrs) (rnrs base)) cons*", "(import (rnrs))\ncons*\n", ""),
+        (
+            "(import (rnrs base)) cons*",
+            "",
+            "p.sps:1:22: 21 Unbound: cons*\n",
+        ),
+        (
+            "(import (rnrs) (rnrs base)) cons*",
+            "(import (rnrs))\ncons*\n",
+            "",
+        ),
         (
             "(import (rnrs))\n(define x 1) (define x 2)",
             "",
@@ -79,21 +92,60 @@ fn a_program_gives_its_text_or_its_first_fault(rt: HostRuntime) -> Result<(), Fa
             "p.sps:1:30: 22 Duplicate: list\n",
         ),
         ("(import (m))", "", "p.sps:1:9: 90 NotBuilt\n"),
-        ("(import (rnrs)) (define x)", "", "p.sps:1:17: 90 NotBuilt\n"),
-        ("(import (rnrs)) (define (f) 1)", "", "p.sps:1:17: 90 NotBuilt\n"),
-        ("(import (rnrs)) (if #t 1 2)", "", "p.sps:1:17: 90 NotBuilt\n"),
-        ("(import (rnrs)) zork (if #t 1 2)", "", "p.sps:1:22: 90 NotBuilt\n"),
+        (
+            "(import (rnrs)) (define x)",
+            "",
+            "p.sps:1:17: 90 NotBuilt\n",
+        ),
+        (
+            "(import (rnrs)) (define (f) 1)",
+            "",
+            "p.sps:1:17: 90 NotBuilt\n",
+        ),
+        (
+            "(import (rnrs)) (if #t 1 2)",
+            "",
+            "p.sps:1:17: 90 NotBuilt\n",
+        ),
+        (
+            "(import (rnrs)) zork (if #t 1 2)",
+            "",
+            "p.sps:1:22: 90 NotBuilt\n",
+        ),
         ("(import (rnrs)) (list if)", "", "p.sps:1:23: 90 NotBuilt\n"),
-        ("(import (rnrs)) (list (quote a))", "", "p.sps:1:23: 90 NotBuilt\n"),
+        (
+            "(import (rnrs)) (list (quote a))",
+            "",
+            "p.sps:1:23: 90 NotBuilt\n",
+        ),
         ("(import (rnrs)) ()", "", "p.sps:1:17: 90 NotBuilt\n"),
         ("(import (rnrs)) \"s\"", "", "p.sps:1:17: 90 NotBuilt\n"),
-        ("(import (rnrs)) (list . 1)", "", "p.sps:1:17: 90 NotBuilt\n"),
-        ("(import (rnrs)) (define . x) (define y 1) (define y 2)", "", "p.sps:1:17: 90 NotBuilt\n"),
+        (
+            "(import (rnrs)) (list . 1)",
+            "",
+            "p.sps:1:17: 90 NotBuilt\n",
+        ),
+        (
+            "(import (rnrs)) (define . x) (define y 1) (define y 2)",
+            "",
+            "p.sps:1:17: 90 NotBuilt\n",
+        ),
         ("(import (rnrs)) (list 1", "", "p.sps:1:17: 5 Unclosed\n"),
     ];
     for (program, out, err) in rows {
-        let ran = run_over(rt.alloc(), Some(program.as_bytes()), &["p.sps"], &[], &[], &[])?;
-        let status = if err.is_empty() { Status::Done } else { Status::Fault };
+        let ran = run_over(
+            rt.alloc(),
+            Some(program.as_bytes()),
+            &["p.sps"],
+            &[],
+            &[],
+            &[],
+        )?;
+        let status = if err.is_empty() {
+            Status::Done
+        } else {
+            Status::Fault
+        };
         assert_eq!(rt; ran.out.as_str(), out);
         assert_eq!(rt; ran.err.as_str(), err);
         assert_eq!(rt; ran.status, status);
@@ -118,7 +170,10 @@ fn failures_of_the_outside_end_a_run_as_they_should(rt: HostRuntime) -> Result<(
     let alloc = rt.alloc();
     let program = Some(b"(import (rnrs base))".as_slice());
     let absent = run_over(alloc, None, &["p.sps"], &[], &[], &[])?;
-    assert_eq!(rt; absent.err.as_str(), "p.sps:1:1: 12 LibraryNotFound: p.sps\n");
+    assert_eq!(rt;
+        absent.err.as_str(),
+        "p.sps:1:1: 12 LibraryNotFound: p.sps\n"
+    );
     assert_eq!(rt; absent.status, Status::Fault);
     let unread = run_over(alloc, program, &["p.sps"], &[0], &[], &[])?;
     assert_eq!(rt; unread.status, Status::ReadFault);
@@ -139,7 +194,9 @@ fn failures_of_the_outside_end_a_run_as_they_should(rt: HostRuntime) -> Result<(
 }
 
 #[test]
-fn a_file_of_the_greatest_length_is_read_and_a_longer_one_is_not(rt: HostRuntime) -> Result<(), Fail> {
+fn a_file_of_the_greatest_length_is_read_and_a_longer_one_is_not(
+    rt: HostRuntime,
+) -> Result<(), Fail> {
     let alloc = rt.alloc();
     let mut source = Vec::from_slice(alloc, b"(import (rnrs))")?;
     source.resize(4_194_304, b' ')?;

@@ -11,7 +11,8 @@ use crate::words::read_words;
 use std::alloc::Global;
 use sx_outside::{Files, Sink};
 
-const USAGE: &[u8] = b"usage: scheme-expand [--root DIR[:DIR]...] [--cache DIR] [--report] [--write core|xref] PROGRAM | --make N\n";
+const USAGE: &[u8] =
+    b"usage: scheme-expand [--root DIR[:DIR]...] [--cache DIR] [--report] [--write core|xref] PROGRAM | --make N\n";
 
 // Puts a text on `out`.
 fn finish<O: Sink, E: Sink>(out: &mut O, err: &mut E, text: &[u8]) -> Status
