@@ -13,7 +13,8 @@
 //! The promise: the lexeme behind an offset, or the fault there, is exactly the one that
 //! `specs/Tokens` defines, and it ends behind that offset.
 //!
-//! This crate stands on `sx_base`. A reader makes data of its lexemes.
+//! This crate stands on `sx_base`, and on `sx_spelling`, which tells what a text spells once its end
+//! is known. A reader makes data of the lexemes.
 #![tactic(auto)]
 
 mod characters;
