@@ -2,14 +2,18 @@
 use Rattle.std.proofs.Common.{◌≡◌, ℕ, zero, suc, ◌+◌, ◌-◌, ◌<◌, ◌≤◌, List, [], ◌∷◌, length, drop, refl, ap, sym, subst, ◌∙◌, inl, inr, arith, length-drop, drop-drop}
 use Rattle.std.proofs.lemmas.Bool.{cases_lt}
 use Rattle.sx_base.specs.Place.{place_from, place, line_end, char_size}
-use Rattle.sx_places.specs.Lines.{ends_from, starts_from, line_ends, characters, last_of, ends_up_to, begun_between, line, column}
-use Rattle.sx_places.proofs.Scans.{char_size-some, char_size-fits, ends-line, ends-char, starts-char, place-line, place-char, place-done, Above, ends-above, none-up_to, up_to-above, last-above, none-begun, begun-before, begun-here}
+use Rattle.sx_places.specs.Lines.{ends_from, starts_from, line_ends, characters, last_of, ends_up_to, begun_between, line, line_start, column}
+use Rattle.sx_places.proofs.Scans.{char_size-some, char_size-fits, ends-line, ends-char, starts-char, place-line, place-char, place-done, Above, ends-above, none-up_to, up_to-above, up_to-here, last-above, none-begun, begun-before, begun-here}
 use Rattle.sx_places.proofs.Shapes.{Shape, whole, return, shape, line_end-some}
 
 -- what the column begins with: as it is, or anew at a line end
 abbrev base : ℕ → List ℕ → ℕ
 base column [] = column
 base column (e ∷ ends) = 1
+
+base-one : (ends : List ℕ) → base 1 ends ≡ 1
+base-one [] = refl
+base-one (e ∷ ends) = refl
 
 -- the place of the offset, from a place in a line that starts at start, by the line ends and the characters behind it
 abbrev told : ℕ × ℕ → ℕ → ℕ → List ℕ → List ℕ → ℕ × ℕ
@@ -62,7 +66,7 @@ above-behind k p offset bytes here within h over = go (line_end bytes) (char_siz
   where
     go : (n s : ℕ) → Shape bytes n → char_size bytes ≡ s → offset - p < n → Above offset (ends_from k (p + s) (drop s bytes))
     go n s (whole e) f over = ends-above k (p + s) offset (drop s bytes) (omega arith)
-    go n s (return r e one same more) f over =
+    go n s (return r some e one same more) f over =
       let i : 1 ≡ s = sym one ∙ f in
       subst (λ (s : ℕ). Above offset (ends_from k (p + s) (drop s bytes))) i
       (above-over k (p + 1) offset (drop 1 bytes) (rw more (omega arith)) (rw more (omega arith)))
@@ -120,27 +124,101 @@ behind-char kc p start offset bytes pos enough h =
       same = ap (begun_between start offset) (starts-char kc p bytes pos) ∙ begun-before p start offset (starts_from kc (p + char_size bytes) (drop (char_size bytes) bytes)) h;
     }
 
-behind-line : (kc p start offset size : ℕ) (bytes : List ℕ) → Shape bytes size → 0 < size → size ≤ length bytes → length bytes ≤ suc kc → p + size ≤ start
+-- two characters, of which the first is one byte
+behind-two : (kc p r start offset : ℕ) (bytes : List ℕ) → Behind (suc kc) p 1 start offset bytes (suc kc) → Behind kc (p + 1) r start offset (drop 1 bytes) kc
+    → Behind (suc kc) p (suc r) start offset bytes kc
+behind-two kc p r start offset bytes first second =
+    let n : 1 + r ≡ suc r = omega arith in
+    let d : drop r (drop 1 bytes) ≡ drop (suc r) bytes = drop-drop r 1 bytes ∙ ap (λ (i : ℕ). drop i bytes) n in
+    let q : p + 1 + r ≡ p + suc r = omega arith in
+    record {
+      enough = subst (λ (bs : List ℕ). length bs ≤ kc) d second.enough;
+      same = first.same ∙ second.same
+        ∙ ap (λ (i : ℕ). begun_between start offset (starts_from kc i (drop r (drop 1 bytes)))) q
+        ∙ ap (λ (bs : List ℕ). begun_between start offset (starts_from kc (p + suc r) bs)) d;
+    }
+
+behind-line : (kc p start offset size : ℕ) (bytes : List ℕ) → Shape bytes size → size ≤ length bytes → length bytes ≤ suc kc → 0 < size → p + size ≤ start
     → (kd : ℕ) × Behind kc p size start offset bytes kd
-behind-line kc p start offset size bytes (whole e) some fits enough h =
+behind-line kc p start offset size bytes (whole e) fits enough some h =
     (kc, subst (λ (s : ℕ). Behind kc p s start offset bytes kc) e (behind-char kc p start offset bytes (omega arith) enough (omega arith)))
-behind-line zero p start offset size bytes (return r e one same more) some fits enough h = ?
-behind-line (suc kc) p start offset size bytes (return r e one same more) some fits enough h = ?
+behind-line zero p start offset size bytes (return r more e one same line) fits enough some h = absurd (omega arith)
+behind-line (suc kc) p start offset size bytes (return r more e one same line) fits enough some h =
+    let left : length (drop 1 bytes) ≡ length bytes - 1 = length-drop 1 bytes in
+    let first : Behind (suc kc) p 1 start offset bytes (suc kc) =
+      subst (λ (s : ℕ). Behind (suc kc) p s start offset bytes (suc kc)) one (behind-char (suc kc) p start offset bytes (omega arith) enough (omega arith)) in
+    let second : Behind kc (p + 1) r start offset (drop 1 bytes) kc =
+      subst (λ (s : ℕ). Behind kc (p + 1) s start offset (drop 1 bytes) kc) same (behind-char kc (p + 1) start offset (drop 1 bytes) (omega arith) (omega arith) (omega arith)) in
+    (kc, subst (λ (s : ℕ). Behind (suc kc) p s start offset bytes kc) (sym e) (behind-two kc p r start offset bytes first second))
+
+-- a line end counts as a line, and the column begins anew behind it
+told-line : (at : ℕ × ℕ) (start offset e : ℕ) (ends starts behind : List ℕ) → begun_between (last_of e ends) offset starts ≡ begun_between (last_of e ends) offset behind
+    → told (at.0 + 1, 1) e offset ends behind ≡ told at start offset (e ∷ ends) starts
+told-line (l, c) start offset e ends starts behind same =
+    let lines : l + 1 + length ends ≡ l + suc (length ends) = omega arith in
+    let columns : base 1 ends + length (begun_between (last_of e ends) offset behind) ≡ 1 + length (begun_between (last_of e ends) offset starts) =
+      ap (λ (b : ℕ). b + length (begun_between (last_of e ends) offset behind)) (base-one ends)
+      ∙ ap (λ (ss : List ℕ). 1 + length ss) (sym same) in
+    ap (λ (i : ℕ). (i, base 1 ends + length (begun_between (last_of e ends) offset behind))) lines
+    ∙ ap (λ (i : ℕ). (l + suc (length ends), i)) columns
 
 counted-line : (k p start offset ke kc : ℕ) (bytes : List ℕ) (at : ℕ × ℕ) → Counted k offset → Stands (suc k) p start offset (suc ke) (suc kc) bytes
     → 0 < line_end bytes → line_end bytes ≤ offset - p
     → place_from (suc k) bytes (offset - p) at ≡ told at start offset (ends_up_to offset (ends_from (suc ke) p bytes)) (starts_from (suc kc) p bytes)
 counted-line k p start offset ke kc bytes at next st some fits =
-    let size : ℕ = line_end bytes in
-    let pos : 0 < length bytes = omega arith in
-    let left : offset - p - size ≡ offset - (p + size) = omega arith in
-    let ends : List ℕ = ends_up_to offset (ends_from ke (p + size) (drop size bytes)) in
-    let above : Above (p + size - 1) ends = up_to-above offset (p + size - 1) _ (ends-above ke (p + size) (p + size - 1) (drop size bytes) (omega arith)) in
-    let last : p + size - 1 < last_of (p + size) ends = last-above (p + size - 1) (p + size) ends (omega arith) above in
-    let (kd, b) = behind-line kc p (last_of (p + size) ends) offset size bytes (shape bytes some) some (omega arith) (omega arith) (omega arith) in
-    let stands : Stands k (p + size) (p + size) offset ke kd (drop size bytes) = stands-behind k p start (p + size) offset ke (suc kc) kd size bytes st some (omega arith) (omega arith) b.enough in
-    let starts : List ℕ = starts_from kd (p + size) (drop size bytes) in
-    place-line k bytes (offset - p) at some fits
-    ∙ ap (λ (l : ℕ). place_from k (drop size bytes) l (at.0 + 1, 1)) left
-    ∙ next (p + size) (p + size) ke kd (drop size bytes) (at.0 + 1, 1) stands
-    ∙ ?
+    let (kd, b) = behind-line kc p (last_of e ends) offset size bytes (shape bytes some) (omega arith) (omega arith) some from in
+    go kd b
+  where
+    size : ℕ
+    size = line_end bytes
+    e : ℕ
+    e = p + size
+    ends : List ℕ
+    ends = ends_up_to offset (ends_from ke e (drop size bytes))
+    from : e ≤ last_of e ends
+    from =
+      let above : Above (e - 1) ends = up_to-above offset (e - 1) _ (ends-above ke e (e - 1) (drop size bytes) (omega arith)) in
+      let last : e - 1 < last_of e ends = last-above (e - 1) e ends (omega arith) above in
+      omega arith
+    all : ends_up_to offset (ends_from (suc ke) p bytes) ≡ e ∷ ends
+    all = ap (ends_up_to offset) (ends-line ke p bytes (line_end-some bytes some) some) ∙ up_to-here offset e _ (omega arith)
+    go : (kd : ℕ) → Behind kc p size (last_of e ends) offset bytes kd
+      → place_from (suc k) bytes (offset - p) at ≡ told at start offset (ends_up_to offset (ends_from (suc ke) p bytes)) (starts_from (suc kc) p bytes)
+    go kd b =
+      let left : offset - p - size ≡ offset - e = omega arith in
+      let stands : Stands k e e offset ke kd (drop size bytes) = stands-behind k p start e offset ke (suc kc) kd size bytes st some (omega arith) (omega arith) b.enough in
+      place-line k bytes (offset - p) at some fits
+      ∙ ap (λ (l : ℕ). place_from k (drop size bytes) l (at.0 + 1, 1)) left
+      ∙ next e e ke kd (drop size bytes) (at.0 + 1, 1) stands
+      ∙ told-line at start offset e ends (starts_from (suc kc) p bytes) (starts_from kd e (drop size bytes)) b.same
+      ∙ sym (ap (λ (es : List ℕ). told at start offset es (starts_from (suc kc) p bytes)) all)
+
+counted-on : (k p start offset ke kc : ℕ) (bytes : List ℕ) (at : ℕ × ℕ) → Counted k offset → Stands (suc k) p start offset ke kc bytes → p < offset
+    → place_from (suc k) bytes (offset - p) at ≡ told at start offset (ends_up_to offset (ends_from ke p bytes)) (starts_from kc p bytes)
+counted-on k p start offset zero kc bytes at next st here = absurd (omega arith)
+counted-on k p start offset (suc ke) zero bytes at next st here = absurd (omega arith)
+counted-on k p start offset (suc ke) (suc kc) bytes at next st here =
+    elim (cases_lt 0 (line_end bytes))
+    [ inl some ↦ elim (cases_lt (offset - p) (line_end bytes))
+      [ inl over ↦ counted-char k p start offset ke kc bytes at next st here (λ _. over)
+      | inr fits ↦ counted-line k p start offset ke kc bytes at next st some fits
+      ]
+    | inr none ↦ counted-char k p start offset ke kc bytes at next st here (λ some. absurd (omega arith))
+    ]
+
+counted : (k offset : ℕ) → Counted k offset
+counted zero offset p start ke kc bytes at st = reached zero p start offset ke kc bytes at (omega arith)
+counted (suc k) offset p start ke kc bytes at st =
+    elim (cases_lt p offset)
+    [ inl here ↦ counted-on k p start offset ke kc bytes at (counted k offset) st here
+    | inr past ↦ reached (suc k) p start offset ke kc bytes at past
+    ]
+
+pub place_counted : (source : List ℕ) (offset : ℕ) → offset ≤ length source → place source offset ≡ (line source offset, column source offset)
+place_counted source offset h =
+    let whole : offset - 0 ≡ offset = omega arith in
+    let stands : Stands offset 0 0 offset (length source) (length source) source =
+      record { steps = omega arith; within = omega arith; ends = omega arith; starts = omega arith; begun = omega arith } in
+    ap (λ (l : ℕ). place_from offset source l (1, 1)) (sym whole)
+    ∙ counted offset offset 0 0 (length source) (length source) source (1, 1) stands
+    ∙ ap (λ (b : ℕ). (line source offset, b + length (begun_between (line_start source offset) offset (characters source)))) (base-one (ends_up_to offset (line_ends source)))

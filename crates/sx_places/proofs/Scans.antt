@@ -115,6 +115,9 @@ up_to-above offset b (e ∷ ends) (here, more) =
     | inr h ↦ let t : nat_le e offset ≡ true = grind (arith, nat_tests) in rw t (here, up_to-above offset b ends more)
     ]
 
+pub up_to-here : (offset e : ℕ) (ends : List ℕ) → e ≤ offset → ends_up_to offset (e ∷ ends) ≡ e ∷ ends_up_to offset ends
+up_to-here offset e ends h = let t : nat_le e offset ≡ true = grind (arith, nat_tests) in rw t
+
 -- the last number is above the bound too
 pub last-above : (b other : ℕ) (ends : List ℕ) → b < other → Above b ends → b < last_of other ends
 last-above b other [] h above = h

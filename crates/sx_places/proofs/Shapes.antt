@@ -49,7 +49,7 @@ stands (b ∷ rest) (suc i) h = let more : i < length rest = stands rest i h in 
 -- byte and a line end that is one character
 data Front (n b c d e f m : ℕ) : Type 0 where
   one_character : size_by n b c d e ≡ m → Front n b c d e f m
-  after_return : (r : ℕ) → m ≡ suc r → size_by n b c d e ≡ 1 → size_by (n - 1) c d e f ≡ r → line_end_of c d e ≡ r → Front n b c d e f m
+  after_return : (r : ℕ) → 0 < r → m ≡ suc r → size_by n b c d e ≡ 1 → size_by (n - 1) c d e f ≡ r → line_end_of c d e ≡ r → Front n b c d e f m
 
 -- which way a choice went
 chosen : {A : Type 0} (t : Bool) (x y : A) {z : A} → cond t x y ≡ z → ((t ≡ true) × (x ≡ z)) ⊎ ((t ≡ false) × (y ≡ z))
@@ -80,10 +80,10 @@ front n b c d e f m some second third same ends =
         let low : size_by n b c d e ≡ 1 = one n b c d e some (omega arith) in
         elim (chosen (c == 0x0A) _ _ behind)
         [ inl (t, g) ↦ let j : c ≡ 0x0A = is c 0x0A t in
-          after_return 1 (sym g) low (one (n - 1) c d e f (omega (arith, second (omega arith))) (omega arith)) (rw j refl)
+          after_return 1 (omega arith) (sym g) low (one (n - 1) c d e f (omega (arith, second (omega arith))) (omega arith)) (rw j refl)
         | inr (_, rest) ↦ elim (chosen (c == 0xC2 && d == 0x85) _ _ rest)
           [ inl (t, g) ↦ let v = both (c == 0xC2) (d == 0x85) t in let j : c ≡ 0xC2 = is c 0xC2 v.0 in let k : d ≡ 0x85 = is d 0x85 v.1 in
-            after_return 2 (sym g) low (rw (j, k) (next_line (n - 1) e f (omega (arith, third (omega arith))))) (rw (j, k) refl)
+            after_return 2 (omega arith) (sym g) low (rw (j, k) (next_line (n - 1) e f (omega (arith, third (omega arith))))) (rw (j, k) refl)
           | inr (_, g) ↦ one_character (low ∙ g)
           ]
         ]
@@ -91,7 +91,7 @@ front n b c d e f m some second third same ends =
 -- the bytes begin with a line end of m bytes: one character, or a return and a line end that is one character
 pub data Shape (bytes : List ℕ) (m : ℕ) : Type 0 where
   whole : char_size bytes ≡ m → Shape bytes m
-  return : (r : ℕ) → m ≡ suc r → char_size bytes ≡ 1 → char_size (drop 1 bytes) ≡ r → line_end (drop 1 bytes) ≡ r → Shape bytes m
+  return : (r : ℕ) → 0 < r → m ≡ suc r → char_size bytes ≡ 1 → char_size (drop 1 bytes) ≡ r → line_end (drop 1 bytes) ≡ r → Shape bytes m
 
 pub shape : (bytes : List ℕ) → 0 < line_end bytes → Shape bytes (line_end bytes)
 shape [] h = absurd (omega arith)
@@ -101,7 +101,7 @@ shape (b ∷ rest) h =
     let third : 0 < d → 2 < length (b ∷ rest) = λ some. stands (b ∷ rest) 2 some in
     elim (front (length (b ∷ rest)) b c d (slice_index rest 2) (slice_index rest 3) _ (omega arith) second third refl h)
     [ one_character e ↦ whole e
-    | after_return r e f g k ↦ return r e f (let one_less : length (b ∷ rest) - 1 ≡ length rest = omega arith in rw one_less at g) k
+    | after_return r some e f g k ↦ return r some e f (let one_less : length (b ∷ rest) - 1 ≡ length rest = omega arith in rw one_less at g) k
     ]
 
 pub line_end-some : (bytes : List ℕ) → 0 < line_end bytes → 0 < length bytes
