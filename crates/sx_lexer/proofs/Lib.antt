@@ -1,2 +1,4 @@
 pub mod RepeatTurns
 pub mod StringTurns
+pub mod RowLemmas
+pub mod BetweenLemmas

@@ -5,3 +5,5 @@ pub mod Start
 pub mod Strings
 pub mod Characters
 pub mod Tokens
+pub mod Row
+pub mod Between
