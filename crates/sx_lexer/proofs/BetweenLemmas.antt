@@ -111,11 +111,11 @@ some_of : (c : ℕ) (char : Option ℕ) → is_char c char ≡ true → is_none 
 some_of c None h = absurd (cc)
 some_of c (Some d) h = refl
 
-left : (a b : Bool) → (a && b) ≡ true → a ≡ true
+pub left : (a b : Bool) → (a && b) ≡ true → a ≡ true
 left true b h = refl
 left false b h = h
 
-right : (a b : Bool) → (a && b) ≡ true → b ≡ true
+pub right : (a b : Bool) → (a && b) ≡ true → b ≡ true
 right true b h = h
 right false b h = absurd (cc)
 
@@ -178,16 +178,16 @@ module _ (file : List ℕ) where
   block_complete _ _ _ (Block.char depth n p rest some_p c o more) os at len some = char_complete depth n p rest os at some_p c o (block_complete (suc depth) n rest more) len
 
 -- the first character, by its first byte
-some_bytes : (bytes : List ℕ) (p : Decoded) (ps : List Decoded) → characters bytes ≡ p ∷ ps → 0 < length bytes
+pub some_bytes : (bytes : List ℕ) (p : Decoded) (ps : List Decoded) → characters bytes ≡ p ∷ ps → 0 < length bytes
 unfolding characters
 some_bytes [] p ps e = absurd (let f = sym pieces-nil ∙ e in cc)
 some_bytes (b ∷ bs) p ps e = omega arith
 
-first_char : (bytes : List ℕ) (p : Decoded) (ps : List Decoded) → characters bytes ≡ p ∷ ps → p ≡ decoded bytes
+pub first_char : (bytes : List ℕ) (p : Decoded) (ps : List Decoded) → characters bytes ≡ p ∷ ps → p ≡ decoded bytes
 unfolding characters
 first_char bytes p ps e = let f = sym e ∙ pieces-step bytes (some_bytes bytes p ps e) in cc
 
-first_some : (bytes : List ℕ) (c size : ℕ) (ps : List Decoded) → characters bytes ≡ piece (Some c) size ∷ ps → 0 < size
+pub first_some : (bytes : List ℕ) (c size : ℕ) (ps : List Decoded) → characters bytes ≡ piece (Some c) size ∷ ps → 0 < size
 first_some bytes c size ps e =
     let same : piece (Some c) size ≡ decoded bytes = first_char bytes (piece (Some c) size) ps e in
     subst (λ (d : Decoded). 0 < d.size) (sym same) (decoded-some bytes (some_bytes bytes (piece (Some c) size) ps e))
@@ -195,7 +195,7 @@ first_some bytes c size ps e =
 suc_some : (n : ℕ) → suc n == 0 ≡ false
 suc_some n = grind (arith, nat_tests)
 
-ascii_decoded : (b : ℕ) (bs : List ℕ) → nat_lt b 0x80 ≡ true → decoded (b ∷ bs) ≡ piece (Some b) 1
+pub ascii_decoded : (b : ℕ) (bs : List ℕ) → nat_lt b 0x80 ≡ true → decoded (b ∷ bs) ≡ piece (Some b) 1
 ascii_decoded b bs h = rw (suc_some (length bs), h) refl
 
 first_of : (bytes : List ℕ) (c size b : ℕ) → piece (Some c) size ≡ decoded bytes → 0 < length bytes → slice_index bytes 0 ≡ b → nat_lt b 0x80 ≡ true → c ≡ b
@@ -205,7 +205,7 @@ first_of (a ∷ bs) c size b e some h small =
     cc
 
 -- an ASCII byte is its character
-first_ascii : (bytes : List ℕ) (c size b : ℕ) (ps : List Decoded) → characters bytes ≡ piece (Some c) size ∷ ps → slice_index bytes 0 ≡ b → nat_lt b 0x80 ≡ true → c ≡ b
+pub first_ascii : (bytes : List ℕ) (c size b : ℕ) (ps : List Decoded) → characters bytes ≡ piece (Some c) size ∷ ps → slice_index bytes 0 ≡ b → nat_lt b 0x80 ≡ true → c ≡ b
 first_ascii bytes c size b ps e h small =
     first_of bytes c size b (first_char bytes (piece (Some c) size) ps e) (some_bytes bytes (piece (Some c) size) ps e) h small
 
@@ -219,10 +219,10 @@ starts_mark [] h = absurd (cc)
 starts_mark (b ∷ []) h = absurd (grind (arith, nat_tests))
 starts_mark (b ∷ c ∷ cs) h = (grind (arith, nat_tests), grind (arith, nat_tests))
 
-not_equal : (a b : ℕ) → (a ≡ b → ⊥) → a == b ≡ false
+pub not_equal : (a b : ℕ) → (a ≡ b → ⊥) → a == b ≡ false
 not_equal a b h = grind (arith, nat_tests)
 
-equal : (a b : ℕ) → a ≡ b → a == b ≡ true
+pub equal : (a b : ℕ) → a ≡ b → a == b ≡ true
 equal a b h = grind (arith, nat_tests)
 
 not_true : (t : Bool) → (t ≡ true → ⊥) → t ≡ false
@@ -265,7 +265,7 @@ atmosphere_complete file _ at _ (Atmosphere.line_comment bytes n h line) = line_
 atmosphere_complete file _ at _ (Atmosphere.block_comment bytes n h block) = block_steps file bytes at n h block
 atmosphere_complete file _ at _ (Atmosphere.report_mark bytes h delimited) = mark_steps file bytes at h delimited
 
-by_first : (bytes : List ℕ) (b : ℕ) → 0 < b → slice_index bytes 0 ≡ b → 0 < length bytes
+pub by_first : (bytes : List ℕ) (b : ℕ) → 0 < b → slice_index bytes 0 ≡ b → 0 < length bytes
 by_first [] b some h = absurd (omega arith)
 by_first (a ∷ bs) b some h = omega arith
 

@@ -2,3 +2,5 @@ pub mod RepeatTurns
 pub mod StringTurns
 pub mod RowLemmas
 pub mod BetweenLemmas
+pub mod BareLemmas
+pub mod StringLemmas

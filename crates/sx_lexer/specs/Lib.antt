@@ -7,3 +7,4 @@ pub mod Characters
 pub mod Tokens
 pub mod Row
 pub mod Between
+pub mod Grammar
