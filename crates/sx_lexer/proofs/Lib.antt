@@ -1,2 +1,6 @@
 pub mod RepeatTurns
 pub mod StringTurns
+pub mod RowLemmas
+pub mod BetweenLemmas
+pub mod BareLemmas
+pub mod StringLemmas

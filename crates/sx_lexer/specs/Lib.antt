@@ -5,3 +5,6 @@ pub mod Start
 pub mod Strings
 pub mod Characters
 pub mod Tokens
+pub mod Row
+pub mod Between
+pub mod Grammar

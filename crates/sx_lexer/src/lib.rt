@@ -20,6 +20,7 @@
 mod characters;
 mod faults;
 mod gap;
+pub mod laws;
 pub mod start;
 mod strings;
 #[cfg(test)]
