@@ -1,5 +1,5 @@
 -- The fault of a source is at its first token with which no data can be spelt.
-use Rattle.std.proofs.Common.{◌≡◌, ℕ, zero, suc, List, [], ◌∷◌, ◌++◌, refl, sym, ap, ◌∙◌, subst, append_assoc, Option, Some, None, Result, Ok, Err}
+use Rattle.std.proofs.Common.{◌≡◌, ℕ, List, [], ◌∷◌, ◌++◌, refl, ap, ◌∙◌, subst, append_assoc, Option, Some, None, Result, Ok, Err}
 use Rattle.std.proofs.lemmas.List.{append-nil}
 use Rattle.sx_base.specs.declared.fault.Fault.{Fault}
 use Rattle.sx_base.specs.declared.fault.FaultKind.TheVariants as fault
@@ -14,9 +14,7 @@ use Rattle.sx_machine.specs.Extent.{fault_at}
 use Rattle.sx_machine.specs.Step.{state, step, finish, extent_of}
 use Rattle.sx_reader.specs.Lexemes.{lexed}
 use Rattle.sx_reader.specs.Read.{run, ended, data_of}
-use Rattle.sx_reader.specs.Grammar.{lexeme, AreItems}
-use Rattle.sx_reader.specs.Partial.{opening_of}
-use Rattle.sx_reader.specs.FirstFault.{CanGoOn, EndsInside, IsFirstFault, no_token, out_of_place, unclosed, OnFault, IsFaultOf}
+use Rattle.sx_reader.specs.FirstFault.{CanGoOn, IsFirstFault, no_token, out_of_place, unclosed, OnFault, IsFaultOf}
 use Rattle.sx_reader.proofs.Sound.{Held, at_top, within, Holds, holds_none, stepped}
 use Rattle.sx_reader.proofs.Complete.{reads_all}
 use Rattle.sx_reader.proofs.GoesOn.{can_go_on}

@@ -1,30 +1,26 @@
 -- What the machine has taken can go on to data.
-use Rattle.std.proofs.Common.{◌≡◌, ℕ, zero, suc, ◌+◌, ◌<◌, ◌≤◌, ◌-◌, Bool, true, false, List, [], ◌∷◌, ◌++◌, length, arith, refl, sym, ap, ◌∙◌, subst, append_assoc, Option, Some, None, Result, Ok, Err, pos}
-use Rattle.std.specs.Prelude.{◌==◌, nat_lt}
+use Rattle.std.proofs.Common.{◌≡◌, ℕ, zero, suc, ◌≤◌, true, List, [], ◌∷◌, ◌++◌, length, arith, refl, ◌∙◌, None, Result, Ok}
 use Rattle.sx_base.specs.declared.atom.Atom.TheVariants as a
 use Rattle.sx_base.specs.declared.fault.Fault.{Fault}
 use Rattle.sx_base.specs.Datum.{PlainDatum, atom, vector, chain, nil}
-use Rattle.sx_base.specs.Gives.{◌>>=◌}
 use Rattle.sx_lexer.specs.declared.token.Bracket.{Bracket}
 use Rattle.sx_lexer.specs.declared.token.Bracket.TheVariants as bracket
 use Rattle.sx_lexer.specs.declared.token.Lexeme.{Lexeme}
-use Rattle.sx_lexer.specs.declared.token.Token.{Token}
 use Rattle.sx_lexer.specs.declared.token.Token.TheVariants as t
 use Rattle.sx_machine.specs.declared.extent.Extent.{Extent}
 use Rattle.sx_machine.specs.declared.partial.Tail.TheVariants as tail
-use Rattle.sx_machine.specs.declared.partial.Parts.{Parts}
 use Rattle.sx_machine.specs.declared.partial.Parts.TheVariants as parts
 use Rattle.sx_machine.specs.declared.partial.Partial.{Partial}
 use Rattle.sx_machine.specs.declared.partial.State.{State}
 use Rattle.sx_machine.specs.Extent.{span_at, through}
 use Rattle.sx_machine.specs.Form.{joined, abbreviated}
-use Rattle.sx_machine.specs.Partial.{room_in, misplaced}
-use Rattle.sx_machine.specs.Step.{state, step, step_by, deliver, closed, same_bracket, finish}
+use Rattle.sx_machine.specs.Partial.{misplaced}
+use Rattle.sx_machine.specs.Step.{state, step, deliver, same_bracket}
 use Rattle.sx_reader.specs.Read.{run}
-use Rattle.sx_reader.specs.Grammar.{lexeme, AreItems}
-use Rattle.sx_reader.specs.Partial.{room_round, Inside, in_list, behind_dot, behind_tail, in_vector, in_bytes, behind_prefix, behind_skip}
+use Rattle.sx_reader.specs.Grammar.{lexeme}
+use Rattle.sx_reader.specs.Partial.{in_list, behind_dot, behind_tail, in_vector, in_bytes, behind_prefix, behind_skip}
 use Rattle.sx_reader.specs.FirstFault.{CanGoOn}
-use Rattle.sx_reader.proofs.Sound.{partial, Fits, Held, at_top, within, Holds, stepped, ran, room}
+use Rattle.sx_reader.proofs.Sound.{partial, Held, at_top, within, Holds, stepped, ran}
 
 -- the only place that is needed of a token that might follow
 abbrev nowhere : Extent

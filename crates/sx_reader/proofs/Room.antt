@@ -1,15 +1,14 @@
 -- Where more forms may be nested, what was taken is taken too.
-use Rattle.std.proofs.Common.{◌≡◌, ℕ, zero, suc, List, [], ◌∷◌, ◌++◌, refl, sym, ap, ◌∙◌, subst, Option, None}
+use Rattle.std.proofs.Common.{◌≡◌, ℕ, suc, List, [], ◌∷◌, refl, ap, ◌∙◌, subst}
 use Rattle.sx_base.specs.Datum.{PlainDatum}
 use Rattle.sx_lexer.specs.declared.token.Lexeme.{Lexeme}
 use Rattle.sx_machine.specs.declared.extent.Extent.{Extent}
-use Rattle.sx_machine.specs.declared.extent.Misplaced.{Misplaced}
 use Rattle.sx_machine.specs.declared.partial.Parts.{Parts}
 use Rattle.sx_machine.specs.declared.partial.Parts.TheVariants as parts
 use Rattle.sx_machine.specs.declared.partial.Partial.{Partial}
 use Rattle.sx_machine.specs.Partial.{misplaced}
 use Rattle.sx_reader.specs.Grammar.{IsDatum, IsNext, AreItems, AreBytes, constant, name, list, dotted, elements, bytes, abbreviation, here, past, no_items, item, skipped, no_bytes, byte, skipped_there}
-use Rattle.sx_reader.specs.Partial.{opening_of, room_round, Inside, in_list, behind_dot, behind_tail, in_vector, in_bytes, behind_prefix, behind_skip}
+use Rattle.sx_reader.specs.Partial.{room_round, Inside, in_list, behind_dot, behind_tail, in_vector, in_bytes, behind_prefix, behind_skip}
 use Rattle.sx_reader.proofs.Sound.{partial, Fits, Held, at_top, within}
 
 module _ (file : List ℕ) where

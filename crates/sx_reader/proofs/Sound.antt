@@ -1,12 +1,11 @@
 -- What is read is in the grammar.
-use Rattle.std.proofs.Common.{◌≡◌, ℕ, zero, suc, ◌+◌, ◌<◌, ◌≤◌, ◌-◌, Bool, true, false, List, [], ◌∷◌, ◌++◌, length, arith, refl, sym, ap, ◌∙◌, subst, append_assoc, Option, Some, None, Result, Ok, Err, pos, negsuc}
+use Rattle.std.proofs.Common.{◌≡◌, ℕ, suc, ◌<◌, ◌-◌, Bool, true, false, List, [], ◌∷◌, ◌++◌, length, arith, refl, sym, ap, ◌∙◌, subst, append_assoc, Option, Some, None, Result, Ok, Err, pos, negsuc}
 use Rattle.std.proofs.lemmas.List.{append-nil}
 use Rattle.std.specs.Prelude.{◌==◌, nat_lt, if◌then◌else◌}
 use Rattle.std.proofs.lemmas.Bool.Decides.{nat_tests}
 use Rattle.sx_base.specs.declared.atom.Atom.TheVariants as a
 use Rattle.sx_base.specs.declared.fault.Fault.{Fault}
-use Rattle.sx_base.specs.declared.fault.FaultKind.TheVariants as fault
-use Rattle.sx_base.specs.Datum.{PlainDatum, atom, symbol, vector, chain, listed, nil}
+use Rattle.sx_base.specs.Datum.{PlainDatum, atom, vector, chain, listed, nil}
 use Rattle.sx_base.specs.Gives.{◌>>=◌}
 use Rattle.sx_lexer.specs.declared.token.Bracket.{Bracket}
 use Rattle.sx_lexer.specs.declared.token.Bracket.TheVariants as bracket
@@ -23,7 +22,7 @@ use Rattle.sx_machine.specs.declared.partial.State.{State}
 use Rattle.sx_machine.specs.Extent.{span_at, through}
 use Rattle.sx_machine.specs.Form.{byte_of, joined}
 use Rattle.sx_machine.specs.Partial.{room_in, misplaced}
-use Rattle.sx_machine.specs.Step.{state, step, step_by, deliver, closed, same_bracket, nested, opened, opened_bytes, dotted as dots, finish, extent_of, unless}
+use Rattle.sx_machine.specs.Step.{state, step, step_by, deliver, closed, same_bracket, nested, opened_bytes, dotted as dots, finish, extent_of, unless}
 use Rattle.sx_reader.specs.Read.{run, ended}
 use Rattle.sx_reader.specs.Grammar.{lexeme, IsDatum, IsNext, AreItems, AreBytes, constant, name, list, dotted, elements, bytes, abbreviation, here, past, no_items, item, skipped, no_bytes, byte, skipped_there}
 use Rattle.sx_reader.specs.Partial.{opening_of, room_round, Inside, in_list, behind_dot, behind_tail, in_vector, in_bytes, behind_prefix, behind_skip}

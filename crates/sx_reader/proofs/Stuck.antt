@@ -1,6 +1,6 @@
 -- A token that the machine refuses stands where none such can.
-use Rattle.std.proofs.Common.{◌≡◌, ℕ, zero, suc, ◌+◌, ◌<◌, ◌≤◌, ◌-◌, Bool, true, false, not, List, [], ◌∷◌, ◌++◌, length, arith, refl, sym, ap, ◌∙◌, subst, append_assoc, Option, Some, None, Result, Ok, Err, pos, IsTrue}
-use Rattle.std.specs.Prelude.{◌==◌, nat_lt, ◌||◌, if◌then◌else◌}
+use Rattle.std.proofs.Common.{◌≡◌, ℕ, suc, Bool, true, false, not, List, [], ◌∷◌, ◌++◌, length, arith, refl, sym, ap, ◌∙◌, subst, Option, Some, None, Result, Ok, Err, IsTrue}
+use Rattle.std.specs.Prelude.{◌==◌, ◌||◌, if◌then◌else◌}
 use Rattle.std.proofs.lemmas.Bool.Decides.{nat_tests}
 use Rattle.sx_base.specs.declared.atom.Atom.TheVariants as a
 use Rattle.sx_base.specs.declared.fault.Fault.{Fault}
@@ -23,11 +23,11 @@ use Rattle.sx_machine.specs.Extent.{span_at, fault_at, through}
 use Rattle.sx_machine.specs.Form.{joined, abbreviated, byte_of}
 use Rattle.sx_machine.specs.Partial.{room_in, misplaced}
 use Rattle.sx_machine.specs.Step.{state, step, step_by, deliver, closed, same_bracket, nested, opened, opened_bytes, dotted as dots, extent_of, unless}
-use Rattle.sx_reader.specs.Grammar.{lexeme, IsDatum, IsNext, AreItems, AreBytes, no_items}
+use Rattle.sx_reader.specs.Grammar.{lexeme, AreItems, no_items}
 use Rattle.sx_reader.specs.Partial.{opening_of, room_round, Inside, in_list, behind_dot, behind_tail, in_vector, in_bytes, behind_prefix, behind_skip}
-use Rattle.sx_reader.specs.FirstFault.{CanGoOn, EndsInside, IsFaultAt, is_stray, has_no_dot, begins_datum, is_dot, is_close, close_of_nothing, close_of_another, dot_at_top, dot_in_another, nothing_behind_dot, much_behind_dot, no_byte, too_nested}
+use Rattle.sx_reader.specs.FirstFault.{EndsInside, IsFaultAt, is_stray, begins_datum, is_dot, close_of_nothing, close_of_another, dot_at_top, dot_in_another, nothing_behind_dot, much_behind_dot, no_byte, too_nested}
 use Rattle.sx_reader.proofs.Sound.{partial, Fits, Held, at_top, within, Holds, room}
-use Rattle.sx_reader.proofs.GoesOn.{Shrinks, delivers, can_go_on}
+use Rattle.sx_reader.proofs.GoesOn.{delivers, can_go_on}
 use Rattle.sx_reader.proofs.Room.{roomier, held_roomier, fits_roomier}
 
 or_left : (b c : Bool) → IsTrue b → IsTrue (b || c)

@@ -1,6 +1,6 @@
 -- Where and how a source that spells no data is at fault: at the first token with which no data can be spelt.
 use Rattle.std.specs.Prelude.{◌≡◌, ℕ, suc, Bool, true, false, not, List, [], ◌∷◌, ◌++◌, ◌||◌, Option, Some, None, Result, Ok, Err, IsTrue}
-use Rattle.sx_base.specs.Datum.{PlainDatum, atom}
+use Rattle.sx_base.specs.Datum.{PlainDatum}
 use Rattle.sx_base.specs.declared.fault.Fault.{Fault}
 use Rattle.sx_base.specs.declared.fault.FaultKind.TheVariants as fault
 use Rattle.sx_base.specs.declared.fault.Stop.{Stop}
@@ -11,14 +11,13 @@ use Rattle.sx_lexer.specs.declared.token.Token.{Token}
 use Rattle.sx_lexer.specs.declared.token.Token.TheVariants as t
 use Rattle.sx_lexer.specs.declared.token.Lexeme.{Lexeme}
 use Rattle.sx_machine.specs.declared.extent.Extent.{Extent}
-use Rattle.sx_machine.specs.declared.partial.Tail.{Tail}
 use Rattle.sx_machine.specs.declared.partial.Tail.TheVariants as tail
 use Rattle.sx_machine.specs.declared.partial.Parts.{Parts}
 use Rattle.sx_machine.specs.declared.partial.Parts.TheVariants as parts
 use Rattle.sx_machine.specs.Extent.{fault_at}
 use Rattle.sx_machine.specs.Step.{same_bracket}
 use Rattle.sx_reader.specs.Grammar.{lexeme, AreItems}
-use Rattle.sx_reader.specs.Lexemes.{Lexed, lexed}
+use Rattle.sx_reader.specs.Lexemes.{lexed}
 use Rattle.sx_reader.specs.Partial.{opening_of, Inside}
 
 -- a close of this kind ends no such form; where a dot waits for its datum, the dot is at fault
