@@ -15,7 +15,8 @@ use Rattle.sx_machine.specs.Step.{state, step, finish, extent_of}
 use Rattle.sx_reader.specs.Lexemes.{lexed}
 use Rattle.sx_reader.specs.Read.{run, ended, data_of}
 use Rattle.sx_reader.specs.FirstFault.{CanGoOn, IsFirstFault, no_token, out_of_place, unclosed, OnFault, IsFaultOf}
-use Rattle.sx_reader.proofs.Sound.{Held, at_top, within, Holds, holds_none, stepped}
+use Rattle.sx_reader.specs.Partial.{ComesTo, at_top, within}
+use Rattle.sx_reader.proofs.Sound.{Holds, holds_none, stepped}
 use Rattle.sx_reader.proofs.Complete.{reads_all}
 use Rattle.sx_reader.proofs.GoesOn.{can_go_on}
 use Rattle.sx_reader.proofs.Stuck.{stuck}
@@ -43,7 +44,7 @@ module _ (file : List ℕ) (nesting : ℕ) where
   moved : {ls : List Lexeme} {g : Option Fault} {e f : Fault} → e ≡ f → IsFirstFault file nesting ls g e → IsFirstFault file nesting ls g f
   moved {ls} {g} same h = subst (λ (z : Fault). IsFirstFault file nesting ls g z) same h
 
-  too_early : {n : ℕ} {seen : List Lexeme} {fs : List Partial} {found : List PlainDatum} (f : Fault) → Held file nesting n seen fs found → CanGoOn file nesting seen
+  too_early : {n : ℕ} {seen : List Lexeme} {fs : List Partial} {found : List PlainDatum} (f : Fault) → ComesTo file nesting n seen fs found → CanGoOn file nesting seen
       → finish file fs found ≡ Err f → IsFirstFault file nesting seen None f
   too_early f (at_top r items) goes e = cc
   too_early f (within {n} {ls = ls} {ms = ms} x h fits inside) goes e =

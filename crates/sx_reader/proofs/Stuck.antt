@@ -24,9 +24,9 @@ use Rattle.sx_machine.specs.Form.{joined, abbreviated, byte_of}
 use Rattle.sx_machine.specs.Partial.{room_in, misplaced}
 use Rattle.sx_machine.specs.Step.{state, step, step_by, deliver, closed, same_bracket, nested, opened, opened_bytes, dotted as dots, extent_of, unless}
 use Rattle.sx_reader.specs.Grammar.{lexeme, AreItems, no_items}
-use Rattle.sx_reader.specs.Partial.{opening_of, room_round, Inside, in_list, behind_dot, behind_tail, in_vector, in_bytes, behind_prefix, behind_skip}
+use Rattle.sx_reader.specs.Partial.{opening_of, room_round, Inside, in_list, behind_dot, behind_tail, in_vector, in_bytes, behind_prefix, behind_skip, partial, Fits, ComesTo, at_top, within}
 use Rattle.sx_reader.specs.FirstFault.{EndsInside, IsFaultAt, is_stray, begins_datum, is_dot, close_of_nothing, close_of_another, dot_at_top, dot_in_another, nothing_behind_dot, much_behind_dot, no_byte, too_nested}
-use Rattle.sx_reader.proofs.Sound.{partial, Fits, Held, at_top, within, Holds, room}
+use Rattle.sx_reader.proofs.Sound.{Holds, room}
 use Rattle.sx_reader.proofs.GoesOn.{delivers, can_go_on}
 use Rattle.sx_reader.proofs.Room.{roomier, held_roomier, fits_roomier}
 
@@ -58,7 +58,7 @@ module _ (file : List ℕ) (nesting : ℕ) where
   moved {ls} {k} {y} e h = subst (λ (z : Fault). At ls k y z) e h
 
   -- a form may not begin here
-  no_form : {n : ℕ} {ls : List Lexeme} {fs : List Partial} {found : List PlainDatum} → Held file nesting n ls fs found → (k : Token) → IsTrue (begins_datum k)
+  no_form : {n : ℕ} {ls : List Lexeme} {fs : List Partial} {found : List PlainDatum} → ComesTo file nesting n ls fs found → (k : Token) → IsTrue (begins_datum k)
       → (y : Extent) (w : Misplaced) → misplaced fs y ≡ Some w → At ls k y (fault_at file w.kind w.at)
   no_form (at_top r items) k begins y w e = cc
   no_form (within x h fits (in_list b items)) k begins y w e = cc
@@ -74,7 +74,7 @@ module _ (file : List ℕ) (nesting : ℕ) where
   no_form (within x h fits (behind_skip skips)) k begins y w e = cc
 
   -- a form that counts is refused where there is no room
-  no_room : {n : ℕ} {ls : List Lexeme} {found : List PlainDatum} (fs : List Partial) → Held file nesting n ls fs found → (p : Parts) (y : Extent) (f : Fault)
+  no_room : {n : ℕ} {ls : List Lexeme} {found : List PlainDatum} (fs : List Partial) → ComesTo file nesting n ls fs found → (p : Parts) (y : Extent) (f : Fault)
       → ((k : ℕ) → Inside file k [] p) → ((k : ℕ) → room_round p k ≡ suc k) → Fits p y fs
       → nested file nesting (state fs found) p y ≡ Err f → At ls (opening_of p) y f
   no_room {n} {ls} {found} fs h p y f fresh grows fits e = tested (room_in nesting fs == 0) refl where
@@ -84,7 +84,7 @@ module _ (file : List ℕ) (nesting : ℕ) where
         let same : fault_at file fault.TooNested y ≡ f = cc in
         let full : n ≡ 0 = sym (room file nesting h) ∙ is_none (room_in nesting fs) is in
         let one : suc n ≡ room_round p 0 = ap suc full ∙ sym (grows 0) in
-        let round = subst (λ (k : ℕ). Held file (suc nesting) k ls (roomier fs) found) one (held_roomier file nesting h) in
+        let round = subst (λ (k : ℕ). ComesTo file (suc nesting) k ls (roomier fs) found) one (held_roomier file nesting h) in
         moved same (too_nested (opening_of p) y
         (can_go_on file (suc nesting) (ls ++ lexeme (opening_of p) y ∷ []) (state (partial y 0 p ∷ roomier fs) found) (0, within y round (fits_roomier p y fs fits) (fresh 0))))
     tested false is = let opened_so = rw is at e in cc
@@ -97,7 +97,7 @@ module _ (file : List ℕ) (nesting : ℕ) where
       moved same (bad v refl)
 
   -- a datum that is refused
-  no_datum : {n : ℕ} {ls : List Lexeme} {fs : List Partial} {found : List PlainDatum} → Held file nesting n ls fs found → (k : Token) → IsTrue (begins_datum k)
+  no_datum : {n : ℕ} {ls : List Lexeme} {fs : List Partial} {found : List PlainDatum} → ComesTo file nesting n ls fs found → (k : Token) → IsTrue (begins_datum k)
       → (d : PlainDatum) (y : Extent) (f : Fault) → deliver file fs found d y ≡ Err f → At ls k y f
   no_datum (at_top r items) k begins d y f e = cc
   no_datum (within x h fits (in_list b items)) k begins d y f e = cc
@@ -120,7 +120,7 @@ module _ (file : List ℕ) (nesting : ℕ) where
 
   -- a close that is refused, where the form that it ends could be complete
   no_end : {n : ℕ} {ls us : List Lexeme} {p : Parts} {fs : List Partial} {found : List PlainDatum} (b c : Bracket) (x y : Extent)
-      → Held file nesting n ls fs found → misplaced fs x ≡ None → EndsInside file us p x → is_stray b p ≡ not (same_bracket b c) → (d : PlainDatum) (f : Fault)
+      → ComesTo file nesting n ls fs found → misplaced fs x ≡ None → EndsInside file us p x → is_stray b p ≡ not (same_bracket b c) → (d : PlainDatum) (f : Fault)
       → ((if same_bracket b c then Ok d else Err (fault_at file fault.StrayClose y)) >>= λ e. deliver file fs found e (through x y)) ≡ Err f → At us (t.Close b) y f
   no_end {us = us} {fs = fs} {found = found} b c x y h fits inside stray d f e = tested (same_bracket b c) refl where
     tested : (o : Bool) → same_bracket b c ≡ o → At us (t.Close b) y f
@@ -132,7 +132,7 @@ module _ (file : List ℕ) (nesting : ℕ) where
         let same : fault_at file fault.StrayClose y ≡ f = cc in
         moved same (close_of_another b y inside (stray ∙ not_same (same_bracket b c) so))
 
-  no_close : {n : ℕ} {ls : List Lexeme} {fs : List Partial} {found : List PlainDatum} → Held file nesting n ls fs found → (b : Bracket) (y : Extent) (f : Fault)
+  no_close : {n : ℕ} {ls : List Lexeme} {fs : List Partial} {found : List PlainDatum} → ComesTo file nesting n ls fs found → (b : Bracket) (y : Extent) (f : Fault)
       → closed file fs found b y ≡ Err f → At ls (t.Close b) y f
   no_close {ls = ls} (at_top {ds = ds} r items) b y f e =
       let same : fault_at file fault.StrayClose y ≡ f = cc in
@@ -155,7 +155,7 @@ module _ (file : List ℕ) (nesting : ℕ) where
       let same : fault_at file fault.StrayClose y ≡ f = cc in
       moved same (close_of_another b y (here ls x (behind_skip skips)) refl)
 
-  no_dot : {n : ℕ} {ls : List Lexeme} {fs : List Partial} {found : List PlainDatum} → Held file nesting n ls fs found → (y : Extent) (f : Fault)
+  no_dot : {n : ℕ} {ls : List Lexeme} {fs : List Partial} {found : List PlainDatum} → ComesTo file nesting n ls fs found → (y : Extent) (f : Fault)
       → dots file fs found y ≡ Err f → At ls t.Dot y f
   no_dot {ls = ls} (at_top {ds = ds} r items) y f e =
       let same : fault_at file fault.BadDot y ≡ f = cc in
@@ -184,7 +184,7 @@ module _ (file : List ℕ) (nesting : ℕ) where
       moved same (dot_in_another y (here ls x (behind_skip skips)) refl)
 
   -- a form that counts is refused
-  no_opening : {n : ℕ} {ls : List Lexeme} (s : State) → Held file nesting n ls s.stack s.done → (p : Parts) (y : Extent) (f : Fault)
+  no_opening : {n : ℕ} {ls : List Lexeme} (s : State) → ComesTo file nesting n ls s.stack s.done → (p : Parts) (y : Extent) (f : Fault)
       → ((k : ℕ) → Inside file k [] p) → ((k : ℕ) → room_round p k ≡ suc k) → (misplaced s.stack y ≡ None → Fits p y s.stack) → IsTrue (begins_datum (opening_of p))
       → opened file nesting s p y ≡ Err f → At ls (opening_of p) y f
   no_opening s h p y f fresh grows fits begins e = refused_by (misplaced s.stack y) (nested file nesting s p y) e
@@ -192,7 +192,7 @@ module _ (file : List ℕ) (nesting : ℕ) where
       (λ is stuck. no_room s.stack h p y f fresh grows (fits is) stuck)
 
   -- a bytevector is refused
-  no_bytes_there : {n : ℕ} {ls : List Lexeme} (s : State) → Held file nesting n ls s.stack s.done → (y : Extent) (f : Fault) → opened_bytes file nesting s y ≡ Err f → At ls t.OpenBytes y f
+  no_bytes_there : {n : ℕ} {ls : List Lexeme} (s : State) → ComesTo file nesting n ls s.stack s.done → (y : Extent) (f : Fault) → opened_bytes file nesting s y ≡ Err f → At ls t.OpenBytes y f
   no_bytes_there s h y f e = refused_by (misplaced s.stack y) (Ok (state (partial y (room_in nesting s.stack) (parts.Bytes []) ∷ s.stack) s.done)) e
       (λ v is. no_form h t.OpenBytes refl y v is)
       (λ is stuck. absurd (cc))
