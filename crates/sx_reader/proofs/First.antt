@@ -47,9 +47,9 @@ module _ (file : List ℕ) (nesting : ℕ) where
   too_early : {n : ℕ} {seen : List Lexeme} {fs : List Partial} {found : List PlainDatum} (f : Fault) → ComesTo file nesting n seen fs found → CanGoOn file nesting seen
       → finish file fs found ≡ Err f → IsFirstFault file nesting seen None f
   too_early f (at_top r items) goes e = cc
-  too_early f (within {n} {ls = ls} {ms = ms} x h fits inside) goes e =
+  too_early f (within {n} {fs = fs} {found = found} x h fits inside) goes e =
       let same : fault_at file fault.Unclosed x ≡ f = cc in
-      moved same (unclosed goes (record { before = ls; behind = ms; room = n; same = refl; inside = inside }))
+      moved same (unclosed goes (record { room = n; round = fs; before = found; come = within x h fits inside }))
 
   at_end : (seen : List Lexeme) (s : State) (g : Option Fault) (f : Fault) → Holds file nesting seen s → ended file s g ≡ Err f → IsFirstFault file nesting seen g f
   at_end seen s None f h e = too_early f h.1 (can_go_on file nesting seen s h) e
