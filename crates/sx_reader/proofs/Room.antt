@@ -49,7 +49,7 @@ abbrev pub roomier : List Partial → List Partial
 roomier [] = []
 roomier (f ∷ fs) = partial f.opening (suc f.room) f.parts ∷ roomier fs
 
-misplaced-roomier : (fs : List Partial) (x : Extent) → misplaced (roomier fs) x ≡ misplaced fs x
+pub misplaced-roomier : (fs : List Partial) (x : Extent) → misplaced (roomier fs) x ≡ misplaced fs x
 misplaced-roomier [] x = refl
 misplaced-roomier (f ∷ fs) x = refl
 

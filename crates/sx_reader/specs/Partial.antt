@@ -59,5 +59,5 @@ Fits parts.Skipped x fs = Unit {0}
 pub data ComesTo (file : List ℕ) (nesting : ℕ) : ℕ → List Lexeme → List Partial → List PlainDatum → Type 0 where
   at_top : {ls : List Lexeme} {ds : List PlainDatum} {n : ℕ} → n ≡ nesting → AreItems file n ls ds → ComesTo file nesting n ls [] ds
   within : {n : ℕ} {ls ms : List Lexeme} {p : Parts} {fs : List Partial} {found : List PlainDatum} (x : Extent)
-    → ComesTo file nesting (room_round p n) ls fs found → Fits p x fs → Inside file n ms p
-    → ComesTo file nesting n (ls ++ (lexeme (opening_of p) x ∷ ms)) (partial x n p ∷ fs) found
+      → ComesTo file nesting (room_round p n) ls fs found → Fits p x fs → Inside file n ms p
+      → ComesTo file nesting n (ls ++ (lexeme (opening_of p) x ∷ ms)) (partial x n p ∷ fs) found
