@@ -1,9 +1,8 @@
 -- The data that complete forms are.
-use Rattle.std.specs.Prelude.{ℕ, List, [], ◌∷◌, ◌++◌, Option, Some, None, ℤ, pos, negsuc, nat_lt, if◌then◌else◌, codes}
+use Rattle.std.specs.Prelude.{ℕ, List, [], ◌∷◌, Option, Some, None, ℤ, pos, negsuc, nat_lt, if◌then◌else◌, codes}
 use Rattle.sx_base.specs.declared.span.Span.{Span}
-use Rattle.sx_base.specs.declared.atom.Atom.{Atom}
 use Rattle.sx_base.specs.declared.atom.Atom.TheVariants as a
-use Rattle.sx_base.specs.Datum.{PlainDatum, atom, symbol, pair, vector, nil, chain, listed}
+use Rattle.sx_base.specs.Datum.{PlainDatum, atom, symbol, pair, vector, nil, listed}
 use Rattle.sx_lexer.specs.declared.token.Abbreviation.{Abbreviation}
 use Rattle.sx_lexer.specs.declared.token.Abbreviation.TheVariants as abbreviation
 use Rattle.sx_machine.specs.Extent.{span_at}

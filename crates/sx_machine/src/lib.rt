@@ -15,6 +15,6 @@
 #![tactic(auto)]
 
 pub mod extent;
-pub mod form;
+mod form;
 pub mod partial;
 pub mod step;

@@ -1,31 +1,27 @@
 -- What the grammar has is read.
-use Rattle.std.proofs.Common.{◌≡◌, ℕ, zero, suc, ◌+◌, ◌<◌, ◌≤◌, ◌-◌, Bool, true, false, List, [], ◌∷◌, ◌++◌, length, arith, refl, sym, ap, ◌∙◌, append_assoc, Option, Some, None, Result, Ok, Err, pos}
+use Rattle.std.proofs.Common.{◌≡◌, ℕ, suc, ◌<◌, ◌-◌, true, false, List, [], ◌∷◌, ◌++◌, length, arith, refl, sym, ap, ◌∙◌, append_assoc, Option, None, Result, Ok}
 use Rattle.std.proofs.lemmas.List.{append-nil}
 use Rattle.std.specs.Prelude.{◌==◌, nat_lt}
 use Rattle.std.proofs.lemmas.Bool.Decides.{nat_tests}
-use Rattle.sx_base.specs.declared.atom.Atom.TheVariants as a
 use Rattle.sx_base.specs.declared.fault.Fault.{Fault}
-use Rattle.sx_base.specs.Datum.{PlainDatum, atom, symbol, vector, chain, listed, nil}
+use Rattle.sx_base.specs.Datum.{PlainDatum}
 use Rattle.sx_base.specs.Gives.{◌>>=◌}
 use Rattle.sx_lexer.specs.declared.token.Bracket.{Bracket}
 use Rattle.sx_lexer.specs.declared.token.Bracket.TheVariants as bracket
 use Rattle.sx_lexer.specs.declared.token.Lexeme.{Lexeme}
 use Rattle.sx_lexer.specs.declared.token.Token.TheVariants as t
 use Rattle.sx_machine.specs.declared.extent.Extent.{Extent}
-use Rattle.sx_machine.specs.declared.extent.Misplaced.{Misplaced}
 use Rattle.sx_machine.specs.declared.partial.Tail.TheVariants as tail
 use Rattle.sx_machine.specs.declared.partial.Parts.{Parts}
 use Rattle.sx_machine.specs.declared.partial.Parts.TheVariants as parts
 use Rattle.sx_machine.specs.declared.partial.Partial.{Partial}
 use Rattle.sx_machine.specs.declared.partial.State.{State}
-use Rattle.sx_machine.specs.Extent.{span_at, through}
 use Rattle.sx_machine.specs.Partial.{room_in, misplaced}
-use Rattle.sx_machine.specs.Step.{state, step, deliver, nested, opened, same_bracket}
+use Rattle.sx_machine.specs.Step.{state, deliver, nested, opened, same_bracket}
 use Rattle.sx_reader.specs.Read.{run}
+use Rattle.sx_reader.specs.Partial.{partial, opening_of, room_round, Fits, Inside, in_list as open_list, behind_dot, behind_tail, in_vector as open_vector, in_bytes, behind_prefix, behind_skip, ComesTo, at_top, within}
+use Rattle.sx_reader.proofs.Sound.{room}
 use Rattle.sx_reader.specs.Grammar.{lexeme, IsDatum, IsNext, AreItems, AreBytes, constant, name, list, dotted, elements, bytes, abbreviation, here, past, no_items, item, skipped, no_bytes, byte, skipped_there}
-
-abbrev partial : Extent → ℕ → Parts → Partial
-partial x n p = record { opening = x; room = n; parts = p }
 
 -- what takes data one after another: the top, an open list before its dot, or an open vector
 data Taker : Type 0 where
@@ -70,10 +66,10 @@ flat : (ls ms us rest : List Lexeme) (x y : Lexeme) → (ls ++ x ∷ ms ++ us ++
 flat ls ms us rest x y = simp append_assoc
 
 module _ (file : List ℕ) (nesting : ℕ) where
-  abbrev room : Taker → ℕ
-  room k = room_in nesting (at k).stack
+  abbrev room_at : Taker → ℕ
+  room_at k = room_in nesting (at k).stack
 
-  room-plus : (k : Taker) (xs : List PlainDatum) → room (plus k xs) ≡ room k
+  room-plus : (k : Taker) (xs : List PlainDatum) → room_at (plus k xs) ≡ room_at k
   room-plus (top found) xs = refl
   room-plus (in_list b x n ds fs found) xs = refl
   room-plus (in_vector x n ds fs found) xs = refl
@@ -147,7 +143,7 @@ module _ (file : List ℕ) (nesting : ℕ) where
           (reads_next one (partial skip n parts.Skipped ∷ fs) found (ms ++ rest) refl (λ y. refl) ∙ reads_skips others fs found rest h)
 
       reads_items : {n : ℕ} {ls : List Lexeme} {ds : List PlainDatum} → AreItems file n ls ds → (k : Taker) (rest : List Lexeme)
-          → room k ≡ n → run file nesting (at k) (ls ++ rest) g ≡ run file nesting (at (plus k ds)) rest g
+          → room_at k ≡ n → run file nesting (at k) (ls ++ rest) g ≡ run file nesting (at (plus k ds)) rest g
       reads_items no_items k rest h = rw (plus-none k) refl
       reads_items (item {n} {ls} {ms} {d} {x} {ds} one others) k rest h =
           let first = reads one (at k).stack (at k).done (ms ++ rest) h (placed k) in
@@ -171,3 +167,48 @@ module _ (file : List ℕ) (nesting : ℕ) where
   pub reads_all : {ls : List Lexeme} {ds : List PlainDatum} → AreItems file nesting ls ds → run file nesting (state [] []) ls None ≡ Ok ds
   unfolding run
   reads_all {ls} {ds} items = rw (append-nil ls) at (reads_items None items (top []) [] refl)
+
+  -- an opening without parts
+  abbrev fresh : Parts → Parts
+  fresh (parts.List b ds last) = parts.List b [] tail.Absent
+  fresh (parts.Vector ds) = parts.Vector []
+  fresh (parts.Bytes ns) = parts.Bytes []
+  fresh (parts.Abbreviation k) = parts.Abbreviation k
+  fresh parts.Skipped = parts.Skipped
+
+  starts : (p : Parts) (x : Extent) (n : ℕ) (fs : List Partial) (found : List PlainDatum) (rest : List Lexeme) (g : Option Fault) → room_in nesting fs ≡ room_round p n → Fits p x fs
+      → run file nesting (state fs found) (lexeme (opening_of p) x ∷ rest) g ≡ run file nesting (state (partial x n (fresh p) ∷ fs) found) rest g
+  unfolding run
+  starts (parts.List b ds last) x n fs found rest g h fits = rw (opens_form (state fs found) (parts.List b [] tail.Absent) x n h fits) refl
+  starts (parts.Vector ds) x n fs found rest g h fits = rw (opens_form (state fs found) (parts.Vector []) x n h fits) refl
+  starts (parts.Bytes ns) x n fs found rest g h fits = rw (fits, h) refl
+  starts (parts.Abbreviation k) x n fs found rest g h fits = rw (opens_form (state fs found) (parts.Abbreviation k) x n h fits) refl
+  starts parts.Skipped x n fs found rest g h fits = rw (opens (state fs found) parts.Skipped x n h) refl
+
+  inside_read : {n : ℕ} {ms : List Lexeme} {p : Parts} → Inside file n ms p → (x : Extent) (fs : List Partial) (found : List PlainDatum) (rest : List Lexeme) (g : Option Fault)
+      → run file nesting (state (partial x n (fresh p) ∷ fs) found) (ms ++ rest) g ≡ run file nesting (state (partial x n p ∷ fs) found) rest g
+  unfolding run
+  inside_read {n} (open_list b items) x fs found rest g = reads_items g items (in_list b x n [] fs found) rest refl
+  inside_read {n} (behind_dot {ls = ls} {ms = ms} {d = d} {ds = ds} b dot items skips) x fs found rest g =
+      let f = partial x n (parts.List b (d ∷ ds) (tail.Dotted dot)) in
+      rw (append_assoc ls (lexeme t.Dot dot ∷ ms) rest)
+      (reads_items g items (in_list b x n [] fs found) (lexeme t.Dot dot ∷ (ms ++ rest)) refl ∙ rw (some_is (length ds)) (reads_skips g skips (f ∷ fs) found rest refl))
+  inside_read {n} (behind_tail {ls = ls} {ms = ms} {us = us} {d = d} {e = e} {ds = ds} b dot items next skips) x fs found rest g =
+      let f = partial x n (parts.List b (d ∷ ds) (tail.Dotted dot)) in
+      let f' = partial x n (parts.List b (d ∷ ds) (tail.Given dot e)) in
+      let regrouped : (ls ++ (lexeme t.Dot dot ∷ (ms ++ us))) ++ rest ≡ ls ++ (lexeme t.Dot dot ∷ (ms ++ (us ++ rest))) = simp append_assoc in
+      rw regrouped
+      (reads_items g items (in_list b x n [] fs found) (lexeme t.Dot dot ∷ (ms ++ (us ++ rest))) refl
+      ∙ rw (some_is (length ds)) (reads_next g next (f ∷ fs) found (us ++ rest) refl (λ y. refl) ∙ reads_skips g skips (f' ∷ fs) found rest refl))
+  inside_read {n} (open_vector items) x fs found rest g = reads_items g items (in_vector x n [] fs found) rest refl
+  inside_read {n} (in_bytes items) x fs found rest g = reads_bytes g items x n [] fs found rest refl
+  inside_read {n} (behind_prefix k skips) x fs found rest g = reads_skips g skips (partial x n (parts.Abbreviation k) ∷ fs) found rest refl
+  inside_read {n} (behind_skip skips) x fs found rest g = reads_skips g skips (partial x n parts.Skipped ∷ fs) found rest refl
+
+  -- the machine comes to what the lexemes have come to
+  pub come_read : {n : ℕ} {ls : List Lexeme} {fs : List Partial} {found : List PlainDatum} → ComesTo file nesting n ls fs found → (rest : List Lexeme) (g : Option Fault)
+      → run file nesting (state [] []) (ls ++ rest) g ≡ run file nesting (state fs found) rest g
+  come_read (at_top e items) rest g = reads_items g items (top []) rest (sym e)
+  come_read (within {n} {ls} {ms} {p} {fs} {found} x h fits inside) rest g =
+      rw (append_assoc ls (lexeme (opening_of p) x ∷ ms) rest)
+      (come_read h (lexeme (opening_of p) x ∷ (ms ++ rest)) g ∙ starts p x n fs found (ms ++ rest) g (room file nesting h) fits ∙ inside_read inside x fs found rest g)

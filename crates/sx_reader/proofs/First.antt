@@ -1,5 +1,5 @@
 -- The fault of a source is at its first token with which no data can be spelt.
-use Rattle.std.proofs.Common.{◌≡◌, ℕ, zero, suc, List, [], ◌∷◌, ◌++◌, refl, sym, ap, ◌∙◌, subst, append_assoc, Option, Some, None, Result, Ok, Err}
+use Rattle.std.proofs.Common.{◌≡◌, ℕ, List, [], ◌∷◌, ◌++◌, refl, ap, ◌∙◌, subst, append_assoc, Option, Some, None, Result, Ok, Err}
 use Rattle.std.proofs.lemmas.List.{append-nil}
 use Rattle.sx_base.specs.declared.fault.Fault.{Fault}
 use Rattle.sx_base.specs.declared.fault.FaultKind.TheVariants as fault
@@ -14,10 +14,9 @@ use Rattle.sx_machine.specs.Extent.{fault_at}
 use Rattle.sx_machine.specs.Step.{state, step, finish, extent_of}
 use Rattle.sx_reader.specs.Lexemes.{lexed}
 use Rattle.sx_reader.specs.Read.{run, ended, data_of}
-use Rattle.sx_reader.specs.Grammar.{lexeme, AreItems}
-use Rattle.sx_reader.specs.Partial.{opening_of}
-use Rattle.sx_reader.specs.FirstFault.{CanGoOn, EndsInside, IsFirstFault, no_token, out_of_place, unclosed, OnFault, IsFaultOf}
-use Rattle.sx_reader.proofs.Sound.{Held, at_top, within, Holds, holds_none, stepped}
+use Rattle.sx_reader.specs.FirstFault.{CanGoOn, IsFirstFault, no_token, out_of_place, unclosed, OnFault, IsFaultOf}
+use Rattle.sx_reader.specs.Partial.{ComesTo, at_top, within}
+use Rattle.sx_reader.proofs.Sound.{Holds, holds_none, stepped}
 use Rattle.sx_reader.proofs.Complete.{reads_all}
 use Rattle.sx_reader.proofs.GoesOn.{can_go_on}
 use Rattle.sx_reader.proofs.Stuck.{stuck}
@@ -45,12 +44,12 @@ module _ (file : List ℕ) (nesting : ℕ) where
   moved : {ls : List Lexeme} {g : Option Fault} {e f : Fault} → e ≡ f → IsFirstFault file nesting ls g e → IsFirstFault file nesting ls g f
   moved {ls} {g} same h = subst (λ (z : Fault). IsFirstFault file nesting ls g z) same h
 
-  too_early : {n : ℕ} {seen : List Lexeme} {fs : List Partial} {found : List PlainDatum} (f : Fault) → Held file nesting n seen fs found → CanGoOn file nesting seen
+  too_early : {n : ℕ} {seen : List Lexeme} {fs : List Partial} {found : List PlainDatum} (f : Fault) → ComesTo file nesting n seen fs found → CanGoOn file nesting seen
       → finish file fs found ≡ Err f → IsFirstFault file nesting seen None f
   too_early f (at_top r items) goes e = cc
-  too_early f (within {n} {ls = ls} {ms = ms} x h fits inside) goes e =
+  too_early f (within {n} {fs = fs} {found = found} x h fits inside) goes e =
       let same : fault_at file fault.Unclosed x ≡ f = cc in
-      moved same (unclosed goes (record { before = ls; behind = ms; room = n; same = refl; inside = inside }))
+      moved same (unclosed goes (record { room = n; round = fs; before = found; come = within x h fits inside }))
 
   at_end : (seen : List Lexeme) (s : State) (g : Option Fault) (f : Fault) → Holds file nesting seen s → ended file s g ≡ Err f → IsFirstFault file nesting seen g f
   at_end seen s None f h e = too_early f h.1 (can_go_on file nesting seen s h) e

@@ -1,30 +1,26 @@
 -- What the machine has taken can go on to data.
-use Rattle.std.proofs.Common.{◌≡◌, ℕ, zero, suc, ◌+◌, ◌<◌, ◌≤◌, ◌-◌, Bool, true, false, List, [], ◌∷◌, ◌++◌, length, arith, refl, sym, ap, ◌∙◌, subst, append_assoc, Option, Some, None, Result, Ok, Err, pos}
-use Rattle.std.specs.Prelude.{◌==◌, nat_lt}
+use Rattle.std.proofs.Common.{◌≡◌, ℕ, zero, suc, ◌≤◌, true, List, [], ◌∷◌, ◌++◌, length, arith, refl, ◌∙◌, None, Result, Ok}
 use Rattle.sx_base.specs.declared.atom.Atom.TheVariants as a
 use Rattle.sx_base.specs.declared.fault.Fault.{Fault}
 use Rattle.sx_base.specs.Datum.{PlainDatum, atom, vector, chain, nil}
-use Rattle.sx_base.specs.Gives.{◌>>=◌}
 use Rattle.sx_lexer.specs.declared.token.Bracket.{Bracket}
 use Rattle.sx_lexer.specs.declared.token.Bracket.TheVariants as bracket
 use Rattle.sx_lexer.specs.declared.token.Lexeme.{Lexeme}
-use Rattle.sx_lexer.specs.declared.token.Token.{Token}
 use Rattle.sx_lexer.specs.declared.token.Token.TheVariants as t
 use Rattle.sx_machine.specs.declared.extent.Extent.{Extent}
 use Rattle.sx_machine.specs.declared.partial.Tail.TheVariants as tail
-use Rattle.sx_machine.specs.declared.partial.Parts.{Parts}
 use Rattle.sx_machine.specs.declared.partial.Parts.TheVariants as parts
 use Rattle.sx_machine.specs.declared.partial.Partial.{Partial}
 use Rattle.sx_machine.specs.declared.partial.State.{State}
 use Rattle.sx_machine.specs.Extent.{span_at, through}
 use Rattle.sx_machine.specs.Form.{joined, abbreviated}
-use Rattle.sx_machine.specs.Partial.{room_in, misplaced}
-use Rattle.sx_machine.specs.Step.{state, step, step_by, deliver, closed, same_bracket, finish}
+use Rattle.sx_machine.specs.Partial.{misplaced}
+use Rattle.sx_machine.specs.Step.{state, step, deliver, same_bracket}
 use Rattle.sx_reader.specs.Read.{run}
-use Rattle.sx_reader.specs.Grammar.{lexeme, AreItems}
-use Rattle.sx_reader.specs.Partial.{room_round, Inside, in_list, behind_dot, behind_tail, in_vector, in_bytes, behind_prefix, behind_skip}
+use Rattle.sx_reader.specs.Grammar.{lexeme}
+use Rattle.sx_reader.specs.Partial.{in_list, behind_dot, behind_tail, in_vector, in_bytes, behind_prefix, behind_skip, partial, ComesTo, at_top, within}
 use Rattle.sx_reader.specs.FirstFault.{CanGoOn}
-use Rattle.sx_reader.proofs.Sound.{partial, Fits, Held, at_top, within, Holds, stepped, ran, room}
+use Rattle.sx_reader.proofs.Sound.{Holds, stepped, ran}
 
 -- the only place that is needed of a token that might follow
 abbrev nowhere : Extent
@@ -42,7 +38,7 @@ module _ (file : List ℕ) (nesting : ℕ) where
     pub lower : length next.stack ≤ height
 
   -- where a form may begin a datum may end
-  pub delivers : {n : ℕ} {ls : List Lexeme} {fs : List Partial} {found : List PlainDatum} → Held file nesting n ls fs found → (x : Extent) → misplaced fs x ≡ None
+  pub delivers : {n : ℕ} {ls : List Lexeme} {fs : List Partial} {found : List PlainDatum} → ComesTo file nesting n ls fs found → (x : Extent) → misplaced fs x ≡ None
       → (d : PlainDatum) (y : Extent) → Shrinks (deliver file fs found d y) (length fs)
   delivers {found = found} (at_top r items) x fits d y = record { next = state [] (found ++ d ∷ []); same = refl; lower = omega arith }
   delivers {n} {found = found} (within {fs = fs} z h at_z (in_list {ds = ds} b items)) x fits d y =
@@ -88,7 +84,7 @@ module _ (file : List ℕ) (nesting : ℕ) where
     lowered : {r : Result State Fault} (q : Result State Fault) (i : ℕ) → q ≡ r → i ≤ k → Shrinks r i → Shrinks q k
     lowered q i e le r = record { next = r.next; same = e ∙ r.same; lower = let l = r.lower in omega arith }
 
-    finishes_from : {n : ℕ} {seen : List Lexeme} {fs : List Partial} {found : List PlainDatum} → Held file nesting n seen fs found → length fs ≤ suc k → Finishes (state fs found)
+    finishes_from : {n : ℕ} {seen : List Lexeme} {fs : List Partial} {found : List PlainDatum} → ComesTo file nesting n seen fs found → length fs ≤ suc k → Finishes (state fs found)
     finishes_from (at_top {ds = ds} r items) le = none ds
     finishes_from {n} {found = found} (within {fs = fs} z h at_z (in_list {ds = ds} b items)) le =
         by_one (state (partial z n (parts.List b ds tail.Absent) ∷ fs) found) (close b) (n, within z h at_z (in_list b items))
@@ -115,7 +111,7 @@ module _ (file : List ℕ) (nesting : ℕ) where
         by_one (state (partial z n parts.Skipped ∷ fs) found) any (n, within z h at_z (behind_skip skips))
         (record { next = state fs found; same = refl; lower = omega arith })
 
-  only_top : {n : ℕ} {seen : List Lexeme} {fs : List Partial} {found : List PlainDatum} → Held file nesting n seen fs found → length fs ≤ 0 → Finishes (state fs found)
+  only_top : {n : ℕ} {seen : List Lexeme} {fs : List Partial} {found : List PlainDatum} → ComesTo file nesting n seen fs found → length fs ≤ 0 → Finishes (state fs found)
   only_top (at_top {ds = ds} r items) le = none ds
   only_top (within z h at_z inside) le = absurd (omega arith)
 

@@ -6,3 +6,4 @@ pub mod GoesOn
 pub mod Room
 pub mod Stuck
 pub mod First
+pub mod Exact

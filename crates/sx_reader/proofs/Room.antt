@@ -1,16 +1,14 @@
 -- Where more forms may be nested, what was taken is taken too.
-use Rattle.std.proofs.Common.{◌≡◌, ℕ, zero, suc, List, [], ◌∷◌, ◌++◌, refl, sym, ap, ◌∙◌, subst, Option, None}
+use Rattle.std.proofs.Common.{◌≡◌, ℕ, suc, List, [], ◌∷◌, refl, ap, ◌∙◌, subst}
 use Rattle.sx_base.specs.Datum.{PlainDatum}
 use Rattle.sx_lexer.specs.declared.token.Lexeme.{Lexeme}
 use Rattle.sx_machine.specs.declared.extent.Extent.{Extent}
-use Rattle.sx_machine.specs.declared.extent.Misplaced.{Misplaced}
 use Rattle.sx_machine.specs.declared.partial.Parts.{Parts}
 use Rattle.sx_machine.specs.declared.partial.Parts.TheVariants as parts
 use Rattle.sx_machine.specs.declared.partial.Partial.{Partial}
 use Rattle.sx_machine.specs.Partial.{misplaced}
 use Rattle.sx_reader.specs.Grammar.{IsDatum, IsNext, AreItems, AreBytes, constant, name, list, dotted, elements, bytes, abbreviation, here, past, no_items, item, skipped, no_bytes, byte, skipped_there}
-use Rattle.sx_reader.specs.Partial.{opening_of, room_round, Inside, in_list, behind_dot, behind_tail, in_vector, in_bytes, behind_prefix, behind_skip}
-use Rattle.sx_reader.proofs.Sound.{partial, Fits, Held, at_top, within}
+use Rattle.sx_reader.specs.Partial.{room_round, Inside, in_list, behind_dot, behind_tail, in_vector, in_bytes, behind_prefix, behind_skip, partial, Fits, ComesTo, at_top, within}
 
 module _ (file : List ℕ) where
   mutual
@@ -51,7 +49,7 @@ abbrev pub roomier : List Partial → List Partial
 roomier [] = []
 roomier (f ∷ fs) = partial f.opening (suc f.room) f.parts ∷ roomier fs
 
-misplaced-roomier : (fs : List Partial) (x : Extent) → misplaced (roomier fs) x ≡ misplaced fs x
+pub misplaced-roomier : (fs : List Partial) (x : Extent) → misplaced (roomier fs) x ≡ misplaced fs x
 misplaced-roomier [] x = refl
 misplaced-roomier (f ∷ fs) x = refl
 
@@ -69,8 +67,8 @@ room_round-suc (parts.Bytes ns) n = refl
 room_round-suc (parts.Abbreviation k) n = refl
 room_round-suc parts.Skipped n = refl
 
-pub held_roomier : (file : List ℕ) (nesting : ℕ) {n : ℕ} {ls : List Lexeme} {fs : List Partial} {found : List PlainDatum} → Held file nesting n ls fs found
-    → Held file (suc nesting) (suc n) ls (roomier fs) found
+pub held_roomier : (file : List ℕ) (nesting : ℕ) {n : ℕ} {ls : List Lexeme} {fs : List Partial} {found : List PlainDatum} → ComesTo file nesting n ls fs found
+    → ComesTo file (suc nesting) (suc n) ls (roomier fs) found
 held_roomier file nesting (at_top e items) = at_top (ap suc e) (roomy_items file items)
 held_roomier file nesting {ls = seen} {found = found} (within {n} {ls = ls} {p = p} {fs = fs} x h fits inside) =
-    within x (subst (λ (k : ℕ). Held file (suc nesting) k ls (roomier fs) found) (room_round-suc p n) (held_roomier file nesting h)) (fits_roomier p x fs fits) (roomy_inside file inside)
+    within x (subst (λ (k : ℕ). ComesTo file (suc nesting) k ls (roomier fs) found) (room_round-suc p n) (held_roomier file nesting h)) (fits_roomier p x fs fits) (roomy_inside file inside)

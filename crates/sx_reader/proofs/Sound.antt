@@ -1,12 +1,11 @@
 -- What is read is in the grammar.
-use Rattle.std.proofs.Common.{◌≡◌, ℕ, zero, suc, ◌+◌, ◌<◌, ◌≤◌, ◌-◌, Bool, true, false, List, [], ◌∷◌, ◌++◌, length, arith, refl, sym, ap, ◌∙◌, subst, append_assoc, Option, Some, None, Result, Ok, Err, pos, negsuc}
+use Rattle.std.proofs.Common.{◌≡◌, ℕ, suc, ◌<◌, ◌-◌, Bool, true, false, List, [], ◌∷◌, ◌++◌, length, arith, refl, sym, ap, ◌∙◌, subst, append_assoc, Option, Some, None, Result, Ok, Err, pos, negsuc}
 use Rattle.std.proofs.lemmas.List.{append-nil}
 use Rattle.std.specs.Prelude.{◌==◌, nat_lt, if◌then◌else◌}
 use Rattle.std.proofs.lemmas.Bool.Decides.{nat_tests}
 use Rattle.sx_base.specs.declared.atom.Atom.TheVariants as a
 use Rattle.sx_base.specs.declared.fault.Fault.{Fault}
-use Rattle.sx_base.specs.declared.fault.FaultKind.TheVariants as fault
-use Rattle.sx_base.specs.Datum.{PlainDatum, atom, symbol, vector, chain, listed, nil}
+use Rattle.sx_base.specs.Datum.{PlainDatum, atom, vector, chain, listed, nil}
 use Rattle.sx_base.specs.Gives.{◌>>=◌}
 use Rattle.sx_lexer.specs.declared.token.Bracket.{Bracket}
 use Rattle.sx_lexer.specs.declared.token.Bracket.TheVariants as bracket
@@ -23,13 +22,10 @@ use Rattle.sx_machine.specs.declared.partial.State.{State}
 use Rattle.sx_machine.specs.Extent.{span_at, through}
 use Rattle.sx_machine.specs.Form.{byte_of, joined}
 use Rattle.sx_machine.specs.Partial.{room_in, misplaced}
-use Rattle.sx_machine.specs.Step.{state, step, step_by, deliver, closed, same_bracket, nested, opened, opened_bytes, dotted as dots, finish, extent_of, unless}
+use Rattle.sx_machine.specs.Step.{state, step, step_by, deliver, closed, same_bracket, nested, opened_bytes, dotted as dots, finish, extent_of, unless}
 use Rattle.sx_reader.specs.Read.{run, ended}
 use Rattle.sx_reader.specs.Grammar.{lexeme, IsDatum, IsNext, AreItems, AreBytes, constant, name, list, dotted, elements, bytes, abbreviation, here, past, no_items, item, skipped, no_bytes, byte, skipped_there}
-use Rattle.sx_reader.specs.Partial.{opening_of, room_round, Inside, in_list, behind_dot, behind_tail, in_vector, in_bytes, behind_prefix, behind_skip}
-
-abbrev pub partial : Extent → ℕ → Parts → Partial
-partial x n p = record { opening = x; room = n; parts = p }
+use Rattle.sx_reader.specs.Partial.{opening_of, room_round, Inside, in_list, behind_dot, behind_tail, in_vector, in_bytes, behind_prefix, behind_skip, partial, Fits, ComesTo, at_top, within}
 
 pub bind_ok : {A B : Type 0} (r : Result A Fault) (f : A → Result B Fault) (y : B) → (r >>= f) ≡ Ok y → (x : A) × (r ≡ Ok x) × (f x ≡ Ok y)
 bind_ok (Ok x) f y e = (x, refl, e)
@@ -105,14 +101,6 @@ module _ (file : List ℕ) where
   next_of {n} {ls} {ms} {d} {x} (skipped {ls = us} {ms = vs} skip one others) new =
       rw (append_assoc us vs ms) (past skip one (next_of others new))
 
--- a form may begin here; a comment may stand wherever it does
-abbrev pub Fits : Parts → Extent → List Partial → Type 0
-Fits (parts.List b ds tail) x fs = misplaced fs x ≡ None
-Fits (parts.Vector ds) x fs = misplaced fs x ≡ None
-Fits (parts.Bytes ns) x fs = misplaced fs x ≡ None
-Fits (parts.Abbreviation k) x fs = misplaced fs x ≡ None
-Fits parts.Skipped x fs = Unit {0}
-
 if_same : (b c : Bracket) (d : PlainDatum) (f : Fault) (k : PlainDatum → Result State Fault) (s : State)
     → ((if same_bracket b c then Ok d else Err f) >>= k) ≡ Ok s → (b ≡ c) × (k d ≡ Ok s)
 if_same bracket.Round bracket.Round d f k s e = (refl, e)
@@ -127,11 +115,8 @@ some_is : (n : ℕ) → suc n == 0 ≡ false
 some_is n = grind (arith, nat_tests)
 
 module _ (file : List ℕ) (nesting : ℕ) where
-  -- what the lexemes so far have come to
-  pub data Held : ℕ → List Lexeme → List Partial → List PlainDatum → Type 0 where
-    at_top : {ls : List Lexeme} {ds : List PlainDatum} {n : ℕ} → n ≡ nesting → AreItems file n ls ds → Held n ls [] ds
-    within : {n : ℕ} {ls ms : List Lexeme} {p : Parts} {fs : List Partial} {found : List PlainDatum} (x : Extent) → Held (room_round p n) ls fs found → Fits p x fs → Inside file n ms p
-        → Held n (ls ++ (lexeme (opening_of p) x ∷ ms)) (partial x n p ∷ fs) found
+  abbrev Held : ℕ → List Lexeme → List Partial → List PlainDatum → Type 0
+  Held n ls fs found = ComesTo file nesting n ls fs found
 
   pub room : {n : ℕ} {ls : List Lexeme} {fs : List Partial} {found : List PlainDatum} → Held n ls fs found → room_in nesting fs ≡ n
   room (at_top e items) = sym e

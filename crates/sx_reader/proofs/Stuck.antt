@@ -1,6 +1,6 @@
 -- A token that the machine refuses stands where none such can.
-use Rattle.std.proofs.Common.{◌≡◌, ℕ, zero, suc, ◌+◌, ◌<◌, ◌≤◌, ◌-◌, Bool, true, false, not, List, [], ◌∷◌, ◌++◌, length, arith, refl, sym, ap, ◌∙◌, subst, append_assoc, Option, Some, None, Result, Ok, Err, pos, IsTrue}
-use Rattle.std.specs.Prelude.{◌==◌, nat_lt, ◌||◌, if◌then◌else◌}
+use Rattle.std.proofs.Common.{◌≡◌, ℕ, suc, Bool, true, false, not, List, [], ◌∷◌, ◌++◌, length, arith, refl, sym, ap, ◌∙◌, subst, Option, Some, None, Result, Ok, Err, IsTrue}
+use Rattle.std.specs.Prelude.{◌==◌, ◌||◌, if◌then◌else◌}
 use Rattle.std.proofs.lemmas.Bool.Decides.{nat_tests}
 use Rattle.sx_base.specs.declared.atom.Atom.TheVariants as a
 use Rattle.sx_base.specs.declared.fault.Fault.{Fault}
@@ -23,11 +23,11 @@ use Rattle.sx_machine.specs.Extent.{span_at, fault_at, through}
 use Rattle.sx_machine.specs.Form.{joined, abbreviated, byte_of}
 use Rattle.sx_machine.specs.Partial.{room_in, misplaced}
 use Rattle.sx_machine.specs.Step.{state, step, step_by, deliver, closed, same_bracket, nested, opened, opened_bytes, dotted as dots, extent_of, unless}
-use Rattle.sx_reader.specs.Grammar.{lexeme, IsDatum, IsNext, AreItems, AreBytes, no_items}
-use Rattle.sx_reader.specs.Partial.{opening_of, room_round, Inside, in_list, behind_dot, behind_tail, in_vector, in_bytes, behind_prefix, behind_skip}
-use Rattle.sx_reader.specs.FirstFault.{CanGoOn, EndsInside, IsFaultAt, is_stray, has_no_dot, begins_datum, is_dot, is_close, close_of_nothing, close_of_another, dot_at_top, dot_in_another, nothing_behind_dot, much_behind_dot, no_byte, too_nested}
-use Rattle.sx_reader.proofs.Sound.{partial, Fits, Held, at_top, within, Holds, room}
-use Rattle.sx_reader.proofs.GoesOn.{Shrinks, delivers, can_go_on}
+use Rattle.sx_reader.specs.Grammar.{lexeme, AreItems, no_items}
+use Rattle.sx_reader.specs.Partial.{opening_of, room_round, Inside, in_list, behind_dot, behind_tail, in_vector, in_bytes, behind_prefix, behind_skip, partial, Fits, ComesTo, at_top, within}
+use Rattle.sx_reader.specs.FirstFault.{EndsInside, IsFaultAt, is_stray, begins_datum, counts, is_dot, close_of_nothing, close_of_another, dot_at_top, dot_in_another, nothing_behind_dot, much_behind_dot, no_byte, too_nested}
+use Rattle.sx_reader.proofs.Sound.{Holds, room}
+use Rattle.sx_reader.proofs.GoesOn.{delivers, can_go_on}
 use Rattle.sx_reader.proofs.Room.{roomier, held_roomier, fits_roomier}
 
 or_left : (b c : Bool) → IsTrue b → IsTrue (b || c)
@@ -51,41 +51,42 @@ module _ (file : List ℕ) (nesting : ℕ) where
   At ls k y f = IsFaultAt file nesting ls k y f
 
   -- the innermost form
-  abbrev here : {n : ℕ} {ms : List Lexeme} {p : Parts} (ls : List Lexeme) (x : Extent) → Inside file n ms p → EndsInside file (ls ++ (lexeme (opening_of p) x ∷ ms)) p x
-  here {n} {ms} ls x inside = record { before = ls; behind = ms; room = n; same = refl; inside = inside }
+  abbrev here : {n : ℕ} {ls ms : List Lexeme} {p : Parts} {fs : List Partial} {found : List PlainDatum} (x : Extent) → ComesTo file nesting (room_round p n) ls fs found → Fits p x fs → Inside file n ms p
+      → EndsInside file nesting (ls ++ (lexeme (opening_of p) x ∷ ms)) p x
+  here {n} {fs = fs} {found = found} x h fits inside = record { room = n; round = fs; before = found; come = within x h fits inside }
 
   moved : {ls : List Lexeme} {k : Token} {y : Extent} {e f : Fault} → e ≡ f → At ls k y e → At ls k y f
   moved {ls} {k} {y} e h = subst (λ (z : Fault). At ls k y z) e h
 
   -- a form may not begin here
-  no_form : {n : ℕ} {ls : List Lexeme} {fs : List Partial} {found : List PlainDatum} → Held file nesting n ls fs found → (k : Token) → IsTrue (begins_datum k)
+  no_form : {n : ℕ} {ls : List Lexeme} {fs : List Partial} {found : List PlainDatum} → ComesTo file nesting n ls fs found → (k : Token) → IsTrue (begins_datum k)
       → (y : Extent) (w : Misplaced) → misplaced fs y ≡ Some w → At ls k y (fault_at file w.kind w.at)
   no_form (at_top r items) k begins y w e = cc
   no_form (within x h fits (in_list b items)) k begins y w e = cc
   no_form (within x h fits (behind_dot b dot items skips)) k begins y w e = cc
   no_form (within {ls = ls} x h fits (behind_tail b dot items next skips)) k begins y w e =
       let same : fault_at file fault.BadDot dot ≡ fault_at file w.kind w.at = cc in
-      moved same (much_behind_dot k y (here ls x (behind_tail b dot items next skips)) (or_left (begins_datum k) (is_dot k) begins))
+      moved same (much_behind_dot k y (here x h fits (behind_tail b dot items next skips)) (or_left (begins_datum k) (is_dot k) begins))
   no_form (within x h fits (in_vector items)) k begins y w e = cc
   no_form (within {ls = ls} x h fits (in_bytes items)) k begins y w e =
       let same : fault_at file fault.BadNumber y ≡ fault_at file w.kind w.at = cc in
-      moved same (no_byte k y (here ls x (in_bytes items)) begins)
+      moved same (no_byte k y (here x h fits (in_bytes items)) begins)
   no_form (within x h fits (behind_prefix j skips)) k begins y w e = cc
   no_form (within x h fits (behind_skip skips)) k begins y w e = cc
 
   -- a form that counts is refused where there is no room
-  no_room : {n : ℕ} {ls : List Lexeme} {found : List PlainDatum} (fs : List Partial) → Held file nesting n ls fs found → (p : Parts) (y : Extent) (f : Fault)
-      → ((k : ℕ) → Inside file k [] p) → ((k : ℕ) → room_round p k ≡ suc k) → Fits p y fs
+  no_room : {n : ℕ} {ls : List Lexeme} {found : List PlainDatum} (fs : List Partial) → ComesTo file nesting n ls fs found → (p : Parts) (y : Extent) (f : Fault)
+      → ((k : ℕ) → Inside file k [] p) → ((k : ℕ) → room_round p k ≡ suc k) → Fits p y fs → IsTrue (counts (opening_of p))
       → nested file nesting (state fs found) p y ≡ Err f → At ls (opening_of p) y f
-  no_room {n} {ls} {found} fs h p y f fresh grows fits e = tested (room_in nesting fs == 0) refl where
+  no_room {n} {ls} {found} fs h p y f fresh grows fits counted e = tested (room_in nesting fs == 0) refl where
     tested : (full : Bool) → room_in nesting fs == 0 ≡ full → At ls (opening_of p) y f
     tested true is =
         let refused = rw is at e in
         let same : fault_at file fault.TooNested y ≡ f = cc in
         let full : n ≡ 0 = sym (room file nesting h) ∙ is_none (room_in nesting fs) is in
         let one : suc n ≡ room_round p 0 = ap suc full ∙ sym (grows 0) in
-        let round = subst (λ (k : ℕ). Held file (suc nesting) k ls (roomier fs) found) one (held_roomier file nesting h) in
-        moved same (too_nested (opening_of p) y
+        let round = subst (λ (k : ℕ). ComesTo file (suc nesting) k ls (roomier fs) found) one (held_roomier file nesting h) in
+        moved same (too_nested (opening_of p) y counted
         (can_go_on file (suc nesting) (ls ++ lexeme (opening_of p) y ∷ []) (state (partial y 0 p ∷ roomier fs) found) (0, within y round (fits_roomier p y fs fits) (fresh 0))))
     tested false is = let opened_so = rw is at e in cc
 
@@ -97,14 +98,14 @@ module _ (file : List ℕ) (nesting : ℕ) where
       moved same (bad v refl)
 
   -- a datum that is refused
-  no_datum : {n : ℕ} {ls : List Lexeme} {fs : List Partial} {found : List PlainDatum} → Held file nesting n ls fs found → (k : Token) → IsTrue (begins_datum k)
+  no_datum : {n : ℕ} {ls : List Lexeme} {fs : List Partial} {found : List PlainDatum} → ComesTo file nesting n ls fs found → (k : Token) → IsTrue (begins_datum k)
       → (d : PlainDatum) (y : Extent) (f : Fault) → deliver file fs found d y ≡ Err f → At ls k y f
   no_datum (at_top r items) k begins d y f e = cc
   no_datum (within x h fits (in_list b items)) k begins d y f e = cc
   no_datum (within x h fits (behind_dot b dot items skips)) k begins d y f e = cc
   no_datum (within {ls = ls} x h fits (behind_tail b dot items next skips)) k begins d y f e =
       let same : fault_at file fault.BadDot dot ≡ f = cc in
-      moved same (much_behind_dot k y (here ls x (behind_tail b dot items next skips)) (or_left (begins_datum k) (is_dot k) begins))
+      moved same (much_behind_dot k y (here x h fits (behind_tail b dot items next skips)) (or_left (begins_datum k) (is_dot k) begins))
   no_datum (within x h fits (in_vector items)) k begins d y f e = cc
   no_datum (within {ls = ls} {ms = ms} x h fits (in_bytes items)) k begins d y f e = tested (byte_of d) refl where
     tested : (o : Option ℕ) → byte_of d ≡ o → At (ls ++ (lexeme t.OpenBytes x ∷ ms)) k y f
@@ -112,7 +113,7 @@ module _ (file : List ℕ) (nesting : ℕ) where
     tested None is =
         let refused = rw is at e in
         let same : fault_at file fault.BadNumber y ≡ f = cc in
-        moved same (no_byte k y (here ls x (in_bytes items)) begins)
+        moved same (no_byte k y (here x h fits (in_bytes items)) begins)
   no_datum (within {fs = fs} {found = found} x h fits (behind_prefix j skips)) k begins d y f e =
       let below = delivers file nesting h x fits (abbreviated file j x d (through x y)) (through x y) in
       absurd (ok_is_no_fault _ below.next f below.same e)
@@ -120,7 +121,7 @@ module _ (file : List ℕ) (nesting : ℕ) where
 
   -- a close that is refused, where the form that it ends could be complete
   no_end : {n : ℕ} {ls us : List Lexeme} {p : Parts} {fs : List Partial} {found : List PlainDatum} (b c : Bracket) (x y : Extent)
-      → Held file nesting n ls fs found → misplaced fs x ≡ None → EndsInside file us p x → is_stray b p ≡ not (same_bracket b c) → (d : PlainDatum) (f : Fault)
+      → ComesTo file nesting n ls fs found → misplaced fs x ≡ None → EndsInside file nesting us p x → is_stray b p ≡ not (same_bracket b c) → (d : PlainDatum) (f : Fault)
       → ((if same_bracket b c then Ok d else Err (fault_at file fault.StrayClose y)) >>= λ e. deliver file fs found e (through x y)) ≡ Err f → At us (t.Close b) y f
   no_end {us = us} {fs = fs} {found = found} b c x y h fits inside stray d f e = tested (same_bracket b c) refl where
     tested : (o : Bool) → same_bracket b c ≡ o → At us (t.Close b) y f
@@ -132,78 +133,78 @@ module _ (file : List ℕ) (nesting : ℕ) where
         let same : fault_at file fault.StrayClose y ≡ f = cc in
         moved same (close_of_another b y inside (stray ∙ not_same (same_bracket b c) so))
 
-  no_close : {n : ℕ} {ls : List Lexeme} {fs : List Partial} {found : List PlainDatum} → Held file nesting n ls fs found → (b : Bracket) (y : Extent) (f : Fault)
+  no_close : {n : ℕ} {ls : List Lexeme} {fs : List Partial} {found : List PlainDatum} → ComesTo file nesting n ls fs found → (b : Bracket) (y : Extent) (f : Fault)
       → closed file fs found b y ≡ Err f → At ls (t.Close b) y f
   no_close {ls = ls} (at_top {ds = ds} r items) b y f e =
       let same : fault_at file fault.StrayClose y ≡ f = cc in
       moved same (close_of_nothing b y (subst (λ (k : ℕ). AreItems file k ls ds) r items))
   no_close (within {ls = ls} x h fits (in_list {ds = ds} c items)) b y f e =
-      no_end b c x y h fits (here ls x (in_list c items)) refl (joined (span_at file (through x y)) ds nil) f e
+      no_end b c x y h fits (here x h fits (in_list c items)) refl (joined (span_at file (through x y)) ds nil) f e
   no_close (within {ls = ls} x h fits (behind_dot c dot items skips)) b y f e =
       let same : fault_at file fault.BadDot dot ≡ f = cc in
-      moved same (nothing_behind_dot (t.Close b) y (here ls x (behind_dot c dot items skips)) refl)
+      moved same (nothing_behind_dot (t.Close b) y (here x h fits (behind_dot c dot items skips)) refl)
   no_close (within {ls = ls} x h fits (behind_tail {d = d} {e = last} {ds = ds} c dot items next skips)) b y f e =
-      no_end b c x y h fits (here ls x (behind_tail c dot items next skips)) refl (joined (span_at file (through x y)) (d ∷ ds) last) f e
+      no_end b c x y h fits (here x h fits (behind_tail c dot items next skips)) refl (joined (span_at file (through x y)) (d ∷ ds) last) f e
   no_close (within {ls = ls} x h fits (in_vector {ds = ds} items)) b y f e =
-      no_end b bracket.Round x y h fits (here ls x (in_vector items)) refl (vector (span_at file (through x y)) (chain ds nil)) f e
+      no_end b bracket.Round x y h fits (here x h fits (in_vector items)) refl (vector (span_at file (through x y)) (chain ds nil)) f e
   no_close (within {ls = ls} x h fits (in_bytes {ns = ns} items)) b y f e =
-      no_end b bracket.Round x y h fits (here ls x (in_bytes items)) refl (atom (span_at file (through x y)) (a.Bytes ns)) f e
+      no_end b bracket.Round x y h fits (here x h fits (in_bytes items)) refl (atom (span_at file (through x y)) (a.Bytes ns)) f e
   no_close (within {ls = ls} x h fits (behind_prefix j skips)) b y f e =
       let same : fault_at file fault.StrayClose y ≡ f = cc in
-      moved same (close_of_another b y (here ls x (behind_prefix j skips)) refl)
+      moved same (close_of_another b y (here x h fits (behind_prefix j skips)) refl)
   no_close (within {ls = ls} x h fits (behind_skip skips)) b y f e =
       let same : fault_at file fault.StrayClose y ≡ f = cc in
-      moved same (close_of_another b y (here ls x (behind_skip skips)) refl)
+      moved same (close_of_another b y (here x h fits (behind_skip skips)) refl)
 
-  no_dot : {n : ℕ} {ls : List Lexeme} {fs : List Partial} {found : List PlainDatum} → Held file nesting n ls fs found → (y : Extent) (f : Fault)
+  no_dot : {n : ℕ} {ls : List Lexeme} {fs : List Partial} {found : List PlainDatum} → ComesTo file nesting n ls fs found → (y : Extent) (f : Fault)
       → dots file fs found y ≡ Err f → At ls t.Dot y f
   no_dot {ls = ls} (at_top {ds = ds} r items) y f e =
       let same : fault_at file fault.BadDot y ≡ f = cc in
       moved same (dot_at_top y (subst (λ (k : ℕ). AreItems file k ls ds) r items))
   no_dot (within {ls = ls} x h fits (in_list {ds = []} b items)) y f e =
       let same : fault_at file fault.BadDot y ≡ f = cc in
-      moved same (dot_in_another y (here ls x (in_list b items)) refl)
+      moved same (dot_in_another y (here x h fits (in_list b items)) refl)
   no_dot (within x h fits (in_list {ds = d ∷ ds} b items)) y f e = let put = rw (some_is (length ds)) at e in cc
   no_dot (within {ls = ls} x h fits (behind_dot b dot items skips)) y f e =
       let same : fault_at file fault.BadDot dot ≡ f = cc in
-      moved same (nothing_behind_dot t.Dot y (here ls x (behind_dot b dot items skips)) refl)
+      moved same (nothing_behind_dot t.Dot y (here x h fits (behind_dot b dot items skips)) refl)
   no_dot (within {ls = ls} x h fits (behind_tail b dot items next skips)) y f e =
       let same : fault_at file fault.BadDot dot ≡ f = cc in
-      moved same (much_behind_dot t.Dot y (here ls x (behind_tail b dot items next skips)) refl)
+      moved same (much_behind_dot t.Dot y (here x h fits (behind_tail b dot items next skips)) refl)
   no_dot (within {ls = ls} x h fits (in_vector items)) y f e =
       let same : fault_at file fault.BadDot y ≡ f = cc in
-      moved same (dot_in_another y (here ls x (in_vector items)) refl)
+      moved same (dot_in_another y (here x h fits (in_vector items)) refl)
   no_dot (within {ls = ls} x h fits (in_bytes items)) y f e =
       let same : fault_at file fault.BadDot y ≡ f = cc in
-      moved same (dot_in_another y (here ls x (in_bytes items)) refl)
+      moved same (dot_in_another y (here x h fits (in_bytes items)) refl)
   no_dot (within {ls = ls} x h fits (behind_prefix j skips)) y f e =
       let same : fault_at file fault.BadDot y ≡ f = cc in
-      moved same (dot_in_another y (here ls x (behind_prefix j skips)) refl)
+      moved same (dot_in_another y (here x h fits (behind_prefix j skips)) refl)
   no_dot (within {ls = ls} x h fits (behind_skip skips)) y f e =
       let same : fault_at file fault.BadDot y ≡ f = cc in
-      moved same (dot_in_another y (here ls x (behind_skip skips)) refl)
+      moved same (dot_in_another y (here x h fits (behind_skip skips)) refl)
 
   -- a form that counts is refused
-  no_opening : {n : ℕ} {ls : List Lexeme} (s : State) → Held file nesting n ls s.stack s.done → (p : Parts) (y : Extent) (f : Fault)
-      → ((k : ℕ) → Inside file k [] p) → ((k : ℕ) → room_round p k ≡ suc k) → (misplaced s.stack y ≡ None → Fits p y s.stack) → IsTrue (begins_datum (opening_of p))
+  no_opening : {n : ℕ} {ls : List Lexeme} (s : State) → ComesTo file nesting n ls s.stack s.done → (p : Parts) (y : Extent) (f : Fault)
+      → ((k : ℕ) → Inside file k [] p) → ((k : ℕ) → room_round p k ≡ suc k) → (misplaced s.stack y ≡ None → Fits p y s.stack) → IsTrue (begins_datum (opening_of p)) → IsTrue (counts (opening_of p))
       → opened file nesting s p y ≡ Err f → At ls (opening_of p) y f
-  no_opening s h p y f fresh grows fits begins e = refused_by (misplaced s.stack y) (nested file nesting s p y) e
+  no_opening s h p y f fresh grows fits begins counted e = refused_by (misplaced s.stack y) (nested file nesting s p y) e
       (λ v is. no_form h (opening_of p) begins y v is)
-      (λ is stuck. no_room s.stack h p y f fresh grows (fits is) stuck)
+      (λ is stuck. no_room s.stack h p y f fresh grows (fits is) counted stuck)
 
   -- a bytevector is refused
-  no_bytes_there : {n : ℕ} {ls : List Lexeme} (s : State) → Held file nesting n ls s.stack s.done → (y : Extent) (f : Fault) → opened_bytes file nesting s y ≡ Err f → At ls t.OpenBytes y f
+  no_bytes_there : {n : ℕ} {ls : List Lexeme} (s : State) → ComesTo file nesting n ls s.stack s.done → (y : Extent) (f : Fault) → opened_bytes file nesting s y ≡ Err f → At ls t.OpenBytes y f
   no_bytes_there s h y f e = refused_by (misplaced s.stack y) (Ok (state (partial y (room_in nesting s.stack) (parts.Bytes []) ∷ s.stack) s.done)) e
       (λ v is. no_form h t.OpenBytes refl y v is)
       (λ is stuck. absurd (cc))
 
   stuck_by : {ls : List Lexeme} (s : State) (k : Token) (y : Extent) (f : Fault) → Holds file nesting ls s → step_by file nesting s k y ≡ Err f → At ls k y f
-  stuck_by s (t.Open b) y f h e = no_opening s h.1 (parts.List b [] tail.Absent) y f (λ k. in_list b no_items) (λ k. refl) (λ is. is) refl e
+  stuck_by s (t.Open b) y f h e = no_opening s h.1 (parts.List b [] tail.Absent) y f (λ k. in_list b no_items) (λ k. refl) (λ is. is) refl refl e
   stuck_by s (t.Close b) y f h e = no_close h.1 b y f e
-  stuck_by s t.OpenVector y f h e = no_opening s h.1 (parts.Vector []) y f (λ k. in_vector no_items) (λ k. refl) (λ is. is) refl e
+  stuck_by s t.OpenVector y f h e = no_opening s h.1 (parts.Vector []) y f (λ k. in_vector no_items) (λ k. refl) (λ is. is) refl refl e
   stuck_by s t.OpenBytes y f h e = no_bytes_there s h.1 y f e
-  stuck_by s (t.Abbreviation j) y f h e = no_opening s h.1 (parts.Abbreviation j) y f (λ k. behind_prefix j no_items) (λ k. refl) (λ is. is) refl e
-  stuck_by s t.SkipDatum y f h e = no_room s.stack h.1 parts.Skipped y f (λ k. behind_skip no_items) (λ k. refl) tt e
+  stuck_by s (t.Abbreviation j) y f h e = no_opening s h.1 (parts.Abbreviation j) y f (λ k. behind_prefix j no_items) (λ k. refl) (λ is. is) refl refl e
+  stuck_by s t.SkipDatum y f h e = no_room s.stack h.1 parts.Skipped y f (λ k. behind_skip no_items) (λ k. refl) tt refl e
   stuck_by s t.Dot y f h e = no_dot h.1 y f e
   stuck_by s (t.Atom c) y f h e = no_datum h.1 (t.Atom c) refl (atom (span_at file y) c) y f e
   stuck_by s (t.Symbol x) y f h e = no_datum h.1 (t.Symbol x) refl (symbol (span_at file y) x) y f e

@@ -1,6 +1,6 @@
 -- Where and how a source that spells no data is at fault: at the first token with which no data can be spelt.
 use Rattle.std.specs.Prelude.{◌≡◌, ℕ, suc, Bool, true, false, not, List, [], ◌∷◌, ◌++◌, ◌||◌, Option, Some, None, Result, Ok, Err, IsTrue}
-use Rattle.sx_base.specs.Datum.{PlainDatum, atom}
+use Rattle.sx_base.specs.Datum.{PlainDatum}
 use Rattle.sx_base.specs.declared.fault.Fault.{Fault}
 use Rattle.sx_base.specs.declared.fault.FaultKind.TheVariants as fault
 use Rattle.sx_base.specs.declared.fault.Stop.{Stop}
@@ -11,15 +11,15 @@ use Rattle.sx_lexer.specs.declared.token.Token.{Token}
 use Rattle.sx_lexer.specs.declared.token.Token.TheVariants as t
 use Rattle.sx_lexer.specs.declared.token.Lexeme.{Lexeme}
 use Rattle.sx_machine.specs.declared.extent.Extent.{Extent}
-use Rattle.sx_machine.specs.declared.partial.Tail.{Tail}
 use Rattle.sx_machine.specs.declared.partial.Tail.TheVariants as tail
 use Rattle.sx_machine.specs.declared.partial.Parts.{Parts}
 use Rattle.sx_machine.specs.declared.partial.Parts.TheVariants as parts
 use Rattle.sx_machine.specs.Extent.{fault_at}
 use Rattle.sx_machine.specs.Step.{same_bracket}
 use Rattle.sx_reader.specs.Grammar.{lexeme, AreItems}
-use Rattle.sx_reader.specs.Lexemes.{Lexed, lexed}
-use Rattle.sx_reader.specs.Partial.{opening_of, Inside}
+use Rattle.sx_reader.specs.Lexemes.{lexed}
+use Rattle.sx_machine.specs.declared.partial.Partial.{Partial}
+use Rattle.sx_reader.specs.Partial.{partial, ComesTo}
 
 -- a close of this kind ends no such form; where a dot waits for its datum, the dot is at fault
 abbrev pub is_stray : Bracket → Parts → Bool
@@ -54,6 +54,18 @@ begins_datum t.Dot = false
 begins_datum (t.Atom c) = true
 begins_datum (t.Symbol x) = true
 
+-- a form that such a token opens counts as nesting
+abbrev pub counts : Token → Bool
+counts (t.Open b) = true
+counts (t.Close b) = false
+counts t.OpenVector = true
+counts t.OpenBytes = false
+counts (t.Abbreviation k) = true
+counts t.SkipDatum = true
+counts t.Dot = false
+counts (t.Atom c) = false
+counts (t.Symbol x) = false
+
 abbrev pub is_dot : Token → Bool
 is_dot (t.Open b) = false
 is_dot (t.Close b) = false
@@ -84,25 +96,24 @@ module _ (file : List ℕ) where
     pub items : AreItems file nesting (ls ++ others) data_there
 
   -- the innermost form that is open behind these lexemes was opened here, and has these parts
-  pub record EndsInside (ls : List Lexeme) (p : Parts) (x : Extent) : Type 0 where
-    pub before : List Lexeme
-    pub behind : List Lexeme
+  pub record EndsInside (nesting : ℕ) (ls : List Lexeme) (p : Parts) (x : Extent) : Type 0 where
     pub room : ℕ
-    pub same : ls ≡ before ++ (lexeme (opening_of p) x ∷ behind)
-    pub inside : Inside file room behind p
+    pub round : List Partial
+    pub before : List PlainDatum
+    pub come : ComesTo file nesting room ls (partial x room p ∷ round) before
 
   -- what is wrong with this token behind these lexemes
   pub data IsFaultAt (nesting : ℕ) (ls : List Lexeme) : Token → Extent → Fault → Type 0 where
     close_of_nothing : {ds : List PlainDatum} (b : Bracket) (y : Extent) → AreItems file nesting ls ds → IsFaultAt nesting ls (t.Close b) y (fault_at file fault.StrayClose y)
-    close_of_another : {p : Parts} {x : Extent} (b : Bracket) (y : Extent) → EndsInside ls p x → is_stray b p ≡ true → IsFaultAt nesting ls (t.Close b) y (fault_at file fault.StrayClose y)
+    close_of_another : {p : Parts} {x : Extent} (b : Bracket) (y : Extent) → EndsInside nesting ls p x → is_stray b p ≡ true → IsFaultAt nesting ls (t.Close b) y (fault_at file fault.StrayClose y)
     dot_at_top : {ds : List PlainDatum} (y : Extent) → AreItems file nesting ls ds → IsFaultAt nesting ls t.Dot y (fault_at file fault.BadDot y)
-    dot_in_another : {p : Parts} {x : Extent} (y : Extent) → EndsInside ls p x → has_no_dot p ≡ true → IsFaultAt nesting ls t.Dot y (fault_at file fault.BadDot y)
-    nothing_behind_dot : {b : Bracket} {ds : List PlainDatum} {dot x : Extent} (k : Token) (y : Extent) → EndsInside ls (parts.List b ds (tail.Dotted dot)) x
+    dot_in_another : {p : Parts} {x : Extent} (y : Extent) → EndsInside nesting ls p x → has_no_dot p ≡ true → IsFaultAt nesting ls t.Dot y (fault_at file fault.BadDot y)
+    nothing_behind_dot : {b : Bracket} {ds : List PlainDatum} {dot x : Extent} (k : Token) (y : Extent) → EndsInside nesting ls (parts.List b ds (tail.Dotted dot)) x
         → IsTrue (is_close k || is_dot k) → IsFaultAt nesting ls k y (fault_at file fault.BadDot dot)
-    much_behind_dot : {b : Bracket} {ds : List PlainDatum} {e : PlainDatum} {dot x : Extent} (k : Token) (y : Extent) → EndsInside ls (parts.List b ds (tail.Given dot e)) x
+    much_behind_dot : {b : Bracket} {ds : List PlainDatum} {e : PlainDatum} {dot x : Extent} (k : Token) (y : Extent) → EndsInside nesting ls (parts.List b ds (tail.Given dot e)) x
         → IsTrue (begins_datum k || is_dot k) → IsFaultAt nesting ls k y (fault_at file fault.BadDot dot)
-    no_byte : {ns : List ℕ} {x : Extent} (k : Token) (y : Extent) → EndsInside ls (parts.Bytes ns) x → IsTrue (begins_datum k) → IsFaultAt nesting ls k y (fault_at file fault.BadNumber y)
-    too_nested : (k : Token) (y : Extent) → CanGoOn (suc nesting) (ls ++ lexeme k y ∷ []) → IsFaultAt nesting ls k y (fault_at file fault.TooNested y)
+    no_byte : {ns : List ℕ} {x : Extent} (k : Token) (y : Extent) → EndsInside nesting ls (parts.Bytes ns) x → IsTrue (begins_datum k) → IsFaultAt nesting ls k y (fault_at file fault.BadNumber y)
+    too_nested : (k : Token) (y : Extent) → IsTrue (counts k) → CanGoOn (suc nesting) (ls ++ lexeme k y ∷ []) → IsFaultAt nesting ls k y (fault_at file fault.TooNested y)
 
   -- these lexemes are no data, and this is their first fault, where what stands behind them is at fault or not
   pub data IsFirstFault (nesting : ℕ) : List Lexeme → Option Fault → Fault → Type 0 where
@@ -112,7 +123,7 @@ module _ (file : List ℕ) where
     out_of_place : {g : Option Fault} {f : Fault} (ls ms : List Lexeme) (k : Token) (y : Extent) → CanGoOn nesting ls → (CanGoOn nesting (ls ++ lexeme k y ∷ []) → ⊥)
         → IsFaultAt nesting ls k y f → IsFirstFault nesting (ls ++ (lexeme k y ∷ ms)) g f
     -- the source ends too early
-    unclosed : {ls : List Lexeme} {p : Parts} {x : Extent} → CanGoOn nesting ls → EndsInside ls p x → IsFirstFault nesting ls None (fault_at file fault.Unclosed x)
+    unclosed : {ls : List Lexeme} {p : Parts} {x : Extent} → CanGoOn nesting ls → EndsInside nesting ls p x → IsFirstFault nesting ls None (fault_at file fault.Unclosed x)
 
 -- the first fault of a source
 abbrev pub IsFaultOf : List ℕ → List ℕ → ℕ → Fault → Type 0

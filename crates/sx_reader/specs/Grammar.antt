@@ -1,5 +1,5 @@
 -- Which lexemes spell which data, by cases (R6RS 4.3). The number is how many more forms may be nested.
-use Rattle.std.specs.Prelude.{ℕ, suc, ◌<◌, List, [], ◌∷◌, ◌++◌, ℤ, pos}
+use Rattle.std.specs.Prelude.{ℕ, suc, ◌<◌, List, [], ◌∷◌, ◌++◌, pos}
 use Rattle.sx_base.specs.declared.atom.Atom.{Atom}
 use Rattle.sx_base.specs.declared.atom.Atom.TheVariants as a
 use Rattle.sx_base.specs.Datum.{PlainDatum, atom, symbol, vector, chain, listed, nil}

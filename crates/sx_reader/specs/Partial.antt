@@ -1,5 +1,5 @@
--- What the lexemes behind an opening have come to, where its form isn't complete.
-use Rattle.std.specs.Prelude.{ℕ, suc, List, [], ◌∷◌, ◌++◌}
+-- What some lexemes have come to: data, and forms that aren't complete.
+use Rattle.std.specs.Prelude.{◌≡◌, ℕ, suc, List, [], ◌∷◌, ◌++◌, None}
 use Rattle.sx_base.specs.Datum.{PlainDatum}
 use Rattle.sx_lexer.specs.declared.token.Abbreviation.{Abbreviation}
 use Rattle.sx_lexer.specs.declared.token.Bracket.{Bracket}
@@ -10,6 +10,8 @@ use Rattle.sx_machine.specs.declared.extent.Extent.{Extent}
 use Rattle.sx_machine.specs.declared.partial.Tail.TheVariants as tail
 use Rattle.sx_machine.specs.declared.partial.Parts.{Parts}
 use Rattle.sx_machine.specs.declared.partial.Parts.TheVariants as parts
+use Rattle.sx_machine.specs.declared.partial.Partial.{Partial}
+use Rattle.sx_machine.specs.Partial.{misplaced}
 use Rattle.sx_reader.specs.Grammar.{lexeme, IsNext, AreItems, AreBytes}
 
 -- the token that opens a form
@@ -41,3 +43,21 @@ module _ (file : List ℕ) where
     in_bytes : {n : ℕ} {ls : List Lexeme} {ns : List ℕ} → AreBytes file n ls ns → Inside n ls (parts.Bytes ns)
     behind_prefix : {n : ℕ} {ls : List Lexeme} (k : Abbreviation) → AreItems file n ls [] → Inside n ls (parts.Abbreviation k)
     behind_skip : {n : ℕ} {ls : List Lexeme} → AreItems file n ls [] → Inside n ls parts.Skipped
+
+abbrev pub partial : Extent → ℕ → Parts → Partial
+partial x n p = record { opening = x; room = n; parts = p }
+
+-- a form with such parts may begin here; a comment may stand wherever it does
+abbrev pub Fits : Parts → Extent → List Partial → Type 0
+Fits (parts.List b ds last) x fs = misplaced fs x ≡ None
+Fits (parts.Vector ds) x fs = misplaced fs x ≡ None
+Fits (parts.Bytes ns) x fs = misplaced fs x ≡ None
+Fits (parts.Abbreviation k) x fs = misplaced fs x ≡ None
+Fits parts.Skipped x fs = Unit {0}
+
+-- these lexemes have come to these open forms, innermost first, and to these data that stand in no other; the number is how many more forms may be nested there
+pub data ComesTo (file : List ℕ) (nesting : ℕ) : ℕ → List Lexeme → List Partial → List PlainDatum → Type 0 where
+  at_top : {ls : List Lexeme} {ds : List PlainDatum} {n : ℕ} → n ≡ nesting → AreItems file n ls ds → ComesTo file nesting n ls [] ds
+  within : {n : ℕ} {ls ms : List Lexeme} {p : Parts} {fs : List Partial} {found : List PlainDatum} (x : Extent)
+      → ComesTo file nesting (room_round p n) ls fs found → Fits p x fs → Inside file n ms p
+      → ComesTo file nesting n (ls ++ (lexeme (opening_of p) x ∷ ms)) (partial x n p ∷ fs) found

@@ -1,6 +1,7 @@
 //! Reading all data of a source.
 
-ghost use Rattle.std.specs.Prelude.{◌≡◌, ◌≤◌, ◌<◌, ◌^◌, length, List, Ok, IfOk};
+ghost use Rattle.std.specs.Prelude.{◌≡◌, ◌≤◌, ◌<◌, ◌^◌, length, List, Ok, Err, IfOk};
+ghost use Rattle.sx_base.specs.declared.fault.Fault.{Fault};
 ghost use Rattle.sx_base.specs.Datum.{PlainDatum};
 ghost use Rattle.sx_base.specs.Gives.{Gives};
 ghost use Rattle.sx_reader.specs.FirstFault.{OnFault, IsFaultOf};
@@ -26,12 +27,17 @@ pub fn read_all(alloc: Global, file: &Symbol, bytes: &[u8]) -> Result<Vec<Datum>
     ensures spelled { IfOk result (λ v. Spells file.now bytes.now 500 v.items) }
     ensures complete { (ds : List PlainDatum) → Spells file.now bytes.now 500 ds → Gives (λ v. v.items) result (Ok ds) }
     ensures refused { OnFault result (IsFaultOf file.now bytes.now 500) }
+    ensures faulted { (f : Fault) → IsFaultOf file.now bytes.now 500 f → Gives (λ v. v.items) result (Err f) }
 {
     read_deep(alloc, file, bytes, NESTING)
 }
 
-/// The data of a source in which so many forms may be nested, in order. What is read is spelt so, what
-/// is spelt so is read, unless memory runs out, and a source spells one list of data at most.
+/// The data of a source in which so many forms may be nested, in order (R6RS 4.3).
+///
+/// What is read is spelt so, what is spelt so is read unless memory runs out, and a source spells one
+/// list of data at most. A source that spells none has its first fault: at the first token with which
+/// no data can be spelt, or, where a dot has no datum or several behind it, at that dot; at bytes that
+/// are no token; or at the innermost opening, where the source ends too early.
 pub fn read_deep(
     alloc: Global,
     file: &Symbol,
@@ -44,6 +50,7 @@ pub fn read_deep(
     ensures spelled { IfOk result (λ v. Spells file.now bytes.now nesting v.items) }
     ensures complete { (ds : List PlainDatum) → Spells file.now bytes.now nesting ds → Gives (λ v. v.items) result (Ok ds) }
     ensures refused { OnFault result (IsFaultOf file.now bytes.now nesting) }
+    ensures faulted { (f : Fault) → IsFaultOf file.now bytes.now nesting f → Gives (λ v. v.items) result (Err f) }
     ensures single { (ds es : List PlainDatum) → Spells file.now bytes.now nesting ds → Spells file.now bytes.now nesting es → ds ≡ es }
 {
     read_lexemes(alloc, file, bytes, nesting)
