@@ -39,7 +39,7 @@ reached k p start offset ke kc bytes at h =
     let no_ends : ends_up_to offset (ends_from ke p bytes) ≡ [] = none-up_to offset p (ends_from ke p bytes) h (ends-above ke p p bytes (omega arith)) in
     let no_starts : begun_between start offset (starts_from kc p bytes) ≡ [] = none-begun kc p start offset bytes h in
     let same : told at start offset (ends_up_to offset (ends_from ke p bytes)) (starts_from kc p bytes) ≡ told at start offset [] (starts_from kc p bytes) =
-      ap (λ (ends : List ℕ). told at start offset ends (starts_from kc p bytes)) no_ends in
+    ap (λ (ends : List ℕ). told at start offset ends (starts_from kc p bytes)) no_ends in
     let empty : told at start offset [] (starts_from kc p bytes) ≡ at = empty_told at (begun_between start offset (starts_from kc p bytes)) no_starts in
     rw none (place-done k bytes at) ∙ sym (same ∙ empty)
   where
@@ -67,19 +67,19 @@ above-behind k p offset bytes here within h over = go (line_end bytes) (char_siz
     go : (n s : ℕ) → Shape bytes n → char_size bytes ≡ s → offset - p < n → Above offset (ends_from k (p + s) (drop s bytes))
     go n s (whole e) f over = ends-above k (p + s) offset (drop s bytes) (omega arith)
     go n s (return r some e one same more) f over =
-      let i : 1 ≡ s = sym one ∙ f in
-      subst (λ (s : ℕ). Above offset (ends_from k (p + s) (drop s bytes))) i
-      (above-over k (p + 1) offset (drop 1 bytes) (rw more (omega arith)) (rw more (omega arith)))
+        let i : 1 ≡ s = sym one ∙ f in
+        subst (λ (s : ℕ). Above offset (ends_from k (p + s) (drop s bytes))) i
+        (above-over k (p + 1) offset (drop 1 bytes) (rw more (omega arith)) (rw more (omega arith)))
 
 -- the line ends at or before the offset are the same behind a character
 ends-behind : (k p offset : ℕ) (bytes : List ℕ) → p < offset → offset - p ≤ length bytes → (0 < line_end bytes → offset - p < line_end bytes)
     → ends_up_to offset (ends_from (suc k) p bytes) ≡ ends_up_to offset (ends_from k (p + char_size bytes) (drop (char_size bytes) bytes))
 ends-behind k p offset bytes here within none =
-    elim (cases_lt 0 (line_end bytes))
-    [ inl h ↦
-      none-up_to offset offset (ends_from (suc k) p bytes) (omega arith) (above-over (suc k) p offset bytes h (omega (arith, none h)))
-      ∙ sym (none-up_to offset offset (ends_from k (p + char_size bytes) (drop (char_size bytes) bytes)) (omega arith) (above-behind k p offset bytes here within h (none h)))
-    | inr h ↦ let e : line_end bytes ≡ 0 = omega arith in ap (ends_up_to offset) (ends-char k p bytes (omega arith) e)
+    elim (cases_lt 0 (line_end bytes)) [
+      | inl h ↦
+          none-up_to offset offset (ends_from (suc k) p bytes) (omega arith) (above-over (suc k) p offset bytes h (omega (arith, none h)))
+          ∙ sym (none-up_to offset offset (ends_from k (p + char_size bytes) (drop (char_size bytes) bytes)) (omega arith) (above-behind k p offset bytes here within h (none h)))
+      | inr h ↦ let e : line_end bytes ≡ 0 = omega arith in ap (ends_up_to offset) (ends-char k p bytes (omega arith) e)
     ]
 
 -- the loop stands behind a piece
@@ -134,8 +134,8 @@ behind-two kc p r start offset bytes first second =
     record {
       enough = subst (λ (bs : List ℕ). length bs ≤ kc) d second.enough;
       same = first.same ∙ second.same
-        ∙ ap (λ (i : ℕ). begun_between start offset (starts_from kc i (drop r (drop 1 bytes)))) q
-        ∙ ap (λ (bs : List ℕ). begun_between start offset (starts_from kc (p + suc r) bs)) d;
+          ∙ ap (λ (i : ℕ). begun_between start offset (starts_from kc i (drop r (drop 1 bytes)))) q
+          ∙ ap (λ (bs : List ℕ). begun_between start offset (starts_from kc (p + suc r) bs)) d;
     }
 
 behind-line : (kc p start offset size : ℕ) (bytes : List ℕ) → Shape bytes size → size ≤ length bytes → length bytes ≤ suc kc → 0 < size → p + size ≤ start
@@ -146,9 +146,9 @@ behind-line zero p start offset size bytes (return r more e one same line) fits 
 behind-line (suc kc) p start offset size bytes (return r more e one same line) fits enough some h =
     let left : length (drop 1 bytes) ≡ length bytes - 1 = length-drop 1 bytes in
     let first : Behind (suc kc) p 1 start offset bytes (suc kc) =
-      subst (λ (s : ℕ). Behind (suc kc) p s start offset bytes (suc kc)) one (behind-char (suc kc) p start offset bytes (omega arith) enough (omega arith)) in
+    subst (λ (s : ℕ). Behind (suc kc) p s start offset bytes (suc kc)) one (behind-char (suc kc) p start offset bytes (omega arith) enough (omega arith)) in
     let second : Behind kc (p + 1) r start offset (drop 1 bytes) kc =
-      subst (λ (s : ℕ). Behind kc (p + 1) s start offset (drop 1 bytes) kc) same (behind-char kc (p + 1) start offset (drop 1 bytes) (omega arith) (omega arith) (omega arith)) in
+    subst (λ (s : ℕ). Behind kc (p + 1) s start offset (drop 1 bytes) kc) same (behind-char kc (p + 1) start offset (drop 1 bytes) (omega arith) (omega arith) (omega arith)) in
     (kc, subst (λ (s : ℕ). Behind (suc kc) p s start offset bytes kc) (sym e) (behind-two kc p r start offset bytes first second))
 
 -- a line end counts as a line, and the column begins anew behind it
@@ -157,8 +157,8 @@ told-line : (at : ℕ × ℕ) (start offset e : ℕ) (ends starts behind : List 
 told-line (l, c) start offset e ends starts behind same =
     let lines : l + 1 + length ends ≡ l + suc (length ends) = omega arith in
     let columns : base 1 ends + length (begun_between (last_of e ends) offset behind) ≡ 1 + length (begun_between (last_of e ends) offset starts) =
-      ap (λ (b : ℕ). b + length (begun_between (last_of e ends) offset behind)) (base-one ends)
-      ∙ ap (λ (ss : List ℕ). 1 + length ss) (sym same) in
+    ap (λ (b : ℕ). b + length (begun_between (last_of e ends) offset behind)) (base-one ends)
+    ∙ ap (λ (ss : List ℕ). 1 + length ss) (sym same) in
     ap (λ (i : ℕ). (i, base 1 ends + length (begun_between (last_of e ends) offset behind))) lines
     ∙ ap (λ (i : ℕ). (l + suc (length ends), i)) columns
 
@@ -171,54 +171,59 @@ counted-line k p start offset ke kc bytes at next st some fits =
   where
     size : ℕ
     size = line_end bytes
+
     e : ℕ
     e = p + size
+
     ends : List ℕ
     ends = ends_up_to offset (ends_from ke e (drop size bytes))
+
     from : e ≤ last_of e ends
     from =
-      let above : Above (e - 1) ends = up_to-above offset (e - 1) _ (ends-above ke e (e - 1) (drop size bytes) (omega arith)) in
-      let last : e - 1 < last_of e ends = last-above (e - 1) e ends (omega arith) above in
-      omega arith
+        let above : Above (e - 1) ends = up_to-above offset (e - 1) _ (ends-above ke e (e - 1) (drop size bytes) (omega arith)) in
+        let last : e - 1 < last_of e ends = last-above (e - 1) e ends (omega arith) above in
+        omega arith
+
     all : ends_up_to offset (ends_from (suc ke) p bytes) ≡ e ∷ ends
     all = ap (ends_up_to offset) (ends-line ke p bytes (line_end-some bytes some) some) ∙ up_to-here offset e _ (omega arith)
+
     go : (kd : ℕ) → Behind kc p size (last_of e ends) offset bytes kd
-      → place_from (suc k) bytes (offset - p) at ≡ told at start offset (ends_up_to offset (ends_from (suc ke) p bytes)) (starts_from (suc kc) p bytes)
+        → place_from (suc k) bytes (offset - p) at ≡ told at start offset (ends_up_to offset (ends_from (suc ke) p bytes)) (starts_from (suc kc) p bytes)
     go kd b =
-      let left : offset - p - size ≡ offset - e = omega arith in
-      let stands : Stands k e e offset ke kd (drop size bytes) = stands-behind k p start e offset ke (suc kc) kd size bytes st some (omega arith) (omega arith) b.enough in
-      place-line k bytes (offset - p) at some fits
-      ∙ ap (λ (l : ℕ). place_from k (drop size bytes) l (at.0 + 1, 1)) left
-      ∙ next e e ke kd (drop size bytes) (at.0 + 1, 1) stands
-      ∙ told-line at start offset e ends (starts_from (suc kc) p bytes) (starts_from kd e (drop size bytes)) b.same
-      ∙ sym (ap (λ (es : List ℕ). told at start offset es (starts_from (suc kc) p bytes)) all)
+        let left : offset - p - size ≡ offset - e = omega arith in
+        let stands : Stands k e e offset ke kd (drop size bytes) = stands-behind k p start e offset ke (suc kc) kd size bytes st some (omega arith) (omega arith) b.enough in
+        place-line k bytes (offset - p) at some fits
+        ∙ ap (λ (l : ℕ). place_from k (drop size bytes) l (at.0 + 1, 1)) left
+        ∙ next e e ke kd (drop size bytes) (at.0 + 1, 1) stands
+        ∙ told-line at start offset e ends (starts_from (suc kc) p bytes) (starts_from kd e (drop size bytes)) b.same
+        ∙ sym (ap (λ (es : List ℕ). told at start offset es (starts_from (suc kc) p bytes)) all)
 
 counted-on : (k p start offset ke kc : ℕ) (bytes : List ℕ) (at : ℕ × ℕ) → Counted k offset → Stands (suc k) p start offset ke kc bytes → p < offset
     → place_from (suc k) bytes (offset - p) at ≡ told at start offset (ends_up_to offset (ends_from ke p bytes)) (starts_from kc p bytes)
 counted-on k p start offset zero kc bytes at next st here = absurd (omega arith)
 counted-on k p start offset (suc ke) zero bytes at next st here = absurd (omega arith)
 counted-on k p start offset (suc ke) (suc kc) bytes at next st here =
-    elim (cases_lt 0 (line_end bytes))
-    [ inl some ↦ elim (cases_lt (offset - p) (line_end bytes))
-      [ inl over ↦ counted-char k p start offset ke kc bytes at next st here (λ _. over)
-      | inr fits ↦ counted-line k p start offset ke kc bytes at next st some fits
+    elim (cases_lt 0 (line_end bytes)) [
+      | inl some ↦ elim (cases_lt (offset - p) (line_end bytes)) [
+        | inl over ↦ counted-char k p start offset ke kc bytes at next st here (λ _. over)
+        | inr fits ↦ counted-line k p start offset ke kc bytes at next st some fits
       ]
-    | inr none ↦ counted-char k p start offset ke kc bytes at next st here (λ some. absurd (omega arith))
+      | inr none ↦ counted-char k p start offset ke kc bytes at next st here (λ some. absurd (omega arith))
     ]
 
 counted : (k offset : ℕ) → Counted k offset
 counted zero offset p start ke kc bytes at st = reached zero p start offset ke kc bytes at (omega arith)
 counted (suc k) offset p start ke kc bytes at st =
-    elim (cases_lt p offset)
-    [ inl here ↦ counted-on k p start offset ke kc bytes at (counted k offset) st here
-    | inr past ↦ reached (suc k) p start offset ke kc bytes at past
+    elim (cases_lt p offset) [
+      | inl here ↦ counted-on k p start offset ke kc bytes at (counted k offset) st here
+      | inr past ↦ reached (suc k) p start offset ke kc bytes at past
     ]
 
 pub place_counted : (source : List ℕ) (offset : ℕ) → offset ≤ length source → place source offset ≡ (line source offset, column source offset)
 place_counted source offset h =
     let whole : offset - 0 ≡ offset = omega arith in
     let stands : Stands offset 0 0 offset (length source) (length source) source =
-      record { steps = omega arith; within = omega arith; ends = omega arith; starts = omega arith; begun = omega arith } in
+    record { steps = omega arith; within = omega arith; ends = omega arith; starts = omega arith; begun = omega arith } in
     ap (λ (l : ℕ). place_from offset source l (1, 1)) (sym whole)
     ∙ counted offset offset 0 0 (length source) (length source) source (1, 1) stands
     ∙ ap (λ (b : ℕ). (line source offset, b + length (begun_between (line_start source offset) offset (characters source)))) (base-one (ends_up_to offset (line_ends source)))

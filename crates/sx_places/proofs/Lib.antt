@@ -1,3 +1,4 @@
+pub mod Endings
 pub mod Scans
 pub mod Shapes
 pub mod Counts

@@ -1,12 +1,13 @@
 -- One step of each scan over a source, and what lies behind a place in it.
-use Rattle.std.proofs.Common.{◌≡◌, ℕ, zero, suc, ◌+◌, ◌-◌, ◌<◌, ◌≤◌, Bool, true, false, List, [], ◌∷◌, length, drop, filter, refl, ap, sym, subst, inl, inr, arith, cond, nat_le, nat_lt, length-drop}
+use Rattle.std.proofs.Common.{◌≡◌, ℕ, zero, suc, ◌+◌, ◌-◌, ◌<◌, ◌≤◌, true, false, List, [], ◌∷◌, length, drop, refl, ap, sym, subst, ◌∙◌, inl, inr, arith, cond, nat_le, nat_lt}
 use Rattle.std.specs.Prelude.{◌==◌, ◌&&◌, Option, Some, None}
 use Rattle.std.proofs.lemmas.Bool.Decides.{nat_tests}
 use Rattle.std.proofs.lemmas.Bool.{cases_lt}
 use Rattle.bstr.specs.Utf8.{decoded}
-use Rattle.sx_base.specs.Place.{Piece, piece, moved, place_from, line_end, char_size, size_of}
+use Rattle.sx_base.specs.Place.{Piece, moved, place_from, line_end, char_size, size_of}
+use Rattle.sx_places.proofs.Endings.{longest-endings}
 use Rattle.sx_base.proofs.Chars.{decoded-some, decoded-fits}
-use Rattle.sx_places.specs.Lines.{ends_from, starts_from, last_of, ends_up_to, begun_between}
+use Rattle.sx_places.specs.Lines.{longest, endings, ends_from, starts_from, last_of, ends_up_to, begun_between}
 
 -- the size of a character is some, and fits
 size_of-some : (c : Option ℕ) (n : ℕ) → 0 < n → 0 < size_of c n
@@ -34,13 +35,16 @@ pub ends-line : (k p : ℕ) (bytes : List ℕ) → 0 < length bytes → 0 < line
     → ends_from (suc k) p bytes ≡ (p + line_end bytes) ∷ ends_from k (p + line_end bytes) (drop (line_end bytes) bytes)
 unfolding ends_from
 ends-line k p [] some h = absurd (omega arith)
-ends-line k p (b ∷ rest) some h = chosen-yes (line_end (b ∷ rest)) _ _ h
+ends-line k p (b ∷ rest) some h =
+    let same : longest (b ∷ rest) endings ≡ line_end (b ∷ rest) = longest-endings (b ∷ rest) in
+    subst (λ (n : ℕ). ends_from (suc k) p (b ∷ rest) ≡ (p + n) ∷ ends_from k (p + n) (drop n (b ∷ rest))) same
+    (chosen-yes (longest (b ∷ rest) endings) _ _ (subst (λ (n : ℕ). 0 < n) (sym same) h))
 
 pub ends-char : (k p : ℕ) (bytes : List ℕ) → 0 < length bytes → line_end bytes ≡ 0
     → ends_from (suc k) p bytes ≡ ends_from k (p + char_size bytes) (drop (char_size bytes) bytes)
 unfolding ends_from
 ends-char k p [] some h = absurd (omega arith)
-ends-char k p (b ∷ rest) some h = chosen-no (line_end (b ∷ rest)) _ _ h
+ends-char k p (b ∷ rest) some h = chosen-no (longest (b ∷ rest) endings) _ _ (longest-endings (b ∷ rest) ∙ h)
 
 -- the scan for characters
 pub starts-char : (k p : ℕ) (bytes : List ℕ) → 0 < length bytes
@@ -59,6 +63,7 @@ place-line k bytes left at some fits =
   where
     not_none : (n : ℕ) → 0 < n → n == 0 ≡ false
     not_none n h = grind (arith, nat_tests)
+
     piece-line : (n s left : ℕ) → 0 < n → n ≤ left
         → ◌≡◌ {A = Piece} (cond (nat_lt 0 n && nat_le n left) (record { ends = true; size = n }) (record { ends = false; size = s })) (record { ends = true; size = n })
     piece-line n s left some fits = let e : nat_lt 0 n && nat_le n left ≡ true = grind (arith, nat_tests) in rw e
@@ -72,6 +77,7 @@ place-char k bytes left at some none =
   where
     not_none : (n : ℕ) → 0 < n → n == 0 ≡ false
     not_none n h = grind (arith, nat_tests)
+
     piece-char : (n s left : ℕ) → (0 < n → left < n)
         → ◌≡◌ {A = Piece} (cond (nat_lt 0 n && nat_le n left) (record { ends = true; size = n }) (record { ends = false; size = s })) (record { ends = false; size = s })
     piece-char n s left none = let e : nat_lt 0 n && nat_le n left ≡ false = grind (arith, nat_tests) in rw e
@@ -97,8 +103,9 @@ unfolding ends_from
 ends-above zero p b bytes h = tt
 ends-above (suc k) p b [] h = tt
 ends-above (suc k) p b (c ∷ rest) h =
-    tested (Above b) (line_end (c ∷ rest)) _ _
-    (λ some. (omega arith, ends-above k (p + line_end (c ∷ rest)) b (drop (line_end (c ∷ rest)) (c ∷ rest)) (omega arith)))
+    let size : ℕ = longest (c ∷ rest) endings in
+    tested (Above b) size _ _
+    (λ some. (omega arith, ends-above k (p + size) b (drop size (c ∷ rest)) (omega arith)))
     (λ none. ends-above k (p + char_size (c ∷ rest)) b (drop (char_size (c ∷ rest)) (c ∷ rest)) (omega arith))
 
 -- none of them is at or before an offset that is not behind p
@@ -110,9 +117,9 @@ none-up_to offset b (e ∷ ends) h (here, more) =
 pub up_to-above : (offset b : ℕ) (ends : List ℕ) → Above b ends → Above b (ends_up_to offset ends)
 up_to-above offset b [] above = tt
 up_to-above offset b (e ∷ ends) (here, more) =
-    elim (cases_lt offset e)
-    [ inl h ↦ let t : nat_le e offset ≡ false = grind (arith, nat_tests) in rw t (up_to-above offset b ends more)
-    | inr h ↦ let t : nat_le e offset ≡ true = grind (arith, nat_tests) in rw t (here, up_to-above offset b ends more)
+    elim (cases_lt offset e) [
+      | inl h ↦ let t : nat_le e offset ≡ false = grind (arith, nat_tests) in rw t (up_to-above offset b ends more)
+      | inr h ↦ let t : nat_le e offset ≡ true = grind (arith, nat_tests) in rw t (here, up_to-above offset b ends more)
     ]
 
 pub up_to-here : (offset e : ℕ) (ends : List ℕ) → e ≤ offset → ends_up_to offset (e ∷ ends) ≡ e ∷ ends_up_to offset ends

@@ -1,6 +1,6 @@
 -- Line ends are made of whole characters.
-use Rattle.std.proofs.Common.{◌≡◌, ℕ, zero, suc, ◌+◌, ◌-◌, ◌<◌, ◌≤◌, Bool, true, false, List, [], ◌∷◌, length, drop, refl, sym, ◌∙◌, ◌⊎◌, inl, inr, arith, cond, nat_lt, slice_index}
-use Rattle.std.specs.Prelude.{◌==◌, ◌&&◌, if◌then◌else◌}
+use Rattle.std.proofs.Common.{◌≡◌, ℕ, zero, suc, ◌-◌, ◌<◌, Bool, true, false, List, [], ◌∷◌, length, drop, refl, sym, ◌∙◌, ◌⊎◌, inl, inr, arith, cond, nat_lt, slice_index}
+use Rattle.std.specs.Prelude.{◌==◌, ◌&&◌}
 use Rattle.std.proofs.lemmas.Bool.{false≢true}
 use Rattle.std.proofs.lemmas.Bool.Decides.{nat_tests}
 use Rattle.bstr.specs.Utf8.{decoded_by}
@@ -58,18 +58,18 @@ chosen false x y e = inr (refl, e)
 
 front : (n b c d e f m : ℕ) → 0 < n → (0 < c → 1 < n) → (0 < d → 2 < n) → line_end_of b c d ≡ m → 0 < m → Front n b c d e f m
 front n b c d e f m some second third same ends =
-    elim (chosen (b == 0x0A) _ _ same)
-    [ inl (t, g) ↦ let i : b ≡ 0x0A = is b 0x0A t in one_character (one n b c d e some (omega arith) ∙ g)
-    | inr (_, other) ↦ elim (chosen (b == 0x0D) _ _ other)
-      [ inl (t, behind) ↦ let i : b ≡ 0x0D = is b 0x0D t in at_return i behind
-      | inr (_, rest) ↦ elim (chosen (b == 0xC2 && c == 0x85) _ _ rest)
-        [ inl (t, g) ↦ let v = both (b == 0xC2) (c == 0x85) t in let i : b ≡ 0xC2 = is b 0xC2 v.0 in let j : c ≡ 0x85 = is c 0x85 v.1 in
-          one_character (rw (i, j) (next_line n d e (second (omega arith))) ∙ g)
-        | inr (_, last) ↦ elim (chosen (b == 0xE2 && c == 0x80 && d == 0xA8) _ _ last)
-          [ inl (t, g) ↦ let v = both (b == 0xE2 && c == 0x80) (d == 0xA8) t in let w = both (b == 0xE2) (c == 0x80) v.0 in
-            let i : b ≡ 0xE2 = is b 0xE2 w.0 in let j : c ≡ 0x80 = is c 0x80 w.1 in let k : d ≡ 0xA8 = is d 0xA8 v.1 in
-            one_character (rw (i, j, k) (separator n e (third (omega arith))) ∙ g)
-          | inr (_, none) ↦ absurd (omega arith)
+    elim (chosen (b == 0x0A) _ _ same) [
+      | inl (t, g) ↦ let i : b ≡ 0x0A = is b 0x0A t in one_character (one n b c d e some (omega arith) ∙ g)
+      | inr (_, other) ↦ elim (chosen (b == 0x0D) _ _ other) [
+        | inl (t, behind) ↦ let i : b ≡ 0x0D = is b 0x0D t in at_return i behind
+        | inr (_, rest) ↦ elim (chosen (b == 0xC2 && c == 0x85) _ _ rest) [
+          | inl (t, g) ↦ let v = both (b == 0xC2) (c == 0x85) t in let i : b ≡ 0xC2 = is b 0xC2 v.0 in let j : c ≡ 0x85 = is c 0x85 v.1 in
+              one_character (rw (i, j) (next_line n d e (second (omega arith))) ∙ g)
+          | inr (_, last) ↦ elim (chosen (b == 0xE2 && c == 0x80 && d == 0xA8) _ _ last) [
+            | inl (t, g) ↦ let v = both (b == 0xE2 && c == 0x80) (d == 0xA8) t in let w = both (b == 0xE2) (c == 0x80) v.0 in
+                let i : b ≡ 0xE2 = is b 0xE2 w.0 in let j : c ≡ 0x80 = is c 0x80 w.1 in let k : d ≡ 0xA8 = is d 0xA8 v.1 in
+                one_character (rw (i, j, k) (separator n e (third (omega arith))) ∙ g)
+            | inr (_, none) ↦ absurd (omega arith)
           ]
         ]
       ]
@@ -78,13 +78,13 @@ front n b c d e f m some second third same ends =
     at_return : b ≡ 0x0D → cond (c == 0x0A) 2 (cond (c == 0xC2 && d == 0x85) 3 1) ≡ m → Front n b c d e f m
     at_return i behind =
         let low : size_by n b c d e ≡ 1 = one n b c d e some (omega arith) in
-        elim (chosen (c == 0x0A) _ _ behind)
-        [ inl (t, g) ↦ let j : c ≡ 0x0A = is c 0x0A t in
-          after_return 1 (omega arith) (sym g) low (one (n - 1) c d e f (omega (arith, second (omega arith))) (omega arith)) (rw j refl)
-        | inr (_, rest) ↦ elim (chosen (c == 0xC2 && d == 0x85) _ _ rest)
-          [ inl (t, g) ↦ let v = both (c == 0xC2) (d == 0x85) t in let j : c ≡ 0xC2 = is c 0xC2 v.0 in let k : d ≡ 0x85 = is d 0x85 v.1 in
-            after_return 2 (omega arith) (sym g) low (rw (j, k) (next_line (n - 1) e f (omega (arith, third (omega arith))))) (rw (j, k) refl)
-          | inr (_, g) ↦ one_character (low ∙ g)
+        elim (chosen (c == 0x0A) _ _ behind) [
+          | inl (t, g) ↦ let j : c ≡ 0x0A = is c 0x0A t in
+              after_return 1 (omega arith) (sym g) low (one (n - 1) c d e f (omega (arith, second (omega arith))) (omega arith)) (rw j refl)
+          | inr (_, rest) ↦ elim (chosen (c == 0xC2 && d == 0x85) _ _ rest) [
+            | inl (t, g) ↦ let v = both (c == 0xC2) (d == 0x85) t in let j : c ≡ 0xC2 = is c 0xC2 v.0 in let k : d ≡ 0x85 = is d 0x85 v.1 in
+                after_return 2 (omega arith) (sym g) low (rw (j, k) (next_line (n - 1) e f (omega (arith, third (omega arith))))) (rw (j, k) refl)
+            | inr (_, g) ↦ one_character (low ∙ g)
           ]
         ]
 
@@ -99,9 +99,9 @@ shape (b ∷ rest) h =
     let c : ℕ = slice_index rest 0 in let d : ℕ = slice_index rest 1 in
     let second : 0 < c → 1 < length (b ∷ rest) = λ some. stands (b ∷ rest) 1 some in
     let third : 0 < d → 2 < length (b ∷ rest) = λ some. stands (b ∷ rest) 2 some in
-    elim (front (length (b ∷ rest)) b c d (slice_index rest 2) (slice_index rest 3) _ (omega arith) second third refl h)
-    [ one_character e ↦ whole e
-    | after_return r some e f g k ↦ return r some e f (let one_less : length (b ∷ rest) - 1 ≡ length rest = omega arith in rw one_less at g) k
+    elim (front (length (b ∷ rest)) b c d (slice_index rest 2) (slice_index rest 3) _ (omega arith) second third refl h) [
+      | one_character e ↦ whole e
+      | after_return r some e f g k ↦ return r some e f (let one_less : length (b ∷ rest) - 1 ≡ length rest = omega arith in rw one_less at g) k
     ]
 
 pub line_end-some : (bytes : List ℕ) → 0 < line_end bytes → 0 < length bytes

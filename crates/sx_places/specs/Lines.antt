@@ -1,15 +1,29 @@
 -- The line and the column of an offset as R6RS 4.2.2 has them: the line ends and the characters of the whole source,
 -- counted.
-use Rattle.std.specs.Prelude.{ℕ, zero, suc, ◌+◌, Bool, List, [], ◌∷◌, length, drop, filter, ◌&&◌, nat_le, nat_lt, if◌then◌else◌}
-use Rattle.sx_base.specs.Place.{line_end, char_size}
+use Rattle.std.specs.Prelude.{ℕ, zero, suc, ◌+◌, max, List, [], ◌∷◌, length, drop, filter, ◌&&◌, nat_eq, nat_le, nat_lt, if◌then◌else◌}
+use Rattle.std.specs.List.{starts_with}
+use Rattle.sx_base.specs.Place.{char_size}
 
--- the ends of the line ends of bytes that begin at p, where a line end takes its whole size and else a character is
--- stepped over; k steps are enough where the bytes are at most k
+-- what ends a line, in UTF-8: a line feed, a return, a return with a line feed, U+0085, a return with U+0085, U+2028
+abbrev pub endings : List (List ℕ)
+endings = (0x0A ∷ []) ∷ (0x0D ∷ []) ∷ (0x0D ∷ 0x0A ∷ []) ∷ (0xC2 ∷ 0x85 ∷ []) ∷ (0x0D ∷ 0xC2 ∷ 0x85 ∷ []) ∷ (0xE2 ∷ 0x80 ∷ 0xA8 ∷ []) ∷ []
+
+-- the length of a text that the bytes begin with, or 0 where they don't
+abbrev pub front_size : List ℕ → List ℕ → ℕ
+front_size bytes text = if starts_with nat_eq bytes text then length text else 0
+
+-- the length of the longest of some texts that the bytes begin with, or 0 where they begin with none
+unfoldable pub longest : List ℕ → List (List ℕ) → ℕ
+longest bytes [] = 0
+longest bytes (text ∷ texts) = max (front_size bytes text) (longest bytes texts)
+
+-- where the line ends end, in bytes that begin at p: the longest line end that comes is taken whole, and where none
+-- comes a character is stepped over; k steps are enough where there are at most k bytes
 unfoldable pub ends_from : ℕ → ℕ → List ℕ → List ℕ
 ends_from zero p bytes = []
 ends_from (suc k) p [] = []
-ends_from (suc k) p (b ∷ rest) = if nat_lt 0 (line_end (b ∷ rest))
-    then (p + line_end (b ∷ rest)) ∷ ends_from k (p + line_end (b ∷ rest)) (drop (line_end (b ∷ rest)) (b ∷ rest))
+ends_from (suc k) p (b ∷ rest) = if nat_lt 0 (longest (b ∷ rest) endings)
+    then (p + longest (b ∷ rest) endings) ∷ ends_from k (p + longest (b ∷ rest) endings) (drop (longest (b ∷ rest) endings) (b ∷ rest))
     else ends_from k (p + char_size (b ∷ rest)) (drop (char_size (b ∷ rest)) (b ∷ rest))
 
 -- the offsets at which the line ends of a source end, in order

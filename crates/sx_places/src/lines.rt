@@ -1,10 +1,14 @@
-//! The counted line and column.
+//! The line and the column of an offset, by what the whole source has.
 
-ghost use Rattle.std.specs.Prelude.{◌≡◌, ◌≤◌, length};
+ghost use Rattle.std.specs.Prelude.{◌≡◌, ◌≤◌, ℕ, List, length};
+ghost use Rattle.sx_base.specs.Place.{place};
 ghost use Rattle.sx_places.specs.Lines.{line, column};
+
 use sx_base::place::place_of;
 
-/// The line and the column of an offset.
+/// The line and the column of an offset, both from 1: 1 plus the number of line ends that end at or
+/// before it, and 1 plus the number of characters that begin at or after the end of the last of
+/// these, or the start of the source, and before the offset (R6RS 4.2.2). It takes no memory.
 pub fn counted_place(source: &[u8], offset: u32) -> (u64, u64)
     requires { offset ≤ length source.now }
     ensures line { result.0 ≡ line source.now offset }
@@ -12,3 +16,10 @@ pub fn counted_place(source: &[u8], offset: u32) -> (u64, u64)
 {
     place_of(source, offset)
 }
+
+/// The place that `sx_base` defines by its walk is the counted line and column, for every source and
+/// every offset in it.
+pub fn every_place_is_counted()
+    ensures { (source : List ℕ) (offset : ℕ) → offset ≤ length source
+        → place source offset ≡ (line source offset, column source offset) }
+{}
