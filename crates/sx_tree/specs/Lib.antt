@@ -1,0 +1,9 @@
+pub mod Marks
+pub mod Context
+pub mod ContextCode
+pub mod Tree
+pub mod TreeCode
+pub mod Measures
+pub mod Changes
+pub mod Leaves
+pub mod Renaming

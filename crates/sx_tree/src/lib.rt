@@ -1,0 +1,7 @@
+//! Syntax trees as they are meant.
+#![tactic(auto)]
+
+pub mod change;
+pub mod context;
+pub mod marks;
+pub mod stamp;

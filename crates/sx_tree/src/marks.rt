@@ -1,0 +1,146 @@
+//! Lists of marks.
+
+ghost use Rattle.std.specs.Prelude.{◌≡◌, [], ◌∷◌, IfOk, OnOk, OnErr, drop};
+ghost use Rattle.sx_tree.specs.Marks.{is_first, same_mark};
+
+use smallvec::SmallVec;
+use std::alloc::Global;
+use std::marker::Model;
+use std::rc::Rc;
+use sx_base::library::LibName;
+use sx_base::memory::Memory;
+use sx_base::name::{Mark, Name};
+
+/// A place for a mark. A short list has its places ready before it has marks.
+#[derive(Drop, Default)]
+struct Slot {
+    mark: Option<Mark>,
+}
+
+impl Model for Slot {
+    ghost use Rattle.sx_base.specs.declared.name.Mark.{Mark};
+    ghost use Rattle.sx_tree.specs.Marks.{mark_of};
+
+    ghost Value = { Mark };
+
+    ghost view = { λ s. mark_of s.mark };
+}
+
+impl Slot {
+    fn new(mark: Mark) -> Slot
+        ensures { result ≡ mark }
+    {
+        Slot { mark: Some(mark) }
+    }
+
+    /// Another owner of the mark. An empty place takes memory for its name.
+    fn share(&self, alloc: Global) -> Result<Mark, Memory>
+        ensures { IfOk result (λ m. m ≡ self.now) }
+    {
+        match &self.mark {
+            Some(mark) => mark.share(),
+            None => {
+                let library = Rc::new(alloc, LibName::Core)?;
+                Ok(Mark(Name { library, number: 0 }))
+            }
+        }
+    }
+
+    fn is(&self, mark: &Mark) -> bool
+        ensures { result ≡ same_mark self.now mark.now }
+    {
+        match &self.mark {
+            Some(own) => own.0 == mark.0,
+            None => mark.0.number == 0 && *mark.0.library == LibName::Core,
+        }
+    }
+}
+
+/// A list of marks, the newest first. Up to two take no memory.
+#[derive(Drop)]
+pub struct Marks {
+    /// The newest last.
+    slots: SmallVec<Slot, 2>,
+}
+
+impl Model for Marks {
+    ghost use Rattle.std.specs.Prelude.{List, reverse};
+    ghost use Rattle.sx_base.specs.declared.name.Mark.{Mark};
+
+    ghost Value = { List Mark };
+
+    ghost view = { λ m. reverse m.slots.items };
+}
+
+impl Marks {
+    /// No marks.
+    pub fn new(alloc: Global) -> Marks
+        ensures { result ≡ [] }
+    {
+        let slots = SmallVec::new(alloc);
+        Marks { slots }
+    }
+
+    /// Puts a mark before the others. A refusal changes nothing.
+    pub fn push(&mut self, mark: Mark) -> Result<(), Memory>
+        ensures ok { OnOk result (self.new ≡ mark ∷ self.old) }
+        ensures err { OnErr result (self.new ≡ self.old) }
+    {
+        self.slots.push(Slot::new(mark))?;
+        Ok(())
+    }
+
+    /// Takes the newest mark away, where there is one.
+    pub fn pop(&mut self)
+        ensures { self.new ≡ drop 1 self.old }
+    {
+        let _newest = self.slots.pop();
+    }
+
+    /// Whether this mark is the newest.
+    pub fn is_first(&self, mark: &Mark) -> bool
+        ensures { result ≡ is_first mark.now self.now }
+    {
+        match self.slots.as_slice().last() {
+            Some(slot) => slot.is(mark),
+            None => false,
+        }
+    }
+
+    /// Another owner of the same marks.
+    pub fn share(&self, alloc: Global) -> Result<Marks, Memory>
+        ensures { IfOk result (λ m. m ≡ self.now) }
+    {
+        let mut slots = SmallVec::new(alloc);
+        for slot in self.slots.as_slice() {
+            let mark = slot.share(alloc)?;
+            slots.push(Slot::new(mark))?;
+        }
+        Ok(Marks { slots })
+    }
+
+    /// These marks, the newest first.
+    pub fn from_vec(alloc: Global, marks: Vec<Mark>) -> Result<Marks, Memory>
+        ensures { IfOk result (λ m. m ≡ marks.items) }
+    {
+        let mut left = marks;
+        let mut slots = SmallVec::new(alloc);
+        while let Some(mark) = left.pop() {
+            slots.push(Slot::new(mark))?;
+        }
+        Ok(Marks { slots })
+    }
+
+    /// The marks, the newest first.
+    pub fn to_vec(&self, alloc: Global) -> Result<Vec<Mark>, Memory>
+        ensures { IfOk result (λ v. v.items ≡ self.now) }
+    {
+        let mut marks = Vec::new(alloc);
+        for slot in self.slots.as_slice() {
+            let mark = slot.share(alloc)?;
+            marks.push(mark)?;
+        }
+        marks.reverse();
+        Ok(marks)
+    }
+}
