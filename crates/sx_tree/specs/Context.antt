@@ -44,13 +44,3 @@ act (change.Stamp f) c = stamped f c
 abbrev pub acts : List Change → LeafContext → LeafContext
 acts [] c = c
 acts (x ∷ xs) c = acts xs (act x c)
-
--- what a change makes of the marks alone
-abbrev pub remark : Change → List Mark → List Mark
-remark (change.Enter m) ms = m ∷ ms
-remark (change.Leave m f) ms = if is_first m ms then drop 1 ms else m ∷ ms
-remark (change.Stamp f) ms = ms
-
-abbrev pub remarks : List Change → List Mark → List Mark
-remarks [] ms = ms
-remarks (x ∷ xs) ms = remarks xs (remark x ms)

@@ -1,4 +1,5 @@
 pub mod Marks
+pub mod Remarks
 pub mod Context
 pub mod ContextCode
 pub mod Tree

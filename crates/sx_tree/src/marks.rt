@@ -1,8 +1,10 @@
 //! Lists of marks.
 
 ghost use Rattle.std.specs.Prelude.{◌≡◌, [], ◌∷◌, IfOk, OnOk, OnErr, drop};
-ghost use Rattle.sx_tree.specs.Marks.{is_first, same_mark};
+ghost use Rattle.sx_tree.specs.Marks.{is_first, same_mark, unless_first};
+ghost use Rattle.sx_tree.specs.Remarks.{remark};
 
+use crate::change::Change;
 use smallvec::SmallVec;
 use std::alloc::Global;
 use std::marker::Model;
@@ -95,6 +97,32 @@ impl Marks {
         ensures { self.new ≡ drop 1 self.old }
     {
         let _newest = self.slots.pop();
+    }
+
+    /// Changes the marks as those of a leaf.
+    pub fn act(&mut self, change: &Change) -> Result<(), Memory>
+        ensures { OnOk result (self.new ≡ remark change.now self.old) }
+    {
+        match change {
+            Change::Enter(mark) => {
+                let mark = mark.share()?;
+                self.push(mark)
+            }
+            Change::Leave(mark, _) => self.leave(mark),
+            Change::Stamp(_) => Ok(()),
+        }
+    }
+
+    /// Takes the mark away where it is the newest; else puts it before the others.
+    fn leave(&mut self, mark: &Mark) -> Result<(), Memory>
+        ensures { OnOk result (self.new ≡ unless_first mark.now self.old) }
+    {
+        if self.is_first(mark) {
+            self.pop();
+            return Ok(());
+        }
+        let mark = mark.share()?;
+        self.push(mark)
     }
 
     /// Whether this mark is the newest.
