@@ -50,6 +50,12 @@ is_list (leaf s x c) = false
 is_list (pair s a d) = true
 is_list (vector s d) = false
 
+abbrev pub is_pair : Tree → Bool
+is_pair (atom s a) = false
+is_pair (leaf s x c) = false
+is_pair (pair s a d) = true
+is_pair (vector s d) = false
+
 -- as the rest of a list: a list or Nil has no span there
 abbrev pub rest_of : Tree → Tree
 rest_of t = if is_list t then spanned None t else t

@@ -3,5 +3,6 @@
 
 pub mod change;
 pub mod context;
+pub mod laws;
 pub mod marks;
 pub mod stamp;

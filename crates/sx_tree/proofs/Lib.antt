@@ -1,0 +1,5 @@
+pub mod ContextLaws
+pub mod TreeLaws
+pub mod MeasureLaws
+pub mod LeafLaws
+pub mod RenamingLaws
