@@ -3,3 +3,4 @@ pub mod TreeLaws
 pub mod MeasureLaws
 pub mod LeafLaws
 pub mod RenamingLaws
+pub mod MarkLaws

@@ -2,24 +2,16 @@
 use Rattle.std.proofs.Common.{◌≡◌, Bool, true, false, cond, List, [], ◌∷◌, Option, None, Some, refl, ap, sym, ◌∙◌, map}
 use Rattle.std.proofs.lemmas.List.{drop-map}
 use Rattle.std.proofs.lemmas.Bool.Decides.{same_from_decides}
-use Rattle.std.specs.Bool.{Decides}
-use Rattle.sx_base.specs.Named.{Named}
-use Rattle.sx_base.specs.Same.{same_name_cases}
 use Rattle.sx_base.specs.declared.name.Mark.{Mark}
 use Rattle.sx_base.specs.declared.name.FrameNo.{FrameNo}
 use Rattle.sx_tree.specs.Marks.{same_mark, is_first}
+use Rattle.sx_tree.specs.SameMarks.{same_mark_decides}
 use Rattle.sx_tree.specs.Context.{LeafContext, entered, framed, unmarked, left, act, acts}
 use Rattle.sx_tree.specs.Tree.{Tree, atom, leaf, pair, vector}
 use Rattle.sx_tree.specs.Changes.{changed}
 use Rattle.sx_tree.specs.Renaming.{IsOneToOne, renamed_change, renamed_stamp, renamed_context, renamed}
 use Rattle.sx_tree.specs.declared.change.Change.{Change}
 use Rattle.sx_tree.specs.declared.change.Change.TheVariants.{Enter, Leave, Stamp}
-
-mark_by : (m n : Mark) → m.0 ≡ n.0 → m ≡ n
-mark_by m n e = ap (λ (k : Named). let x : Mark = record { 0 = k } in x) e
-
-pub same_mark_decides : (m n : Mark) → Decides (same_mark m n) (m ≡ n)
-same_mark_decides m n = (λ h. mark_by m n ((same_name_cases m.0 n.0).0 h), λ e. (same_name_cases m.0 n.0).1 (ap (λ (x : Mark). x.0) e))
 
 module _ (r : Mark → Mark) (one : IsOneToOne r) where
   same_mark-renamed : (m n : Mark) → same_mark (r m) (r n) ≡ same_mark m n

@@ -1,4 +1,5 @@
 pub mod Marks
+pub mod SameMarks
 pub mod Remarks
 pub mod Context
 pub mod ContextCode

@@ -1,12 +1,15 @@
 //! Lists of marks.
 
-ghost use Rattle.std.specs.Prelude.{◌≡◌, [], ◌∷◌, IfOk, OnOk, OnErr, drop};
+ghost use Rattle.std.specs.Prelude.{◌≡◌, [], ◌∷◌, None, IfOk, OnOk, OnErr, drop};
 ghost use Rattle.sx_tree.specs.Marks.{is_first, same_mark, unless_first};
+ghost use Rattle.sx_tree.specs.Marks.{mark_of};
+ghost use Rattle.sx_tree.specs.SameMarks.{same_mark_per, same_mark_equiv, mark_alike, mark_fed, same_marks, same_marks_per, same_marks_equiv, marks_alike, marks_fed};
 ghost use Rattle.sx_tree.specs.Remarks.{remark};
 
 use crate::change::Change;
 use smallvec::SmallVec;
 use std::alloc::Global;
+use std::hash::{Hash, Hasher};
 use std::marker::Model;
 use std::rc::Rc;
 use sx_base::library::LibName;
@@ -54,6 +57,47 @@ impl Slot {
         match &self.mark {
             Some(own) => own.0 == mark.0,
             None => mark.0.number == 0 && *mark.0.library == LibName::Core,
+        }
+    }
+}
+
+impl Slot {
+    fn is_unfilled(&self) -> bool
+        ensures { result ≡ same_mark self.now (mark_of None) }
+    {
+        match &self.mark {
+            Some(own) => own.0.number == 0 && *own.0.library == LibName::Core,
+            None => true,
+        }
+    }
+}
+
+impl PartialEq for Slot {
+    ghost eq = { same_mark };
+
+    ghost laws = { same_mark_per };
+
+    fn eq(&self, other: &Slot) -> bool {
+        match &other.mark {
+            Some(mark) => self.is(mark),
+            None => self.is_unfilled(),
+        }
+    }
+}
+
+impl Eq for Slot {
+    ghost laws = { same_mark_equiv };
+}
+
+impl Hash for Slot {
+    ghost hash_input = { mark_fed };
+
+    ghost respects_eq = { mark_alike };
+
+    fn hash<H: Hasher>(&self, state: &mut H) {
+        match &self.mark {
+            Some(mark) => mark.0.number.hash(state),
+            None => 0u64.hash(state),
         }
     }
 }
@@ -170,5 +214,29 @@ impl Marks {
         }
         marks.reverse();
         Ok(marks)
+    }
+}
+
+impl PartialEq for Marks {
+    ghost eq = { same_marks };
+
+    ghost laws = { same_marks_per };
+
+    fn eq(&self, other: &Marks) -> bool {
+        self.slots.as_slice() == other.slots.as_slice()
+    }
+}
+
+impl Eq for Marks {
+    ghost laws = { same_marks_equiv };
+}
+
+impl Hash for Marks {
+    ghost hash_input = { marks_fed };
+
+    ghost respects_eq = { marks_alike };
+
+    fn hash<H: Hasher>(&self, state: &mut H) {
+        self.slots.as_slice().hash(state);
     }
 }
