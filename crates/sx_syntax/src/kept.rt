@@ -1,0 +1,191 @@
+//! Kept trees: nodes with pending changes, shared by their owners.
+
+ghost use Rattle.std.specs.Prelude.{◌≡◌, ◌<◌, ◌≤◌, IfOk};
+ghost use Rattle.sx_tree.specs.Tree.{spanned};
+ghost use Rattle.sx_tree.specs.Measures.{height, size, Fits};
+ghost use Rattle.sx_tree.specs.Changes.{changed};
+ghost use Rattle.sx_syntax.specs.Kept.{lazily};
+ghost use Rattle.sx_syntax.specs.KeptView.{run_of, form_of, seen, InForm};
+
+use crate::base::Base;
+use crate::wrap::Wrap;
+use std::alloc::Global;
+use std::marker::Model;
+use std::rc::{Rc, RcSlice};
+use sx_base::atom::Atom;
+use sx_base::memory::Memory;
+use sx_base::span::{Span, share_span};
+use sx_base::symbol::Symbol;
+
+/// A shared tree, seen as the tree that is meant and how deep its nodes nest.
+#[cycle(kept)]
+#[derive(Drop)]
+pub(crate) struct Kept {
+    pub(crate) node: Rc<Node>,
+}
+
+/// A shape with a span, and then the changes.
+#[cycle(kept)]
+#[derive(Drop)]
+pub(crate) struct Node {
+    pub(crate) wrap: Wrap,
+    pub(crate) span: Option<Span>,
+    pub(crate) shape: Shape,
+}
+
+#[cycle(kept)]
+#[derive(Drop)]
+pub(crate) enum Shape {
+    Atom(Atom),
+    Leaf(Symbol, Base),
+    List(Slice),
+    Vector(Slice),
+}
+
+/// The items from a place on, and then the tail. The rest of a list is the same items from the next
+/// place on.
+#[cycle(kept)]
+#[derive(Drop)]
+pub(crate) struct Slice {
+    pub(crate) items: RcSlice<Item>,
+    pub(crate) from: usize,
+    pub(crate) tail: Option<Kept>,
+}
+
+/// An element, and the extent of the list from here.
+#[cycle(kept)]
+#[derive(Drop)]
+pub(crate) struct Item {
+    pub(crate) tree: Kept,
+    pub(crate) extent: Extent,
+}
+
+/// A height and a size.
+#[derive(Clone, Copy, Drop)]
+pub(crate) struct Extent {
+    pub(crate) height: u32,
+    pub(crate) size: u32,
+}
+
+impl Model for Kept {
+    ghost use Rattle.std.specs.Prelude.{ℕ};
+    ghost use Rattle.sx_syntax.specs.Kept.{Lazily, lazily_code};
+
+    ghost Value = { Lazily };
+
+    ghost coded = { lazily_code };
+
+    ghost use Rattle.sx_syntax.specs.KeptView.{view_of, form_of, InForm};
+
+    ghost view = { λ k. view_of k.node.value };
+
+    ghost invariant = { λ k. InForm (form_of k.node.value.shape) };
+
+    ghost size = { λ v. v.depth };
+
+    ghost use Rattle.sx_syntax.specs.KeptFalls.{shape_falls};
+    ghost use Rattle.std.proofs.Common.{arith};
+
+    ghost size_decreases = { λ k h. omega (arith, shape_falls k.node.value.shape) };
+}
+
+/// Another owner of the same tail.
+fn share_tail(tail: &Option<Kept>) -> Result<Option<Kept>, Memory>
+    ensures { IfOk result (λ t. t ≡ tail.now) }
+{
+    match tail {
+        None => Ok(None),
+        Some(tail) => {
+            let tail = tail.share()?;
+            Ok(Some(tail))
+        }
+    }
+}
+
+impl Slice {
+    fn share(&self) -> Result<Slice, Memory>
+        ensures { IfOk result (λ s. run_of s ≡ run_of self.now) }
+    {
+        let items = self.items.clone()?;
+        let tail = share_tail(&self.tail)?;
+        Ok(Slice {
+            items,
+            from: self.from,
+            tail,
+        })
+    }
+}
+
+impl Shape {
+    fn share(&self) -> Result<Shape, Memory>
+        ensures { IfOk result (λ s. form_of s ≡ form_of self.now) }
+    {
+        match self {
+            Shape::Atom(atom) => {
+                let atom = atom.share()?;
+                Ok(Shape::Atom(atom))
+            }
+            Shape::Leaf(symbol, base) => {
+                let symbol = symbol.share()?;
+                let base = base.share()?;
+                Ok(Shape::Leaf(symbol, base))
+            }
+            Shape::List(slice) => {
+                let slice = slice.share()?;
+                Ok(Shape::List(slice))
+            }
+            Shape::Vector(slice) => {
+                let slice = slice.share()?;
+                Ok(Shape::Vector(slice))
+            }
+        }
+    }
+}
+
+impl Kept {
+    /// A node of its own.
+    pub(crate) fn new(
+        alloc: Global,
+        wrap: Wrap,
+        span: Option<Span>,
+        shape: Shape,
+    ) -> Result<Kept, Memory>
+        requires { InForm (form_of shape) }
+        ensures { IfOk result (λ k. k ≡ seen wrap span (form_of shape)) }
+    {
+        let node = Rc::new(alloc, Node { wrap, span, shape })?;
+        Ok(Kept { node })
+    }
+
+    /// Another owner of the same tree.
+    pub(crate) fn share(&self) -> Result<Kept, Memory>
+        ensures { IfOk result (λ k. k ≡ self.now) }
+    {
+        let node = self.node.clone()?;
+        Ok(Kept { node })
+    }
+
+    /// The tree under these changes: one node, and none where there is no change.
+    pub(crate) fn under(&self, alloc: Global, outer: &Wrap) -> Result<Kept, Memory>
+        ensures { IfOk result (λ k. k ≡ lazily (changed outer.now self.now.tree) self.now.depth) }
+    {
+        if outer.is_none() {
+            return self.share();
+        }
+        let node: &Node = &self.node;
+        let wrap = node.wrap.then(alloc, outer)?;
+        let span = share_span(&node.span)?;
+        let shape = node.shape.share()?;
+        Kept::new(alloc, wrap, span, shape)
+    }
+
+    /// The tree with this span at its root.
+    pub(crate) fn spanned(&self, alloc: Global, span: Option<Span>) -> Result<Kept, Memory>
+        ensures { IfOk result (λ k. k ≡ lazily (spanned span self.now.tree) self.now.depth) }
+    {
+        let node: &Node = &self.node;
+        let wrap = node.wrap.share()?;
+        let shape = node.shape.share()?;
+        Kept::new(alloc, wrap, span, shape)
+    }
+}

@@ -1,0 +1,6 @@
+//! Shared syntax trees.
+#![tactic(auto)]
+
+mod base;
+mod kept;
+mod wrap;
