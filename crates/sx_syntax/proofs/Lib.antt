@@ -1,2 +1,4 @@
 pub mod WrapLemmas
 pub mod KeptLemmas
+pub mod FormLemmas
+pub mod NodeLemmas

@@ -1,5 +1,5 @@
 -- What nodes mean, and the form that they have.
-use Rattle.std.specs.Prelude.{◌≡◌, ℕ, suc, ◌+◌, ◌<◌, max, false, List, [], ◌∷◌, Option, None, Some, drop, length, get_or}
+use Rattle.std.specs.Prelude.{◌≡◌, ℕ, suc, ◌+◌, ◌<◌, max, false, List, [], ◌∷◌, Option, None, Some, drop, length, get_or, ◌⊎◌}
 use Rattle.std.specs.Rc.{rc_slice_items}
 use Rattle.sx_base.specs.declared.atom.Atom.{Atom}
 use Rattle.sx_base.specs.declared.span.Span.{Span}
@@ -97,6 +97,11 @@ AreItems (i ∷ is) t = IsSettled i.tree × IsExtent i.extent (chain (trees (i �
 abbrev pub IsEnd : Option Lazily → Type 0
 IsEnd None = Unit {0}
 IsEnd (Some t) = (is_list t.tree ≡ false) × IsSettled t
+
+-- it has an element, or ends at once
+pub record IsRun (r : Run) : Type 0 where
+  pub items : AreItems r.items (end_of r.tail)
+  pub ends : r.from < length r.items ⊎ (r.tail ≡ None)
 
 pub record IsListRun (r : Run) : Type 0 where
   pub items : AreItems r.items (end_of r.tail)

@@ -2,5 +2,6 @@ pub mod Pending
 pub mod Kept
 pub mod KeptView
 pub mod KeptFalls
+pub mod Extents
 pub mod Built
 pub mod Refuses

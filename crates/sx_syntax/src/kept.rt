@@ -1,11 +1,13 @@
 //! Kept trees: nodes with pending changes, shared by their owners.
 
-ghost use Rattle.std.specs.Prelude.{◌≡◌, ◌<◌, ◌≤◌, IfOk};
-ghost use Rattle.sx_tree.specs.Tree.{spanned};
+ghost use Rattle.std.specs.Prelude.{◌≡◌, ◌<◌, ◌≤◌, length, false, IfOk};
+ghost use Rattle.std.specs.Rc.{rc_slice_items};
+ghost use Rattle.sx_tree.specs.Tree.{spanned, chain, nil, is_list};
 ghost use Rattle.sx_tree.specs.Measures.{height, size, Fits};
+ghost use Rattle.sx_tree.specs.Leaves.{marks_of, context_of};
 ghost use Rattle.sx_tree.specs.Changes.{changed};
-ghost use Rattle.sx_syntax.specs.Kept.{lazily};
-ghost use Rattle.sx_syntax.specs.KeptView.{run_of, form_of, seen, InForm};
+ghost use Rattle.sx_syntax.specs.Kept.{lazily, kept_trees, IsSettled};
+ghost use Rattle.sx_syntax.specs.KeptView.{run_of, run_tree, run_rest, form_of, seen, InForm, IsRun, IsListRun, IsVectorRun, IsExtent, IsFirst};
 
 use crate::base::Base;
 use crate::wrap::Wrap;
@@ -16,6 +18,8 @@ use sx_base::atom::Atom;
 use sx_base::memory::Memory;
 use sx_base::span::{Span, share_span};
 use sx_base::symbol::Symbol;
+use sx_tree::context::Context;
+use sx_tree::marks::Marks;
 
 /// A shared tree, seen as the tree that is meant and how deep its nodes nest.
 #[cycle(kept)]
@@ -103,6 +107,60 @@ fn share_tail(tail: &Option<Kept>) -> Result<Option<Kept>, Memory>
 }
 
 impl Slice {
+    /// The height and the size of what counts.
+    fn extent(&self) -> Extent
+        requires { IsRun (run_of self.now) }
+        ensures { IsExtent result (run_tree (run_of self.now)) }
+    {
+        let items = self.items.as_slice();
+        if self.from < items.len() {
+            items[self.from].extent
+        } else {
+            Extent { height: 1, size: 1 }
+        }
+    }
+
+    /// The first element, under these changes.
+    fn first(&self, alloc: Global, wrap: &Wrap) -> Result<Kept, Memory>
+        requires { self.now.from < length (rc_slice_items self.now.items) }
+        ensures { IfOk result (λ k. IsFirst k.tree wrap.now (run_of self.now)) }
+    {
+        let items = self.items.as_slice();
+        items[self.from].tree.under(alloc, wrap)
+    }
+
+    /// What stands behind it, under these changes.
+    fn rest(&self, alloc: Global, wrap: &Wrap) -> Result<Kept, Memory>
+        requires { IsListRun (run_of self.now) }
+        ensures { IfOk result (λ k. k.tree ≡ changed wrap.now (run_rest (run_of self.now))) }
+    {
+        let from = self.from + 1;
+        if from < self.items.len() {
+            let items = self.items.clone()?;
+            let tail = share_tail(&self.tail)?;
+            let wrap = wrap.share()?;
+            Kept::new(alloc, wrap, None, Shape::List(Slice { items, from, tail }))
+        } else {
+            match &self.tail {
+                None => Kept::new(alloc, Wrap::none(), None, Shape::Atom(Atom::Nil)),
+                Some(tail) => tail.under(alloc, wrap),
+            }
+        }
+    }
+
+    /// The elements of a vector, under these changes.
+    fn elements(&self, alloc: Global, wrap: &Wrap) -> Result<Vec<Kept>, Memory>
+        requires { IsVectorRun (run_of self.now) }
+        ensures { IfOk result (λ v. chain (kept_trees v.items) nil ≡ changed wrap.now (run_tree (run_of self.now))) }
+    {
+        let mut elements = Vec::new(alloc);
+        for item in self.items.as_slice() {
+            let element = item.tree.under(alloc, wrap)?;
+            elements.push(element)?;
+        }
+        Ok(elements)
+    }
+
     fn share(&self) -> Result<Slice, Memory>
         ensures { IfOk result (λ s. run_of s ≡ run_of self.now) }
     {
@@ -187,5 +245,54 @@ impl Kept {
         let wrap = node.wrap.share()?;
         let shape = node.shape.share()?;
         Kept::new(alloc, wrap, span, shape)
+    }
+
+    pub(crate) fn extent(&self) -> Extent
+        ensures { IsExtent result self.now.tree }
+    {
+        let node: &Node = &self.node;
+        match &node.shape {
+            Shape::Atom(_) => Extent { height: 1, size: 1 },
+            Shape::Leaf(_, _) => Extent { height: 1, size: 1 },
+            Shape::List(slice) => slice.extent(),
+            Shape::Vector(slice) => slice.extent(),
+        }
+    }
+
+    /// It is within the limits, and so is the depth of its nodes.
+    pub(crate) fn within(&self)
+        ensures fits { Fits self.now.tree }
+        ensures depth { self.now.depth < 1000 }
+        ensures settled { is_list self.now.tree ≡ false → IsSettled self.now }
+    {
+        let _node = &self.node;
+    }
+
+    /// The marks of a leaf, and none of what is no leaf.
+    pub(crate) fn marks(&self, alloc: Global) -> Result<Marks, Memory>
+        ensures { IfOk result (λ m. m ≡ marks_of self.now.tree) }
+    {
+        let node: &Node = &self.node;
+        match &node.shape {
+            Shape::Leaf(_, base) => {
+                let marks = base.marks(alloc)?;
+                node.wrap.marks(marks)
+            }
+            _ => Ok(Marks::new(alloc)),
+        }
+    }
+
+    /// The context of a leaf, and a blank one of what is no leaf.
+    pub(crate) fn context(&self, alloc: Global) -> Result<Context, Memory>
+        ensures { IfOk result (λ c. c ≡ context_of self.now.tree) }
+    {
+        let node: &Node = &self.node;
+        match &node.shape {
+            Shape::Leaf(_, base) => {
+                let context = base.context(alloc)?;
+                node.wrap.context(alloc, context)
+            }
+            _ => Ok(Context::blank(alloc)),
+        }
     }
 }

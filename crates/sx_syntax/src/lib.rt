@@ -2,5 +2,6 @@
 #![tactic(auto)]
 
 mod base;
+mod builder;
 mod kept;
 mod wrap;
