@@ -110,3 +110,46 @@ seen_settled ws s f k shown h e =
 -- a list from its start is settled
 pub list_settled : (ws : List Change) (s : Option Span) (r : Run) → IsListRun r → r.from ≡ 0 → IsSettled (seen ws s (list_form r))
 list_settled ws s r h e = rw (height-changed ws (spanned s (run_tree r)), height-spanned s (run_tree r), whole r e) (list_deep r h)
+
+-- the items from the start on are a list of their own
+later_items : (is : List Item) (t : Tree) (k : ℕ) → AreItems is t → AreItems (drop k is) t
+later_items [] t zero h = h
+later_items [] t (suc k) h = h
+later_items (i ∷ is) t zero h = h
+later_items (i ∷ is) t (suc k) h = later_items is t k h.2
+
+pub list_from_start : (r q : Run) → IsListRun r → q.items ≡ drop r.from r.items → q.from ≡ 0 → q.tail ≡ r.tail → IsListRun q
+list_from_start r q h i f t = record {
+  items = subst (λ is. AreItems is (end_of q.tail)) (sym i) (subst (λ o. AreItems (drop r.from r.items) (end_of o)) (sym t) (later_items r.items (end_of r.tail) r.from h.items));
+  some = let l = h.some in omega (arith, f, ap length i, length-drop r.from r.items);
+  ends = subst IsEnd (sym t) h.ends;
+  fits = subst (λ is. Fits (chain (trees is) (end_of q.tail))) (sym i) (subst (λ o. Fits (chain (trees (drop r.from r.items)) (end_of o))) (sym t) (run_fits r h.fits));
+}
+
+-- items that were just put together
+pub new_list : (q : Run) (es : List Tree) (o : Option Lazily) → AreItems q.items (end_of q.tail) → IsEnd q.tail → Fits (chain es (end_of o)) → trees q.items ≡ es → q.from ≡ 0 → q.tail ≡ o → 0 < length es → IsListRun q
+new_list q es o h e fits i f t l = record {
+  items = h;
+  some = omega (arith, f, ap length i, length-trees q.items);
+  ends = e;
+  fits = subst (λ xs. Fits (chain xs (end_of q.tail))) (sym i) (subst (λ u. Fits (chain es (end_of u))) (sym t) fits);
+}
+  where
+    length-trees : (is : List Item) → length (trees is) ≡ length is
+    length-trees [] = refl
+    length-trees (j ∷ js) = ap suc (length-trees js)
+
+pub new_vector : (q : Run) (es : List Tree) (o : Option Lazily) → AreItems q.items (end_of q.tail) → Fits (chain es (end_of o)) → trees q.items ≡ es → q.from ≡ 0 → q.tail ≡ o → o ≡ None → IsVectorRun q
+new_vector q es o h fits i f t n = record {
+  items = h;
+  whole = f;
+  ended = t ∙ n;
+  fits = subst (λ xs. Fits (chain xs (end_of q.tail))) (sym i) (subst (λ u. Fits (chain es (end_of u))) (sym t) fits);
+}
+
+pub new_tree : (q : Run) (es : List Tree) (o : Option Lazily) → trees q.items ≡ es → q.from ≡ 0 → q.tail ≡ o → run_tree q ≡ chain es (end_of o)
+new_tree q es o i f t = whole q f ∙ ap (λ xs. chain xs (end_of q.tail)) i ∙ ap (λ u. chain es (end_of u)) t
+
+-- a vector is settled
+pub vector_settled : (ws : List Change) (s : Option Span) (r : Run) → IsVectorRun r → IsSettled (seen ws s (vector_form r))
+vector_settled ws s r h = rw (height-changed ws (vector s (run_tree r)), whole r h.whole) (vector_deep r h)

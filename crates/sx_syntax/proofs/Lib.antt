@@ -2,3 +2,4 @@ pub mod WrapLemmas
 pub mod KeptLemmas
 pub mod FormLemmas
 pub mod NodeLemmas
+pub mod BuiltLemmas

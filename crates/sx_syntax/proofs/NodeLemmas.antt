@@ -11,15 +11,16 @@ use Rattle.sx_tree.specs.Leaves.{context_of, marks_of}
 use Rattle.sx_tree.specs.declared.change.Change.{Change}
 use Rattle.sx_tree.proofs.ContextLaws.{marks-acts}
 use Rattle.sx_tree.proofs.TreeLaws.{changed-chain}
-use Rattle.sx_syntax.specs.Kept.{Lazily, lazily, end_of, kept_trees}
+use Rattle.sx_syntax.specs.Kept.{Lazily, IsSettled, lazily, end_of, kept_trees}
 use Rattle.sx_syntax.specs.KeptView.{Run, Form, leaf_form, list_form, vector_form, form_of, run_of, trees, run_tree, run_rest, form_tree, seen, view_of, IsExtent, IsListRun, IsVectorRun, InForm, IsFirst}
 use Rattle.sx_syntax.specs.declared.base.Base.{Base}
 use Rattle.sx_syntax.specs.declared.kept.Item.{Item}
+use Rattle.sx_syntax.specs.declared.kept.Slice.{Slice}
 use Rattle.sx_syntax.specs.declared.kept.Extent.{Extent}
 use Rattle.sx_syntax.specs.declared.kept.Node.{Node}
 use Rattle.sx_syntax.specs.declared.kept.Shape.{Shape}
 use Rattle.sx_syntax.specs.declared.kept.Shape.TheVariants as shape
-use Rattle.sx_syntax.proofs.FormLemmas.{extent_seen, seen_fits, seen_deep, seen_settled, run_is_list}
+use Rattle.sx_syntax.proofs.FormLemmas.{extent_seen, list_settled, vector_settled}
 
 some_bare : (ws : List Change) (s : Option Span) (is : List Item) (t : Tree) → 0 < length is → context_of (changed ws (spanned s (chain (trees is) t))) ≡ blank
 some_bare ws s [] t h = absurd (omega arith)
@@ -71,6 +72,12 @@ rest_shown ws vs r q w i t f l =
     ap (λ x. changed x (spanned None (run_tree q))) w ∙ ap (λ x. changed ws (spanned None x)) tree
     ∙ ap (changed ws) (spanned_some (drop (suc r.from) r.items) (end_of r.tail) (omega (arith, length-drop (suc r.from) r.items)))
 
+shape_settled : (ws : List Change) (s : Option Span) (f : Shape) → InForm (form_of f) → ((r : Slice) → f ≡ shape.List r → ⊥) → IsSettled (seen ws s (form_of f))
+shape_settled ws s (shape.Atom a) h none = omega arith
+shape_settled ws s (shape.Leaf x c) h none = omega arith
+shape_settled ws s (shape.List r) h none = absurd (none r refl)
+shape_settled ws s (shape.Vector r) h none = vector_settled ws s (run_of r) h
+
 module _ (n : Node) (k : Lazily) (shown : view_of n ≡ k) where
   pub extent_node : (e : Extent) (f : Form) → form_of n.shape ≡ f → IsExtent e (form_tree f) → IsExtent e k.tree
   extent_node e f g h = extent_seen n.wrap n.span (form_of n.shape) k e shown (subst (λ x. IsExtent e (form_tree x)) (sym g) h)
@@ -81,3 +88,10 @@ module _ (n : Node) (k : Lazily) (shown : view_of n ≡ k) where
 
   pub bare_node : InForm (form_of n.shape) → ((x : Symbol) (c : Base) → n.shape ≡ shape.Leaf x c → ⊥) → context_of k.tree ≡ blank
   bare_node h none = sym (ap (λ (y : Lazily). context_of y.tree) shown) ∙ shape_bare n.wrap n.span n.shape h none
+
+  pub settled_list : InForm (form_of n.shape) → (r : Run) → form_of n.shape ≡ list_form r → r.from ≡ 0 → IsSettled k
+  settled_list h r g e =
+      subst IsSettled shown (subst (λ f. IsSettled (seen n.wrap n.span f)) (sym g) (list_settled n.wrap n.span r (subst InForm g h) e))
+
+  pub settled_other : InForm (form_of n.shape) → ((r : Slice) → n.shape ≡ shape.List r → ⊥) → IsSettled k
+  settled_other h none = subst IsSettled shown (shape_settled n.wrap n.span n.shape h none)

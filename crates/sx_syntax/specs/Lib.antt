@@ -4,4 +4,5 @@ pub mod KeptView
 pub mod KeptFalls
 pub mod Extents
 pub mod Built
+pub mod Opens
 pub mod Refuses

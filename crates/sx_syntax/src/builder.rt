@@ -1,23 +1,27 @@
 //! Lists in the making, from their last element to their first.
 
-ghost use Rattle.std.specs.Prelude.{◌≡◌, ◌≤◌, [], IfOk, IfErr, OnOk};
+ghost use Rattle.std.specs.Prelude.{◌≡◌, ◌<◌, ◌≤◌, [], length, None, IfOk, IfErr, OnOk};
 ghost use Rattle.std.specs.Rc.{rc_slice_items};
 ghost use Rattle.sx_base.specs.declared.fault.BareStop.TheVariants as stop;
-ghost use Rattle.sx_tree.specs.Tree.{is_list};
+ghost use Rattle.sx_tree.specs.Tree.{spanned, vector, rest_of};
+ghost use Rattle.sx_tree.specs.Changes.{changed};
 ghost use Rattle.sx_tree.specs.Measures.{Fits, joint, too_deep};
 ghost use Rattle.sx_syntax.specs.Kept.{IsSettled, end_of};
-ghost use Rattle.sx_syntax.specs.KeptView.{IsEnd, IsExtent, AreItems, trees, run_of, run_tree, InForm, list_form, vector_form};
+ghost use Rattle.sx_syntax.specs.KeptView.{IsEnd, IsExtent, IsListRun, AreItems, trees, run_of, run_tree, InForm, list_form, vector_form};
 ghost use Rattle.sx_syntax.specs.Built.{Built, built_tree, with_front, Extends};
 ghost use Rattle.sx_syntax.specs.Extents.{Grows, grown_height, grown_size};
 ghost use Rattle.sx_syntax.specs.Refuses.{Refuses};
 
-use crate::kept::{Extent, Item, Kept, Slice};
+use crate::kept::{Extent, Item, Kept, Node, Shape, Slice};
+use crate::wrap::Wrap;
 use std::alloc::Global;
 use std::marker::Model;
 use std::rc::RcSlice;
+use sx_base::atom::Atom;
 use sx_base::fault::{Bare, BareStop, FaultKind};
 use sx_base::items::Items;
 use sx_base::memory::Memory;
+use sx_base::span::Span;
 
 const MAX_HEIGHT: u32 = 1000;
 
@@ -174,5 +178,76 @@ impl Builder {
             from: 0,
             tail,
         })
+    }
+
+    /// The list, with this span. It has an element.
+    pub(crate) fn into_list(self, alloc: Global, span: Option<Span>) -> Result<Kept, Memory>
+        requires { 0 < length self.elements }
+        ensures tree { IfOk result (λ k. k.tree ≡ spanned span (built_tree self)) }
+        ensures settled { IfOk result (λ k. IsSettled k) }
+    {
+        let slice = self.slice()?;
+        Kept::new(alloc, Wrap::none(), span, Shape::List(slice))
+    }
+
+    /// The vector of the elements, with this span. Nothing stands behind them.
+    pub(crate) fn into_vector(self, alloc: Global, span: Option<Span>) -> Result<Kept, Memory>
+        requires { self.tail ≡ None }
+        ensures tree { IfOk result (λ k. k.tree ≡ vector span (built_tree self)) }
+        ensures settled { IfOk result (λ k. IsSettled k) }
+    {
+        let slice = self.slice()?;
+        Kept::new(alloc, Wrap::none(), span, Shape::Vector(slice))
+    }
+}
+
+/// The tail under these changes.
+fn tail_under(alloc: Global, tail: &Option<Kept>, wrap: &Wrap) -> Result<Option<Kept>, Memory>
+    ensures tree { IfOk result (λ t. end_of t ≡ changed wrap.now (end_of tail.now)) }
+    ensures ends { IfOk result (λ t. IsEnd tail.now → IsEnd t) }
+{
+    match tail {
+        None => Ok(None),
+        Some(tail) => {
+            let tail = tail.under(alloc, wrap)?;
+            Ok(Some(tail))
+        }
+    }
+}
+
+impl Slice {
+    /// The elements and the tail under these changes, to put more before them.
+    fn reopened(&self, alloc: Global, wrap: &Wrap) -> Result<Builder, Memory>
+        requires { IsListRun (run_of self.now) }
+        ensures { IfOk result (λ b. built_tree b ≡ changed wrap.now (run_tree (run_of self.now))) }
+    {
+        let tail = tail_under(alloc, &self.tail, wrap)?;
+        let mut builder = Builder::before(alloc, tail);
+        let items = self.items.as_slice();
+        let mut at = items.len();
+        while self.from < at {
+            at -= 1;
+            let tree = items[at].tree.under(alloc, wrap)?;
+            builder.push_part(tree)?;
+        }
+        Ok(builder)
+    }
+}
+
+impl Kept {
+    /// The tree as the rest of a list, to put elements before it.
+    pub(crate) fn reopened(&self, alloc: Global) -> Result<Builder, Memory>
+        ensures { IfOk result (λ b. built_tree b ≡ rest_of self.now.tree) }
+    {
+        self.within();
+        let node: &Node = &self.node;
+        match &node.shape {
+            Shape::Atom(Atom::Nil) => Ok(Builder::before(alloc, None)),
+            Shape::List(slice) => slice.reopened(alloc, &node.wrap),
+            _ => {
+                let tail = self.share()?;
+                Ok(Builder::before(alloc, Some(tail)))
+            }
+        }
     }
 }

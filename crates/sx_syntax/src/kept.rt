@@ -1,6 +1,6 @@
 //! Kept trees: nodes with pending changes, shared by their owners.
 
-ghost use Rattle.std.specs.Prelude.{◌≡◌, ◌<◌, ◌≤◌, length, false, IfOk};
+ghost use Rattle.std.specs.Prelude.{◌≡◌, ◌<◌, ◌≤◌, [], ◌∷◌, length, true, false, IfOk, IsTrue};
 ghost use Rattle.std.specs.Rc.{rc_slice_items};
 ghost use Rattle.sx_tree.specs.Tree.{spanned, chain, nil, is_list};
 ghost use Rattle.sx_tree.specs.Measures.{height, size, Fits};
@@ -18,6 +18,7 @@ use sx_base::atom::Atom;
 use sx_base::memory::Memory;
 use sx_base::span::{Span, share_span};
 use sx_base::symbol::Symbol;
+use sx_tree::change::Change;
 use sx_tree::context::Context;
 use sx_tree::marks::Marks;
 
@@ -106,6 +107,18 @@ fn share_tail(tail: &Option<Kept>) -> Result<Option<Kept>, Memory>
     }
 }
 
+impl Item {
+    fn share(&self) -> Result<Item, Memory>
+        ensures { IfOk result (λ i. i ≡ self.now) }
+    {
+        let tree = self.tree.share()?;
+        Ok(Item {
+            tree,
+            extent: self.extent,
+        })
+    }
+}
+
 impl Slice {
     /// The height and the size of what counts.
     fn extent(&self) -> Extent
@@ -159,6 +172,27 @@ impl Slice {
             elements.push(element)?;
         }
         Ok(elements)
+    }
+
+    /// The same list, with no item before its start.
+    fn from_start(&self, alloc: Global) -> Result<Slice, Memory>
+        requires { IsListRun (run_of self.now) }
+        ensures form { IfOk result (λ s. IsListRun (run_of s)) }
+        ensures start { IfOk result (λ s. s.from ≡ 0) }
+        ensures tree { IfOk result (λ s. run_tree (run_of s) ≡ run_tree (run_of self.now)) }
+    {
+        let mut items = Vec::new(alloc);
+        for item in &self.items.as_slice()[self.from..] {
+            let item = item.share()?;
+            items.push(item)?;
+        }
+        let items = RcSlice::from_vec(items)?;
+        let tail = share_tail(&self.tail)?;
+        Ok(Slice {
+            items,
+            from: 0,
+            tail,
+        })
     }
 
     fn share(&self) -> Result<Slice, Memory>
@@ -237,6 +271,17 @@ impl Kept {
         Kept::new(alloc, wrap, span, shape)
     }
 
+    /// The tree under one more change: one node.
+    pub(crate) fn changed(&self, alloc: Global, change: Change) -> Result<Kept, Memory>
+        ensures { IfOk result (λ k. k ≡ lazily (changed (change ∷ []) self.now.tree) self.now.depth) }
+    {
+        let node: &Node = &self.node;
+        let wrap = node.wrap.with(alloc, change)?;
+        let span = share_span(&node.span)?;
+        let shape = node.shape.share()?;
+        Kept::new(alloc, wrap, span, shape)
+    }
+
     /// The tree with this span at its root.
     pub(crate) fn spanned(&self, alloc: Global, span: Option<Span>) -> Result<Kept, Memory>
         ensures { IfOk result (λ k. k ≡ lazily (spanned span self.now.tree) self.now.depth) }
@@ -256,6 +301,45 @@ impl Kept {
             Shape::Leaf(_, _) => Extent { height: 1, size: 1 },
             Shape::List(slice) => slice.extent(),
             Shape::Vector(slice) => slice.extent(),
+        }
+    }
+
+    /// Whether its nodes surely nest no deeper than the tree is high: a list starts at its first item.
+    fn is_settled(&self) -> bool
+        ensures { IsTrue result → IsSettled self.now }
+    {
+        let node: &Node = &self.node;
+        match &node.shape {
+            Shape::List(slice) => slice.from == 0,
+            _ => true,
+        }
+    }
+
+    /// The same tree, and of a list no item before its start: those would be held, and dropped, with it.
+    pub(crate) fn settled(self, alloc: Global) -> Result<Kept, Memory>
+        ensures tree { IfOk result (λ k. k.tree ≡ self.tree) }
+        ensures settled { IfOk result (λ k. IsSettled k) }
+    {
+        if self.is_settled() {
+            Ok(self)
+        } else {
+            self.from_start(alloc)
+        }
+    }
+
+    fn from_start(&self, alloc: Global) -> Result<Kept, Memory>
+        ensures tree { IfOk result (λ k. k.tree ≡ self.now.tree) }
+        ensures settled { IfOk result (λ k. IsSettled k) }
+    {
+        let node: &Node = &self.node;
+        match &node.shape {
+            Shape::List(slice) => {
+                let slice = slice.from_start(alloc)?;
+                let wrap = node.wrap.share()?;
+                let span = share_span(&node.span)?;
+                Kept::new(alloc, wrap, span, Shape::List(slice))
+            }
+            _ => self.share(),
         }
     }
 

@@ -4,4 +4,5 @@
 mod base;
 mod builder;
 mod kept;
+pub mod syn;
 mod wrap;

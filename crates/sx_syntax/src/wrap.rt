@@ -52,16 +52,26 @@ impl Wrap {
         Wrap { changes: None }
     }
 
-    /// One change.
-    pub(crate) fn one(alloc: Global, change: Change) -> Result<Wrap, Memory>
-        ensures { IfOk result (λ w. w ≡ change ∷ []) }
+    /// All of these changes. None take no memory.
+    fn from_vec(changes: Vec<Change>) -> Result<Wrap, Memory>
+        ensures { IfOk result (λ w. w ≡ changes.items) }
     {
-        let mut changes = Vec::new(alloc);
-        changes.push(change)?;
+        if changes.is_empty() {
+            return Ok(Wrap { changes: None });
+        }
         let changes = RcSlice::from_vec(changes)?;
         Ok(Wrap {
             changes: Some(changes),
         })
+    }
+
+    /// These changes, and then one more.
+    pub(crate) fn with(&self, alloc: Global, change: Change) -> Result<Wrap, Memory>
+        ensures { IfOk result (λ w. (c : LeafContext) → acts w c ≡ act change (acts self.now c)) }
+    {
+        let mut changes = self.to_vec(alloc)?;
+        add(&mut changes, change)?;
+        Wrap::from_vec(changes)
     }
 
     pub(crate) fn is_none(&self) -> bool
@@ -108,13 +118,7 @@ impl Wrap {
             return self.share();
         }
         let changes = self.all_with(alloc, outer)?;
-        if changes.is_empty() {
-            return Ok(Wrap::none());
-        }
-        let changes = RcSlice::from_vec(changes)?;
-        Ok(Wrap {
-            changes: Some(changes),
-        })
+        Wrap::from_vec(changes)
     }
 
     /// These changes and the outer ones, as one list.
