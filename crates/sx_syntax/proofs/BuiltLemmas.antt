@@ -57,7 +57,7 @@ end_fits ws r t h e = subst Fits (sym e) (changed_fits ws (end_of r.tail) (chain
 rest_pair : (ws : List Change) (s : Option Span) (u a d : Tree) → u ≡ pair None a d → changed ws u ≡ rest_of (changed ws (spanned s u))
 rest_pair ws s u a d e = subst (λ v. changed ws v ≡ rest_of (changed ws (spanned s v))) (sym e) refl
 
-some_item : (is : List Item) (k : ℕ) → k < length is → Item
+pub some_item : (is : List Item) (k : ℕ) → k < length is → Item
 some_item [] k h = absurd (omega arith)
 some_item (i ∷ is) k h = i
 

@@ -8,7 +8,7 @@ use Rattle.sx_tree.specs.Changes.{changed}
 use Rattle.sx_tree.specs.declared.change.Change.{Change}
 use Rattle.sx_tree.proofs.TreeLaws.{changed-chain, is_list-changed, is_list-spanned}
 use Rattle.sx_tree.proofs.MeasureLaws.{size-changed, height-changed, size-spanned, height-spanned, height-some, pair_fits}
-use Rattle.sx_syntax.specs.Kept.{Lazily, IsSettled, end_of, kept_trees}
+use Rattle.sx_syntax.specs.Kept.{Lazily, IsSettled, end_of}
 use Rattle.sx_syntax.specs.KeptView.{Run, Form, atom_form, leaf_form, list_form, vector_form, form_of, trees, run_tree, whole_tree, run_rest, form_tree, deepest, end_depth, run_depth, form_depth, seen, view_of, IsExtent, AreItems, IsEnd, IsRun, IsListRun, IsVectorRun, InForm, IsFirst}
 use Rattle.sx_syntax.specs.declared.kept.Item.{Item}
 use Rattle.sx_syntax.specs.declared.kept.Extent.{Extent}

@@ -3,3 +3,4 @@ pub mod KeptLemmas
 pub mod FormLemmas
 pub mod NodeLemmas
 pub mod BuiltLemmas
+pub mod GivesLemmas

@@ -11,7 +11,7 @@ use Rattle.sx_tree.specs.Leaves.{context_of, marks_of}
 use Rattle.sx_tree.specs.declared.change.Change.{Change}
 use Rattle.sx_tree.proofs.ContextLaws.{marks-acts}
 use Rattle.sx_tree.proofs.TreeLaws.{changed-chain}
-use Rattle.sx_syntax.specs.Kept.{Lazily, IsSettled, lazily, end_of, kept_trees}
+use Rattle.sx_syntax.specs.Kept.{Lazily, IsSettled, lazily, end_of}
 use Rattle.sx_syntax.specs.KeptView.{Run, Form, leaf_form, list_form, vector_form, form_of, run_of, trees, run_tree, run_rest, form_tree, seen, view_of, IsExtent, IsListRun, IsVectorRun, InForm, IsFirst}
 use Rattle.sx_syntax.specs.declared.base.Base.{Base}
 use Rattle.sx_syntax.specs.declared.kept.Item.{Item}
@@ -37,25 +37,20 @@ pub run_pair : (r : Run) (d : Item) → r.from < length r.items → run_tree r �
 run_pair r d l = ap (λ is. chain (trees is) (end_of r.tail)) (drop-cons r.items r.from d l)
 
 -- the elements so far, and those still to come
-pub elements_more : (ws : List Change) (is : List Item) (k : ℕ) (d : Item) (ks : List Lazily) (x : Lazily) (all : List Tree) → k < length is → d ≡ get_or is k d → x ≡ lazily (changed ws d.tree.tree) d.tree.depth
-    → kept_trees ks ++ map (changed ws) (trees (drop k is)) ≡ all → kept_trees (ks ++ x ∷ []) ++ map (changed ws) (trees (drop (k + 1) is)) ≡ all
-elements_more ws is k d ks x all l e h so_far =
-    ap (λ ts. ts ++ map (changed ws) (trees (drop (k + 1) is))) (push ks)
-    ∙ append_assoc (kept_trees ks) (x.tree ∷ []) (map (changed ws) (trees (drop (k + 1) is)))
-    ∙ ap (λ (y : Lazily). kept_trees ks ++ (y.tree ∷ map (changed ws) (trees (drop (k + 1) is)))) h
-    ∙ ap (λ (i : Item). kept_trees ks ++ (changed ws i.tree.tree ∷ map (changed ws) (trees (drop (k + 1) is)))) e
-    ∙ ap (λ n. kept_trees ks ++ (changed ws (get_or is k d).tree.tree ∷ map (changed ws) (trees (drop n is)))) (add-one k)
-    ∙ ap (λ js. kept_trees ks ++ map (changed ws) (trees js)) (sym (drop-cons is k d l)) ∙ so_far
-  where
-    push : (ys : List Lazily) → kept_trees (ys ++ x ∷ []) ≡ kept_trees ys ++ x.tree ∷ []
-    push [] = refl
-    push (y ∷ ys) = ap (λ ts. y.tree ∷ ts) (push ys)
+pub elements_more : (ws : List Change) (is : List Item) (k : ℕ) (d : Item) (ts : List Tree) (t : Tree) (all : List Tree) → k < length is → d ≡ get_or is k d → t ≡ changed ws d.tree.tree
+    → ts ++ map (changed ws) (trees (drop k is)) ≡ all → (ts ++ t ∷ []) ++ map (changed ws) (trees (drop (k + 1) is)) ≡ all
+elements_more ws is k d ts t all l e h so_far =
+    append_assoc ts (t ∷ []) (map (changed ws) (trees (drop (k + 1) is)))
+    ∙ ap (λ u. ts ++ (u ∷ map (changed ws) (trees (drop (k + 1) is)))) h
+    ∙ ap (λ (i : Item). ts ++ (changed ws i.tree.tree ∷ map (changed ws) (trees (drop (k + 1) is)))) e
+    ∙ ap (λ n. ts ++ (changed ws (get_or is k d).tree.tree ∷ map (changed ws) (trees (drop n is)))) (add-one k)
+    ∙ ap (λ js. ts ++ map (changed ws) (trees js)) (sym (drop-cons is k d l)) ∙ so_far
 
-pub elements_shown : (ws : List Change) (r : Run) (is : List Item) (k : ℕ) (ks : List Lazily) → IsVectorRun r → is ≡ r.items → length is ≤ k
-    → kept_trees ks ++ map (changed ws) (trees (drop k is)) ≡ map (changed ws) (trees is) → chain (kept_trees ks) nil ≡ changed ws (run_tree r)
-elements_shown ws r is k ks v e l h =
-    let all : kept_trees ks ≡ map (changed ws) (trees r.items) =
-    sym (append-nil (kept_trees ks)) ∙ sym (ap (λ js. kept_trees ks ++ map (changed ws) (trees js)) (drop_all k is l)) ∙ h ∙ ap (λ js. map (changed ws) (trees js)) e in
+pub elements_shown : (ws : List Change) (r : Run) (is : List Item) (k : ℕ) (ts : List Tree) → IsVectorRun r → is ≡ r.items → length is ≤ k
+    → ts ++ map (changed ws) (trees (drop k is)) ≡ map (changed ws) (trees is) → chain ts nil ≡ changed ws (run_tree r)
+elements_shown ws r is k ts v e l h =
+    let all : ts ≡ map (changed ws) (trees r.items) =
+    sym (append-nil ts) ∙ sym (ap (λ js. ts ++ map (changed ws) (trees js)) (drop_all k is l)) ∙ h ∙ ap (λ js. map (changed ws) (trees js)) e in
     ap (λ xs. chain xs nil) all ∙ sym (changed-chain ws (trees r.items) nil)
     ∙ ap (λ n. changed ws (chain (trees (drop n r.items)) nil)) (sym v.whole)
     ∙ ap (λ o. changed ws (chain (trees (drop r.from r.items)) (end_of o))) (sym v.ended)

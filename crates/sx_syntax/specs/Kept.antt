@@ -1,5 +1,5 @@
 -- A tree as nodes hold it: the tree that is meant, and how deep the nodes nest.
-use Rattle.std.specs.Prelude.{ℕ, ◌<◌, List, [], ◌∷◌, Option, None, Some, refl}
+use Rattle.std.specs.Prelude.{ℕ, ◌<◌, Option, None, Some, refl}
 use Rattle.std.specs.Coded.{Coded, code_by, coded×, coded_ℕ}
 use Rattle.sx_tree.specs.Tree.{Tree, nil}
 use Rattle.sx_tree.specs.TreeCode.{tree_code}
@@ -23,8 +23,3 @@ IsSettled k = k.depth < height k.tree
 abbrev pub end_of : Option Lazily → Tree
 end_of None = nil
 end_of (Some t) = t.tree
-
--- the trees that are meant
-abbrev pub kept_trees : List Lazily → List Tree
-kept_trees [] = []
-kept_trees (k ∷ ks) = k.tree ∷ kept_trees ks

@@ -6,10 +6,11 @@ ghost use Rattle.sx_tree.specs.Tree.{spanned, chain, nil, is_list};
 ghost use Rattle.sx_tree.specs.Measures.{height, size, Fits};
 ghost use Rattle.sx_tree.specs.Leaves.{marks_of, context_of};
 ghost use Rattle.sx_tree.specs.Changes.{changed};
-ghost use Rattle.sx_syntax.specs.Kept.{lazily, kept_trees, IsSettled};
+ghost use Rattle.sx_syntax.specs.Kept.{lazily, IsSettled};
 ghost use Rattle.sx_syntax.specs.KeptView.{run_of, run_tree, run_rest, form_of, seen, InForm, IsRun, IsListRun, IsVectorRun, IsExtent, IsFirst};
 
 use crate::base::Base;
+use crate::syn::Syn;
 use crate::wrap::Wrap;
 use std::alloc::Global;
 use std::marker::Model;
@@ -134,7 +135,7 @@ impl Slice {
     }
 
     /// The first element, under these changes.
-    fn first(&self, alloc: Global, wrap: &Wrap) -> Result<Kept, Memory>
+    pub(crate) fn first(&self, alloc: Global, wrap: &Wrap) -> Result<Kept, Memory>
         requires { self.now.from < length (rc_slice_items self.now.items) }
         ensures { IfOk result (λ k. IsFirst k.tree wrap.now (run_of self.now)) }
     {
@@ -143,7 +144,7 @@ impl Slice {
     }
 
     /// What stands behind it, under these changes.
-    fn rest(&self, alloc: Global, wrap: &Wrap) -> Result<Kept, Memory>
+    pub(crate) fn rest(&self, alloc: Global, wrap: &Wrap) -> Result<Kept, Memory>
         requires { IsListRun (run_of self.now) }
         ensures { IfOk result (λ k. k.tree ≡ changed wrap.now (run_rest (run_of self.now))) }
     {
@@ -162,14 +163,14 @@ impl Slice {
     }
 
     /// The elements of a vector, under these changes.
-    fn elements(&self, alloc: Global, wrap: &Wrap) -> Result<Vec<Kept>, Memory>
+    pub(crate) fn elements(&self, alloc: Global, wrap: &Wrap) -> Result<Vec<Syn>, Memory>
         requires { IsVectorRun (run_of self.now) }
-        ensures { IfOk result (λ v. chain (kept_trees v.items) nil ≡ changed wrap.now (run_tree (run_of self.now))) }
+        ensures { IfOk result (λ v. chain v.items nil ≡ changed wrap.now (run_tree (run_of self.now))) }
     {
         let mut elements = Vec::new(alloc);
         for item in self.items.as_slice() {
-            let element = item.tree.under(alloc, wrap)?;
-            elements.push(element)?;
+            let kept = item.tree.under(alloc, wrap)?;
+            elements.push(Syn { kept })?;
         }
         Ok(elements)
     }

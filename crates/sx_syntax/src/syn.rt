@@ -1,18 +1,20 @@
 //! Syntax trees, for every crate to use.
 
-ghost use Rattle.std.specs.Prelude.{◌≡◌, ◌+◌, [], ◌∷◌, ◌++◌, None, option_map, IfOk, IfErr, OnOk, OnErr};
+ghost use Rattle.std.specs.Prelude.{◌≡◌, ◌+◌, [], ◌∷◌, ◌++◌, ◌<◌, length, Option, None, option_map, IfOk, IfErr, OnOk, OnErr};
 ghost use Rattle.sx_base.specs.Gives.{BareGives};
 ghost use Rattle.sx_tree.specs.Tree.{Tree, atom, leaf, spanned, span_of, chain, list_of, vector_of};
 ghost use Rattle.sx_tree.specs.Measures.{height, size, within, Fits};
 ghost use Rattle.sx_tree.specs.Changes.{changed, enter, leave, stamp};
 ghost use Rattle.sx_tree.specs.Leaves.{marks_of, stamps_of};
 ghost use Rattle.sx_syntax.specs.Built.{built_tree};
+ghost use Rattle.sx_base.specs.declared.span.Span.{Span};
+ghost use Rattle.sx_syntax.specs.KeptView.{run_of, run_tree, IsListRun};
 ghost use Rattle.sx_syntax.specs.Opens.{Opens};
 ghost use Rattle.sx_syntax.specs.Refuses.{Refuses};
 
 use crate::base::Base;
 use crate::builder::Builder;
-use crate::kept::{Kept, Node, Shape};
+use crate::kept::{Kept, Node, Shape, Slice};
 use crate::wrap::Wrap;
 use std::alloc::Global;
 use std::marker::Model;
@@ -57,6 +59,44 @@ pub enum Opened {
     Vector(Vec<Syn>),
 }
 
+/// Puts all of these before what is there.
+fn push_all(alloc: Global, builder: &mut Builder, items: Vec<Syn>) -> Result<(), BareStop>
+    ensures ok { OnOk result ((builder.new.elements ≡ items.items ++ builder.old.elements) × (builder.new.tail ≡ builder.old.tail)) }
+    ensures refused { IfErr result (λ e. Refuses e (Fits (chain items.items (built_tree builder.old)))) }
+{
+    let mut items = items;
+    while let Some(item) = items.pop() {
+        let tree = item.kept.settled(alloc)?;
+        match builder.push_front(alloc, tree) {
+            Ok(()) => {}
+            Err(stop) => return Err(stop),
+        }
+    }
+    Ok(())
+}
+
+/// The list of all of these, one or more, and then what is there.
+fn list_on(alloc: Global, builder: Builder, items: Vec<Syn>) -> Result<Syn, BareStop>
+    requires { 0 < length items.items }
+    ensures { BareGives (λ t. t) result (within (chain items.items (built_tree builder))) }
+{
+    let mut builder = builder;
+    push_all(alloc, &mut builder, items)?;
+    let kept = builder.into_list(alloc, None)?;
+    kept.within();
+    Ok(Syn { kept })
+}
+
+/// The level of a list.
+fn pair_of(alloc: Global, slice: &Slice, wrap: &Wrap) -> Result<Opened, Memory>
+    requires { IsListRun (run_of slice.now) }
+    ensures { IfOk result (λ o. (s : Option Span) → Opens o (changed wrap.now (spanned s (run_tree (run_of slice.now))))) }
+{
+    let first = slice.first(alloc, wrap)?;
+    let rest = slice.rest(alloc, wrap)?;
+    Ok(Opened::Pair(Syn { kept: first }, Syn { kept: rest }))
+}
+
 impl Syn {
     /// The atom, without a span.
     pub fn atom(alloc: Global, value: Atom) -> Result<Syn, Memory>
@@ -89,6 +129,66 @@ impl Syn {
         let symbol = symbol.share()?;
         let kept = Kept::new(alloc, Wrap::none(), span, Shape::Leaf(symbol, base))?;
         Ok(Syn { kept })
+    }
+
+    /// These elements, and a tail: one that is a list is joined on, and Nil ends the list. No elements
+    /// give the tail, or Nil where there is none. It is `TooDeep` where it would pass a limit.
+    pub fn list(alloc: Global, items: Vec<Syn>, tail: Option<Syn>) -> Result<Syn, BareStop>
+        ensures { BareGives (λ t. t) result (within (list_of items.items tail)) }
+    {
+        if items.is_empty() {
+            match tail {
+                None => {
+                    let nil = Syn::atom(alloc, Atom::Nil)?;
+                    Ok(nil)
+                }
+                Some(tail) => {
+                    tail.kept.within();
+                    Ok(tail)
+                }
+            }
+        } else {
+            match &tail {
+                None => list_on(alloc, Builder::before(alloc, None), items),
+                Some(tail) => {
+                    let builder = tail.kept.reopened(alloc)?;
+                    list_on(alloc, builder, items)
+                }
+            }
+        }
+    }
+
+    /// The vector of these elements. It is `TooDeep` where it would pass a limit.
+    pub fn vector(alloc: Global, items: Vec<Syn>) -> Result<Syn, BareStop>
+        ensures { BareGives (λ t. t) result (within (vector_of items.items)) }
+    {
+        let mut builder = Builder::before(alloc, None);
+        push_all(alloc, &mut builder, items)?;
+        let kept = builder.into_vector(alloc, None)?;
+        kept.within();
+        Ok(Syn { kept })
+    }
+
+    /// One level of the tree. Pending changes go one level down, by one node for each part.
+    pub fn open(&self, alloc: Global) -> Result<Opened, Memory>
+        ensures { IfOk result (λ o. Opens o self.now) }
+    {
+        let node: &Node = &self.kept.node;
+        match &node.shape {
+            Shape::Atom(atom) => {
+                let atom = atom.share()?;
+                Ok(Opened::Atom(atom))
+            }
+            Shape::Leaf(symbol, _) => {
+                let symbol = symbol.share()?;
+                Ok(Opened::Symbol(symbol))
+            }
+            Shape::List(slice) => pair_of(alloc, slice, &node.wrap),
+            Shape::Vector(slice) => {
+                let elements = slice.elements(alloc, &node.wrap)?;
+                Ok(Opened::Vector(elements))
+            }
+        }
     }
 
     /// Another owner of the same tree.
