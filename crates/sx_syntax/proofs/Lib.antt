@@ -4,3 +4,5 @@ pub mod FormLemmas
 pub mod NodeLemmas
 pub mod BuiltLemmas
 pub mod GivesLemmas
+pub mod DepthLemmas
+pub mod StripLemmas

@@ -4,5 +4,6 @@
 mod base;
 mod builder;
 mod kept;
+mod strip;
 pub mod syn;
 mod wrap;
