@@ -6,3 +6,4 @@ pub mod BuiltLemmas
 pub mod GivesLemmas
 pub mod DepthLemmas
 pub mod StripLemmas
+pub mod UnspannedLemmas

@@ -1,5 +1,5 @@
 -- What nodes mean, and the form that they have.
-use Rattle.std.specs.Prelude.{◌≡◌, ℕ, suc, ◌+◌, ◌<◌, max, false, List, [], ◌∷◌, Option, None, Some, drop, length, get_or, ◌⊎◌}
+use Rattle.std.specs.Prelude.{◌≡◌, ℕ, suc, ◌+◌, ◌<◌, ◌≤◌, max, false, List, [], ◌∷◌, Option, None, Some, drop, length, get_or, ◌⊎◌}
 use Rattle.std.specs.Rc.{rc_slice_items}
 use Rattle.sx_base.specs.declared.atom.Atom.{Atom}
 use Rattle.sx_base.specs.declared.span.Span.{Span}
@@ -102,6 +102,13 @@ IsEnd (Some t) = (is_list t.tree ≡ false) × IsSettled t
 pub record IsRun (r : Run) : Type 0 where
   pub items : AreItems r.items (end_of r.tail)
   pub ends : r.from < length r.items ⊎ (r.tail ≡ None)
+
+-- its items with those before the start, and its tail, are a list within the limits
+pub record IsWholeRun (r : Run) : Type 0 where
+  pub starts : r.from ≤ length r.items
+  pub items : AreItems r.items (end_of r.tail)
+  pub ends : IsEnd r.tail
+  pub fits : Fits (whole_tree r)
 
 pub record IsListRun (r : Run) : Type 0 where
   pub items : AreItems r.items (end_of r.tail)

@@ -6,4 +6,5 @@ mod builder;
 mod kept;
 mod strip;
 pub mod syn;
+mod unspanned;
 mod wrap;
