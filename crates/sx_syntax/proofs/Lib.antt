@@ -7,3 +7,4 @@ pub mod GivesLemmas
 pub mod DepthLemmas
 pub mod StripLemmas
 pub mod UnspannedLemmas
+pub mod GrownLemmas

@@ -5,4 +5,5 @@ pub mod KeptFalls
 pub mod Extents
 pub mod Built
 pub mod Opens
+pub mod Leaves
 pub mod Refuses

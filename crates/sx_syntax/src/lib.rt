@@ -4,6 +4,7 @@
 mod base;
 mod builder;
 mod kept;
+mod leaves;
 mod strip;
 pub mod syn;
 mod unspanned;

@@ -2,10 +2,12 @@
 
 ghost use Rattle.std.specs.Prelude.{◌≡◌, ◌+◌, [], ◌∷◌, ◌++◌, ◌<◌, length, Option, None, option_map, IfOk, IfErr, OnOk, OnErr};
 ghost use Rattle.sx_base.specs.Gives.{BareGives};
-ghost use Rattle.sx_tree.specs.Tree.{Tree, atom, leaf, spanned, span_of, chain, list_of, vector_of};
+ghost use Rattle.sx_tree.specs.Tree.{Tree, atom, leaf, spanned, unspanned, span_of, chain, list_of, vector_of};
 ghost use Rattle.sx_tree.specs.Measures.{height, size, within, Fits};
 ghost use Rattle.sx_tree.specs.Changes.{changed, enter, leave, stamp};
-ghost use Rattle.sx_tree.specs.Leaves.{marks_of, stamps_of};
+ghost use Rattle.sx_tree.specs.Leaves.{tree_of, datum_like, strip, marks_of, stamps_of};
+ghost use Rattle.sx_tree.specs.Context.{blank};
+ghost use Rattle.sx_syntax.specs.Leaves.{grown_tree};
 ghost use Rattle.sx_syntax.specs.Built.{built_tree};
 ghost use Rattle.sx_base.specs.declared.span.Span.{Span};
 ghost use Rattle.sx_syntax.specs.KeptView.{run_of, run_tree, IsListRun};
@@ -15,11 +17,13 @@ ghost use Rattle.sx_syntax.specs.Refuses.{Refuses};
 use crate::base::Base;
 use crate::builder::Builder;
 use crate::kept::{Kept, Node, Shape, Slice};
+use crate::leaves::{Sample, Spans, from_datum};
 use crate::wrap::Wrap;
 use std::alloc::Global;
 use std::marker::Model;
 use std::sync::ledger::Ledger;
 use sx_base::atom::Atom;
+use sx_base::datum::Datum;
 use sx_base::fault::BareStop;
 use sx_base::memory::Memory;
 use sx_base::name::{FrameNo, Mark};
@@ -95,6 +99,20 @@ fn pair_of(alloc: Global, slice: &Slice, wrap: &Wrap) -> Result<Opened, Memory>
     let first = slice.first(alloc, wrap)?;
     let rest = slice.rest(alloc, wrap)?;
     Ok(Opened::Pair(Syn { kept: first }, Syn { kept: rest }))
+}
+
+/// The tree of a datum whose symbols are leaves like these.
+fn grown(
+    alloc: Global,
+    spans: Spans,
+    sample: &Sample,
+    datum: &Datum,
+) -> Result<Syn, BareStop>
+    ensures { BareGives (λ t. t) result (within (grown_tree spans sample.now datum.now)) }
+{
+    let kept = from_datum(alloc, spans, sample, datum)?;
+    kept.within();
+    Ok(Syn { kept })
 }
 
 impl Syn {
@@ -304,5 +322,37 @@ impl Syn {
         ensures refused { OnErr result (nodes.new ≡ nodes.old) }
     {
         self.changed(alloc, Change::Stamp(frame), nodes)
+    }
+
+    /// The tree of a datum: its symbols are leaves without marks and stamps, and the spans are kept.
+    /// It is `TooDeep` where it would pass a limit.
+    pub fn of_datum(alloc: Global, datum: &Datum) -> Result<Syn, BareStop>
+        ensures { BareGives (λ t. t) result (within (tree_of blank datum.now)) }
+    {
+        grown(alloc, Spans::Keep, &Sample::blank(), datum)
+    }
+
+    /// The tree of a datum, without spans: its symbols are leaves with the marks and stamps of this
+    /// leaf. It is `TooDeep` where it would pass a limit. What is no leaf gives no marks and no stamps.
+    pub fn datum_like(&self, alloc: Global, datum: &Datum) -> Result<Syn, BareStop>
+        ensures { BareGives (λ t. t) result (within (datum_like self.now datum.now)) }
+    {
+        let sample = self.kept.sample()?;
+        grown(alloc, Spans::Leave, &sample, datum)
+    }
+
+    /// The datum of the tree, with its spans.
+    pub fn strip(&self, alloc: Global) -> Result<Datum, Memory>
+        ensures { IfOk result (λ d. d ≡ strip self.now) }
+    {
+        self.kept.strip(alloc)
+    }
+
+    /// The tree without any spans.
+    pub fn unspanned(&self, alloc: Global) -> Result<Syn, Memory>
+        ensures { IfOk result (λ t. t ≡ unspanned self.now) }
+    {
+        let kept = self.kept.unspanned(alloc)?;
+        Ok(Syn { kept })
     }
 }
