@@ -1,0 +1,9 @@
+pub mod Pending
+pub mod Kept
+pub mod KeptView
+pub mod KeptFalls
+pub mod Extents
+pub mod Built
+pub mod Opens
+pub mod Leaves
+pub mod Refuses
