@@ -1,9 +1,9 @@
 pub mod Turns
 pub mod Complete
 pub mod Sound
-pub mod Laws
 pub mod GoesOn
 pub mod Room
 pub mod Stuck
-pub mod First
-pub mod Exact
+pub mod Taken
+pub mod Refused
+pub mod Laws

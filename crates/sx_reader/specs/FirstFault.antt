@@ -1,10 +1,12 @@
 -- Where and how a source that spells no data is at fault: at the first token with which no data can be spelt.
-use Rattle.std.specs.Prelude.{◌≡◌, ℕ, suc, Bool, true, false, not, List, [], ◌∷◌, ◌++◌, ◌||◌, Option, Some, None, Result, Ok, Err, IsTrue}
+use Rattle.std.specs.Prelude.{◌≡◌, ℕ, suc, Bool, true, false, not, List, [], ◌∷◌, ◌++◌, ◌||◌, None, Result, Ok, Err, IsTrue}
 use Rattle.sx_base.specs.Datum.{PlainDatum}
 use Rattle.sx_base.specs.declared.fault.Fault.{Fault}
 use Rattle.sx_base.specs.declared.fault.FaultKind.TheVariants as fault
 use Rattle.sx_base.specs.declared.fault.Stop.{Stop}
 use Rattle.sx_base.specs.declared.fault.Stop.TheVariants as stop
+use Rattle.sx_lexer.specs.Start.{start_of}
+use Rattle.sx_lexer.specs.Tokens.{next_lexeme}
 use Rattle.sx_lexer.specs.declared.token.Bracket.{Bracket}
 use Rattle.sx_lexer.specs.declared.token.Bracket.TheVariants as bracket
 use Rattle.sx_lexer.specs.declared.token.Token.{Token}
@@ -17,7 +19,7 @@ use Rattle.sx_machine.specs.declared.partial.Parts.TheVariants as parts
 use Rattle.sx_machine.specs.Extent.{fault_at}
 use Rattle.sx_machine.specs.Step.{same_bracket}
 use Rattle.sx_reader.specs.Grammar.{lexeme, AreItems}
-use Rattle.sx_reader.specs.Lexemes.{lexed}
+use Rattle.sx_reader.specs.Lexemes.{Follow}
 use Rattle.sx_machine.specs.declared.partial.Partial.{Partial}
 use Rattle.sx_reader.specs.Partial.{partial, ComesTo}
 
@@ -115,22 +117,26 @@ module _ (file : List ℕ) where
     no_byte : {ns : List ℕ} {x : Extent} (k : Token) (y : Extent) → EndsInside nesting ls (parts.Bytes ns) x → IsTrue (begins_datum k) → IsFaultAt nesting ls k y (fault_at file fault.BadNumber y)
     too_nested : (k : Token) (y : Extent) → IsTrue (counts k) → CanGoOn (suc nesting) (ls ++ lexeme k y ∷ []) → IsFaultAt nesting ls k y (fault_at file fault.TooNested y)
 
-  -- these lexemes are no data, and this is their first fault, where what stands behind them is at fault or not
-  pub data IsFirstFault (nesting : ℕ) : List Lexeme → Option Fault → Fault → Type 0 where
-    -- bytes are no token
-    no_token : {ls : List Lexeme} (f : Fault) → CanGoOn nesting ls → IsFirstFault nesting ls (Some f) f
-    -- a token stands where none such can
-    out_of_place : {g : Option Fault} {f : Fault} (ls ms : List Lexeme) (k : Token) (y : Extent) → CanGoOn nesting ls → (CanGoOn nesting (ls ++ lexeme k y ∷ []) → ⊥)
-        → IsFaultAt nesting ls k y f → IsFirstFault nesting (ls ++ (lexeme k y ∷ ms)) g f
-    -- the source ends too early
-    unclosed : {ls : List Lexeme} {p : Parts} {x : Extent} → CanGoOn nesting ls → EndsInside nesting ls p x → IsFirstFault nesting ls None (fault_at file fault.Unclosed x)
-
 -- the first fault of a source
-abbrev pub IsFaultOf : List ℕ → List ℕ → ℕ → Fault → Type 0
-IsFaultOf file bytes nesting f = IsFirstFault file nesting (lexed file bytes).lexemes (lexed file bytes).fault f
+pub data IsFaultOf (file bytes : List ℕ) (nesting : ℕ) : Fault → Type 0 where
+  -- bytes at the start that would be skipped are no characters
+  bad_start : (f : Fault) → start_of file bytes ≡ Err f → IsFaultOf file bytes nesting f
+  -- bytes are no token
+  no_token : {ls : List Lexeme} (f : Fault) (start at : ℕ) → start_of file bytes ≡ Ok start → Follow (next_lexeme file bytes) start ls at
+      → CanGoOn file nesting ls → next_lexeme file bytes at ≡ Err f → IsFaultOf file bytes nesting f
+  -- a token stands where none such can
+  out_of_place : {f : Fault} (ls : List Lexeme) (k : Token) (y : Extent) (start at : ℕ) → start_of file bytes ≡ Ok start → Follow (next_lexeme file bytes) start (ls ++ lexeme k y ∷ []) at
+      → CanGoOn file nesting ls → (CanGoOn file nesting (ls ++ lexeme k y ∷ []) → ⊥) → IsFaultAt file nesting ls k y f → IsFaultOf file bytes nesting f
+  -- the source ends too early
+  unclosed : {ls : List Lexeme} {p : Parts} {x : Extent} (start at : ℕ) → start_of file bytes ≡ Ok start → Follow (next_lexeme file bytes) start ls at
+      → CanGoOn file nesting ls → next_lexeme file bytes at ≡ Ok None → EndsInside file nesting ls p x → IsFaultOf file bytes nesting (fault_at file fault.Unclosed x)
 
--- of a call that stops with a fault
+-- of the fault, where it is one
+abbrev pub IfFault : Stop → (Fault → Type 0) → Type 0
+IfFault (stop.Fault f) P = P f
+IfFault stop.Memory P = Unit {0}
+
+-- of the fault that a call stops with
 abbrev pub OnFault : {X : Type 0} → Result X Stop → (Fault → Type 0) → Type 0
 OnFault (Ok x) P = Unit {0}
-OnFault (Err (stop.Fault f)) P = P f
-OnFault (Err stop.Memory) P = Unit {0}
+OnFault (Err e) P = IfFault e P

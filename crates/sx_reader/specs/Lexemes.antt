@@ -1,9 +1,14 @@
 -- The lexemes of a source, from its first to its last.
-use Rattle.std.specs.Prelude.{ℕ, zero, suc, List, [], ◌∷◌, length, Option, Some, None, Result, Ok, Err}
+use Rattle.std.specs.Prelude.{◌≡◌, ℕ, zero, suc, List, [], ◌∷◌, length, Option, Some, None, Result, Ok, Err}
 use Rattle.sx_base.specs.declared.fault.Fault.{Fault}
 use Rattle.sx_lexer.specs.declared.token.Lexeme.{Lexeme}
 use Rattle.sx_lexer.specs.Start.{start_of}
 use Rattle.sx_lexer.specs.Tokens.{next_lexeme}
+
+-- from one offset to another these lexemes follow one another, each where the one before it ends
+pub data Follow (next : ℕ → Result (Option Lexeme) Fault) : ℕ → List Lexeme → ℕ → Type 0 where
+  none : {at : ℕ} → Follow next at [] at
+  one : {at to : ℕ} {ls : List Lexeme} (l : Lexeme) → next at ≡ Ok (Some l) → Follow next l.to ls to → Follow next at (l ∷ ls) to
 
 -- the lexemes of a source in order, and the fault behind them, where bytes there are no token
 pub record Lexed : Type 0 where

@@ -1,10 +1,18 @@
 -- Which data the bytes of a source spell.
-use Rattle.std.specs.Prelude.{◌≡◌, ℕ, List, None}
+use Rattle.std.specs.Prelude.{◌≡◌, ℕ, List, None, Ok}
 use Rattle.sx_base.specs.Datum.{PlainDatum}
+use Rattle.sx_lexer.specs.declared.token.Lexeme.{Lexeme}
+use Rattle.sx_lexer.specs.Start.{start_of}
+use Rattle.sx_lexer.specs.Tokens.{next_lexeme}
 use Rattle.sx_reader.specs.Grammar.{AreItems}
-use Rattle.sx_reader.specs.Lexemes.{lexed}
+use Rattle.sx_reader.specs.Lexemes.{Follow}
 
--- the source is lexemes to its end, and in order these are the data, where so many forms may be nested
+-- behind what is skipped at its start, the source is lexemes to its end, and these are the data in order, where so many forms may be nested
 pub record Spells (file bytes : List ℕ) (nesting : ℕ) (ds : List PlainDatum) : Type 0 where
-  pub tokens : (lexed file bytes).fault ≡ None
-  pub items : AreItems file nesting (lexed file bytes).lexemes ds
+  pub start : ℕ
+  pub end : ℕ
+  pub lexemes : List Lexeme
+  pub begins : start_of file bytes ≡ Ok start
+  pub tokens : Follow (next_lexeme file bytes) start lexemes end
+  pub ends : next_lexeme file bytes end ≡ Ok None
+  pub items : AreItems file nesting lexemes ds

@@ -63,7 +63,9 @@ fn read_lexemes(
     nesting: u32,
 ) -> Result<Vec<Datum>, Stop>
     requires { length bytes.now < 2 ^ 32 }
-    ensures { Gives (λ v. v.items) result (data_of file.now bytes.now nesting) }
+    ensures gives { Gives (λ v. v.items) result (data_of file.now bytes.now nesting) }
+    ensures spelled { IfOk result (λ v. Spells file.now bytes.now nesting v.items) }
+    ensures refused { OnFault result (IsFaultOf file.now bytes.now nesting) }
 {
     let mut state = State::new(alloc);
     let mut at = start_of(alloc, file, bytes)?;

@@ -1,12 +1,16 @@
-use Rattle.std.proofs.Common.{◌≤◌, ◌-◌, length}
+use Rattle.std.proofs.Common.{◌≡◌, ◌≤◌, ◌-◌, length, Ok}
+use Rattle.sx_lexer.specs.Start.{start_of}
 use Rattle.sx_lexer.specs.Tokens.{next_lexeme}
 use Rattle.sx_reader.specs.Read.{data_of}
+use Rattle.sx_reader.proofs.Taken.{Taken}
 use Rattle.sx_reader.proofs.Turns.{Comes}
 use Rattle.sx_reader.proofs.read.read_lexemes.Given as goal
 
 abbrev pub invariant-loop-state : goal.invariant-loop-state
 invariant-loop-state l = record {
   inside : l.at ≤ length l.bytes;
+  begins : start_of l.file l.bytes ≡ Ok l.initial.at;
+  taken : Taken l.file l.nesting (next_lexeme l.file l.bytes) l.initial.at l.state l.at;
   comes : Comes l.file l.nesting (next_lexeme l.file l.bytes) (length l.bytes) l.state l.at (data_of l.file l.bytes l.nesting);
 }
 

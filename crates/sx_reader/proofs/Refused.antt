@@ -1,12 +1,11 @@
--- What is the first fault of a source is the fault that is found.
-use Rattle.std.proofs.Common.{◌≡◌, ℕ, suc, ◌-◌, Bool, true, false, not, List, [], ◌∷◌, ◌++◌, refl, sym, ap, ◌∙◌, append_assoc, Option, Some, None, Result, Ok, Err, IsTrue}
+-- A token out of place is refused, and with the fault that it is.
+use Rattle.std.proofs.Common.{◌≡◌, ℕ, suc, ◌-◌, Bool, true, false, not, List, [], ◌∷◌, ◌++◌, refl, sym, ap, ◌∙◌, append_assoc, Option, Some, None, Ok, Err, IsTrue}
 use Rattle.std.proofs.lemmas.List.{append-nil}
 use Rattle.std.specs.Prelude.{◌==◌, ◌||◌}
 use Rattle.sx_base.specs.declared.fault.Fault.{Fault}
 use Rattle.sx_base.specs.declared.fault.FaultKind.TheVariants as fault
-use Rattle.sx_base.specs.declared.fault.Stop.{Stop}
 use Rattle.sx_base.specs.Datum.{PlainDatum, atom}
-use Rattle.sx_base.specs.Gives.{◌>>=◌, Gives}
+use Rattle.sx_base.specs.Gives.{◌>>=◌}
 use Rattle.sx_lexer.specs.declared.token.Bracket.{Bracket}
 use Rattle.sx_lexer.specs.declared.token.Bracket.TheVariants as bracket
 use Rattle.sx_lexer.specs.declared.token.Lexeme.{Lexeme}
@@ -23,11 +22,10 @@ use Rattle.sx_machine.specs.Extent.{span_at, fault_at, through}
 use Rattle.sx_machine.specs.Form.{byte_of}
 use Rattle.sx_machine.specs.Partial.{room_in, misplaced}
 use Rattle.sx_machine.specs.Step.{state, step, ended as form_ended, same_bracket, nested, dotted as dots, unless}
-use Rattle.sx_reader.specs.Lexemes.{lexed}
-use Rattle.sx_reader.specs.Read.{run, data_of}
+use Rattle.sx_reader.specs.Read.{run}
 use Rattle.sx_reader.specs.Grammar.{lexeme}
 use Rattle.sx_reader.specs.Partial.{partial, ComesTo, at_top}
-use Rattle.sx_reader.specs.FirstFault.{CanGoOn, IsFaultAt, is_stray, has_no_dot, begins_datum, is_dot, is_close, counts, close_of_nothing, close_of_another, dot_at_top, dot_in_another, nothing_behind_dot, much_behind_dot, no_byte, too_nested, IsFirstFault, no_token, out_of_place, unclosed, IsFaultOf}
+use Rattle.sx_reader.specs.FirstFault.{CanGoOn, IsFaultAt, is_stray, has_no_dot, begins_datum, is_dot, is_close, counts, close_of_nothing, close_of_another, dot_at_top, dot_in_another, nothing_behind_dot, much_behind_dot, no_byte, too_nested}
 use Rattle.sx_reader.proofs.Sound.{bind_ok, Holds, holds_none, stepped}
 use Rattle.sx_reader.proofs.Complete.{reads_all, come_read}
 use Rattle.sx_reader.proofs.GoesOn.{can_go_on}
@@ -39,10 +37,10 @@ not_true false h = refl
 
 module _ (file : List ℕ) (nesting : ℕ) where
   -- lexemes that can go on lead to a state
-  record Leads (seen : List Lexeme) : Type 0 where
-    there : State
-    holds : Holds file nesting seen there
-    same : (rest : List Lexeme) (g : Option Fault) → run file nesting (state [] []) (seen ++ rest) g ≡ run file nesting there rest g
+  pub record Leads (seen : List Lexeme) : Type 0 where
+    pub there : State
+    pub holds : Holds file nesting seen there
+    pub same : (rest : List Lexeme) (g : Option Fault) → run file nesting (state [] []) (seen ++ rest) g ≡ run file nesting there rest g
 
   leads_on : (seen ls others : List Lexeme) (ds : List PlainDatum) → Leads seen → run file nesting (state [] []) ((seen ++ ls) ++ others) None ≡ Ok ds → Leads (seen ++ ls)
   unfolding run
@@ -57,7 +55,7 @@ module _ (file : List ℕ) (nesting : ℕ) where
       } in
       rw append_assoc at (leads_on (seen ++ l ∷ []) ls others ds after (rw (append_assoc seen (l ∷ []) ls) e))
 
-  leads : (ls : List Lexeme) → CanGoOn file nesting ls → Leads ls
+  pub leads : (ls : List Lexeme) → CanGoOn file nesting ls → Leads ls
   leads ls goes = leads_on [] ls goes.others goes.data_there (record { there = state [] []; holds = holds_none file nesting; same = λ rest g. refl }) (reads_all file nesting goes.items)
 
   -- where a token can't follow, the machine refuses it
@@ -160,14 +158,14 @@ module _ (file : List ℕ) (nesting : ℕ) where
   full s ls (t.Symbol w) y h counted goes never = cc
 
   module _ (ls ms : List Lexeme) (k : Token) (y : Extent) (g : Option Fault) (f : Fault) where
-    abbrev Found : Type 0
+    abbrev pub Found : Type 0
     Found = run file nesting (state [] []) (ls ++ (lexeme k y ∷ ms)) g ≡ Err f
 
     by_state : {n : ℕ} {fs : List Partial} {found : List PlainDatum} → ComesTo file nesting n ls fs found → step file nesting (state fs found) (lexeme k y) ≡ Err f → Found
     unfolding run
     by_state come e = come_read file nesting come (lexeme k y ∷ ms) g ∙ ap (λ r. r >>= λ u. run file nesting u ms g) e
 
-  by_token : (ls ms : List Lexeme) (k : Token) (y : Extent) (g : Option Fault) (f : Fault) → CanGoOn file nesting ls → (CanGoOn file nesting (ls ++ lexeme k y ∷ []) → ⊥)
+  pub by_token : (ls ms : List Lexeme) (k : Token) (y : Extent) (g : Option Fault) (f : Fault) → CanGoOn file nesting ls → (CanGoOn file nesting (ls ++ lexeme k y ∷ []) → ⊥)
       → IsFaultAt file nesting ls k y f → Found ls ms k y g f
   by_token ls ms k y g f goes never (close_of_nothing b z items) = by_state ls ms k y g f (at_top refl items) refl
   by_token ls ms k y g f goes never (close_of_another {p} {x} b z inside h) = by_state ls ms k y g f inside.come (rw (stray p b z (through x z) h) refl)
@@ -183,14 +181,3 @@ module _ (file : List ℕ) (nesting : ℕ) where
   by_token ls ms k y g f goes never (too_nested j z counted roomy) =
       let so = leads ls goes in
       by_state ls ms k y g f so.holds.1 (full so.there ls j z so.holds counted roomy (refused so.there ls (lexeme j z) so.holds never))
-
-  found_fault : (ls : List Lexeme) (g : Option Fault) (f : Fault) → IsFirstFault file nesting ls g f → run file nesting (state [] []) ls g ≡ Err f
-  unfolding run
-  found_fault ls g f (no_token d goes) = let so = leads ls goes in rw (append-nil ls) at (so.same [] (Some d))
-  found_fault ls g f (out_of_place us ms k y goes never bad) = by_token us ms k y g f goes never bad
-  found_fault ls g f (unclosed goes inside) = rw (append-nil ls) at (come_read file nesting inside.come [] None)
-
-pub is_faulted : {X : Type 0} (view : X → List PlainDatum) (r : Result X Stop) (file bytes : List ℕ) (nesting : ℕ) (f : Fault) → Gives view r (data_of file bytes nesting)
-    → IsFaultOf file bytes nesting f → Gives view r (Err f)
-unfolding data_of
-is_faulted view r file bytes nesting f g first = rw (found_fault file nesting (lexed file bytes).lexemes (lexed file bytes).fault f first) at g
