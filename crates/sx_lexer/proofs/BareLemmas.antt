@@ -1,18 +1,17 @@
 -- The definition of a bare token's end gives exactly the row of its characters.
-use Rattle.std.proofs.Common.{◌≡◌, ◌≢◌, ℕ, suc, ◌+◌, ◌<◌, Bool, true, false, cond, List, [], ◌∷◌, length, take, drop, slice_index, Option, Some, None, Result, Ok, Err, ◌⊎◌, inl, inr, refl, sym, ap, ◌∙◌, arith}
+use Rattle.std.proofs.Common.{◌≡◌, ℕ, ◌+◌, ◌<◌, Bool, true, false, cond, List, [], ◌∷◌, length, take, drop, slice_index, Option, Some, None, Ok, inl, inr, refl, ap, arith}
 use Rattle.std.specs.Prelude.{◌==◌, ◌&&◌, not, nat_lt, ◌↔◌}
 use Rattle.std.proofs.lemmas.Bool.{eqb-true}
 use Rattle.std.proofs.lemmas.Bool.Decides.{nat_tests}
 use Rattle.bstr.specs.Utf8.{Decoded}
-use Rattle.sx_base.specs.declared.fault.Fault.{Fault}
 use Rattle.sx_lexer.specs.Grammar.{BarePart, Bare, ends_bare, runs_first}
 use Rattle.sx_lexer.specs.Tokens.{bare_step, bare_end, escape_end, char_end}
 use Rattle.sx_lexer.proofs.BetweenLemmas.{some_bytes, first_some, by_first, not_equal, equal}
 use Rattle.sx_lexer.proofs.RowLemmas.{StepsOver, row_is}
-use Rattle.sx_spelling.specs.Escapes.{escape, escape_of, letter, scalar_of}
+use Rattle.sx_spelling.specs.Escapes.{escape, letter, scalar_of}
 use Rattle.sx_spelling.specs.Numbers.{digits_size}
 use Rattle.sx_spelling.specs.Source.{characters, piece}
-use Rattle.sx_spelling.specs.Whitespace.{is_delimiter, runs_on}
+use Rattle.sx_spelling.specs.Whitespace.{is_delimiter}
 use Rattle.sx_spelling.specs.declared.escapes.Letter.{Letter}
 
 abbrev size_of : Option Letter → ℕ
@@ -83,7 +82,7 @@ module _ (file : List ℕ) (from : ℕ) where
       let f = two (slice_index bytes 0 == 0x5C) (runs_first (characters bytes)) h in
       rw f.0 (ap Ok (char_stays (characters bytes) at f.1))
 
-  part_some : (bytes : List ℕ) (n : ℕ) → BarePart bytes n → (0 < n) × (0 < length bytes)
+  pub part_some : (bytes : List ℕ) (n : ℕ) → BarePart bytes n → (0 < n) × (0 < length bytes)
   part_some _ _ (BarePart.char bytes c size rest first e d) = (first_some bytes c size rest e, some_bytes bytes (piece (Some c) size) rest e)
   part_some _ _ (BarePart.escaped bytes l first e) = (escape_some bytes l e, by_first bytes 0x5C (omega arith) first)
 

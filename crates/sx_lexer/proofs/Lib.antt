@@ -4,3 +4,5 @@ pub mod RowLemmas
 pub mod BetweenLemmas
 pub mod BareLemmas
 pub mod StringLemmas
+pub mod CharacterLemmas
+pub mod TokenLemmas

@@ -1,5 +1,5 @@
 -- The definition of a string gives exactly its elements.
-use Rattle.std.proofs.Common.{◌≡◌, ◌≢◌, ℕ, zero, suc, ◌+◌, ◌-◌, ◌<◌, ◌≤◌, Bool, true, false, cond, List, [], ◌∷◌, ◌++◌, length, take, drop, slice_index, Option, Some, None, Result, Ok, Err, refl, sym, ap, ◌∙◌, subst, arith, append_assoc, append-nil, length-drop, add-zero}
+use Rattle.std.proofs.Common.{◌≡◌, ◌≢◌, ℕ, zero, suc, ◌+◌, ◌-◌, ◌<◌, Bool, true, false, cond, List, [], ◌∷◌, ◌++◌, length, take, drop, slice_index, Option, Some, None, Result, Ok, Err, refl, sym, ap, ◌∙◌, subst, arith, append_assoc, append-nil, length-drop, add-zero}
 use Rattle.std.proofs.lemmas.List.{get_or-drop}
 use Rattle.std.specs.Prelude.{◌==◌, ◌&&◌, nat_lt, ◌↔◌}
 use Rattle.std.proofs.lemmas.Bool.{eqb-true}
@@ -11,10 +11,10 @@ use Rattle.sx_base.specs.Place.{line_end}
 use Rattle.sx_base.specs.declared.fault.Fault.{Fault}
 use Rattle.sx_base.specs.declared.fault.FaultKind.TheVariants as kind
 use Rattle.sx_lexer.specs.Grammar.{Run, Element, Elements}
-use Rattle.sx_lexer.specs.Strings.{char_here, char_or_byte, simple_escape, letter_or_fault, hex_part, line_part, behind_blanks, escape_part, line_or_char, string_part, string_from, string_at, string_lexeme, char_text}
+use Rattle.sx_lexer.specs.Strings.{char_here, char_or_byte, simple_escape, letter_or_fault, hex_part, behind_blanks, escape_part, line_or_char, string_part, string_from, string_at, string_lexeme, char_text}
 use Rattle.sx_lexer.proofs.BetweenLemmas.{some_bytes, first_some, by_first, not_equal, equal, ascii_decoded}
 use Rattle.sx_lexer.proofs.BareLemmas.{escape_some}
-use Rattle.sx_spelling.specs.Escapes.{escape, escape_of, letter, scalar_of}
+use Rattle.sx_spelling.specs.Escapes.{escape, letter, scalar_of}
 use Rattle.sx_spelling.specs.Numbers.{digits_size}
 use Rattle.sx_spelling.specs.Source.{characters, piece}
 use Rattle.sx_spelling.specs.Whitespace.{blanks_end, is_intraline_char, run_end, runs_on}
@@ -55,7 +55,7 @@ run_complete at _ _ (Run.more n p ps e run) = rw e (omega (arith, run_complete (
 ok_same : (a b : Decoded) → ◌≡◌ {A = Result Decoded Fault} (Ok a) (Ok b) → a ≡ b
 ok_same a b e = cc
 
-lexeme_same : (a b : Lexeme) → ◌≡◌ {A = Result Lexeme Fault} (Ok a) (Ok b) → a ≡ b
+pub lexeme_same : (a b : Lexeme) → ◌≡◌ {A = Result Lexeme Fault} (Ok a) (Ok b) → a ≡ b
 lexeme_same a b e = cc
 
 -- the element that an answer stands for
@@ -80,7 +80,7 @@ not_zero n h = grind (arith, nat_tests)
 is_some : (n : ℕ) → 0 < n → n == 0 ≡ false
 is_some n h = grind (arith, nat_tests)
 
-differs : (b c : ℕ) → b == c ≡ false → b ≢ c
+pub differs : (b c : ℕ) → b == c ≡ false → b ≢ c
 differs b c h e = grind (arith, nat_tests)
 
 three : (a b c : Bool) → (a && b && c) ≡ true → (a ≡ true) × (c ≡ true)
@@ -139,7 +139,7 @@ module _ (file : List ℕ) (quote : ℕ) where
   continued_test : (bytes rest : List ℕ) (at before here c size : ℕ) (ps : List Decoded) (t : Bool) → slice_index bytes 0 ≡ 0x5C → simple_escape (slice_index bytes 1) ≡ None → slice_index bytes 1 ≢ 0x78
       → Run is_intraline_char (characters (drop 1 bytes)) before → here ≡ at + 1 + before → rest ≡ drop (1 + before) bytes → characters rest ≡ piece (Some c) size ∷ ps → line_end rest == 0 ≡ t
       → SoundPart bytes (cond t (Err (record { kind = kind.BadEscape; span = record { file = file; from = quote; to = at }; words = [] }))
-        (Ok (piece None (blanks_end (here + line_end rest) (characters (drop (line_end rest) rest)) - at))))
+      (Ok (piece None (blanks_end (here + line_end rest) (characters (drop (line_end rest) rest)) - at))))
   continued_test bytes rest at before here c size ps true first e x run is_here is_rest char n p given = absurd (cc)
   continued_test bytes rest at before here c size ps false first e x run is_here is_rest char n p given =
       let b = blanks_are (here + line_end rest) (characters (drop (line_end rest) rest)) in
@@ -149,7 +149,7 @@ module _ (file : List ℕ) (quote : ℕ) where
   continued_sound : (bytes rest : List ℕ) (at before here : ℕ) (r : Result Decoded Fault) → slice_index bytes 0 ≡ 0x5C → simple_escape (slice_index bytes 1) ≡ None → slice_index bytes 1 ≢ 0x78
       → Run is_intraline_char (characters (drop 1 bytes)) before → here ≡ at + 1 + before → rest ≡ drop (1 + before) bytes → char_here file quote here (characters rest) ≡ r
       → SoundPart bytes (r >>= λ _. cond (line_end rest == 0) (Err (record { kind = kind.BadEscape; span = record { file = file; from = quote; to = at }; words = [] }))
-        (Ok (piece None (blanks_end (here + line_end rest) (characters (drop (line_end rest) rest)) - at))))
+      (Ok (piece None (blanks_end (here + line_end rest) (characters (drop (line_end rest) rest)) - at))))
   continued_sound bytes rest at before here (Err f) first e x run is_here is_rest char p given = absurd (cc)
   continued_sound bytes rest at before here (Ok d) first e x run is_here is_rest char p given =
       let h = here_sound file rest quote here d (characters rest) refl char in
@@ -166,7 +166,7 @@ module _ (file : List ℕ) (quote : ℕ) where
 
   x_test : (bytes : List ℕ) (at : ℕ) (t : Bool) → slice_index bytes 0 ≡ 0x5C → simple_escape (slice_index bytes 1) ≡ None → slice_index bytes 1 == 0x78 ≡ t
       → SoundPart bytes (cond t (hex_part file quote at (digits_size 16 (drop 2 bytes)) bytes)
-        (behind_blanks file quote at (blanks_end (at + 1) (characters (drop 1 bytes))) (drop (blanks_end (at + 1) (characters (drop 1 bytes)) - at) bytes)))
+      (behind_blanks file quote at (blanks_end (at + 1) (characters (drop 1 bytes))) (drop (blanks_end (at + 1) (characters (drop 1 bytes)) - at) bytes)))
   x_test bytes at true first e x p given =
       hex_sound bytes at (char_here file quote (at + 2 + digits_size 16 (drop 2 bytes)) (characters (drop (2 + digits_size 16 (drop 2 bytes)) bytes))) first p given
   x_test bytes at false first e x p given = behind_sound bytes at first e (differs (slice_index bytes 1) 0x78 x) p given
@@ -211,7 +211,7 @@ module _ (file : List ℕ) (quote : ℕ) where
       let here = blanks_end (at + 1) (characters (drop 1 bytes)) in
       rw (equal (slice_index bytes 0) 0x5C first, none)
       (first_way (slice_index bytes 1 == 0x78) (hex_part file quote at n bytes) (behind_blanks file quote at here (drop (here - at) bytes)) (Ok (piece (Some l.char) l.size))
-        (equal (slice_index bytes 1) 0x78 parts.0) (hex_part_complete bytes at n l parts.1 e))
+      (equal (slice_index bytes 1) 0x78 parts.0) (hex_part_complete bytes at n l parts.1 e))
 
   continued_complete : (bytes rest : List ℕ) (at before after c size : ℕ) (ps : List Decoded) → slice_index bytes 0 ≡ 0x5C → simple_escape (slice_index bytes 1) ≡ None → slice_index bytes 1 ≢ 0x78
       → Run is_intraline_char (characters (drop 1 bytes)) before → rest ≡ drop (1 + before) bytes → 0 < line_end rest → characters rest ≡ piece (Some c) size ∷ ps
@@ -294,6 +294,7 @@ module _ (file : List ℕ) (quote : ℕ) where
 
   -- a string is exactly its elements
   pub string_is : (bytes : List ℕ) (l : Lexeme) → (string_at file bytes quote ≡ Ok l) ↔ ((n : ℕ) × (text : List ℕ) × (string_lexeme text quote (quote + 1 + n) ≡ l) × Elements (drop 1 bytes) n text)
-  string_is bytes l =
-      (λ e. string_sound (suc (length (drop 1 bytes))) [] (drop 1 bytes) (quote + 1) l (omega arith) e,
-      λ g. string_complete (drop 1 bytes) g.0 g.1 g.3 (suc (length (drop 1 bytes))) (quote + 1) [] (omega arith) ∙ ap Ok g.2)
+  string_is bytes l = (
+    λ e. string_sound (suc (length (drop 1 bytes))) [] (drop 1 bytes) (quote + 1) l (omega arith) e,
+    λ g. string_complete (drop 1 bytes) g.0 g.1 g.3 (suc (length (drop 1 bytes))) (quote + 1) [] (omega arith) ∙ ap Ok g.2,
+  )

@@ -11,7 +11,9 @@
 //! integer -12 at 10 to 13, and `)` at 13 to 14. Bytes that spell no token are a fault there.
 //!
 //! The promise: the lexeme behind an offset, or the fault there, is exactly the one that
-//! `specs/Tokens` defines, and it ends behind that offset.
+//! `specs/Tokens` defines, and it ends behind that offset. `laws` proves what that definition
+//! means: behind a row of whitespace and comments (`specs/Between`) stands exactly the one token
+//! that the bytes there spell (`specs/Grammar`).
 //!
 //! This crate stands on `sx_base`, and on `sx_spelling`, which tells what a text spells once its end
 //! is known. A reader makes data of the lexemes.
