@@ -13,7 +13,7 @@ use Rattle.sx_tree.specs.Leaves.{tree_of}
 use Rattle.sx_tree.proofs.TreeLaws.{chain-append}
 use Rattle.sx_tree.proofs.MeasureLaws.{pair_fits, chain_fits, height-spanned, size-spanned}
 use Rattle.sx_syntax.specs.Kept.{Lazily, end_of}
-use Rattle.sx_syntax.specs.Built.{Built, built_tree, with_front}
+use Rattle.sx_syntax.specs.Builder.{Built, built_tree, with_front}
 use Rattle.sx_syntax.specs.Leaves.{sample_context, span_by, datum_by, grown_tree}
 use Rattle.sx_syntax.specs.declared.leaves.Sample.{Sample}
 use Rattle.sx_syntax.specs.declared.leaves.Spans.{Spans}

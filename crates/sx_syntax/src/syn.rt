@@ -8,7 +8,7 @@ ghost use Rattle.sx_tree.specs.Changes.{changed, enter, leave, stamp};
 ghost use Rattle.sx_tree.specs.Leaves.{tree_of, datum_like, strip, marks_of, stamps_of};
 ghost use Rattle.sx_tree.specs.Context.{blank};
 ghost use Rattle.sx_syntax.specs.Leaves.{grown_tree};
-ghost use Rattle.sx_syntax.specs.Built.{built_tree};
+ghost use Rattle.sx_syntax.specs.Builder.{built_tree};
 ghost use Rattle.sx_base.specs.declared.span.Span.{Span};
 ghost use Rattle.sx_syntax.specs.KeptView.{run_of, run_tree, IsListRun};
 ghost use Rattle.sx_syntax.specs.Opens.{Opens};

@@ -5,7 +5,7 @@ use Rattle.sx_base.specs.DatumView.{seen}
 use Rattle.sx_tree.specs.Tree.{Tree, chain, spanned, vector, nil}
 use Rattle.sx_tree.specs.Measures.{Fits}
 use Rattle.sx_tree.proofs.MeasureLaws.{chain_fits}
-use Rattle.sx_syntax.specs.Built.{built_tree, with_front}
+use Rattle.sx_syntax.specs.Builder.{built_tree, with_front}
 use Rattle.sx_syntax.specs.Leaves.{grown_tree, span_by}
 use Rattle.sx_syntax.proofs.GivesLemmas.{refuses_more}
 use Rattle.sx_syntax.proofs.GrownLemmas.{datum_size-some, end_smaller, elements_smaller, element_smaller, list_node, vector_node, bare_fits, vector_fits, datum_fits, grown_more}
