@@ -102,12 +102,7 @@ fn pair_of(alloc: Global, slice: &Slice, wrap: &Wrap) -> Result<Opened, Memory>
 }
 
 /// The tree of a datum whose symbols are leaves like these.
-fn grown(
-    alloc: Global,
-    spans: Spans,
-    sample: &Sample,
-    datum: &Datum,
-) -> Result<Syn, BareStop>
+fn grown(alloc: Global, spans: Spans, sample: &Sample, datum: &Datum) -> Result<Syn, BareStop>
     ensures { BareGives (λ t. t) result (within (grown_tree spans sample.now datum.now)) }
 {
     let kept = from_datum(alloc, spans, sample, datum)?;
