@@ -9,7 +9,7 @@ use Rattle.sx_tree.proofs.TreeLaws.{changed-none, changed-spanned, is_list-chang
 use Rattle.sx_tree.proofs.MeasureLaws.{height-changed, changed_fits, chain_fits}
 use Rattle.sx_syntax.specs.Kept.{Lazily, IsSettled, lazily, end_of}
 use Rattle.sx_syntax.specs.KeptView.{Run, Form, list_form, vector_form, form_of, run_of, trees, run_tree, run_rest, whole_tree, seen, view_of, AreItems, IsEnd, IsListRun, IsVectorRun}
-use Rattle.sx_syntax.specs.Built.{Built, built_tree, with_front}
+use Rattle.sx_syntax.specs.Builder.{Built, built_tree, with_front}
 use Rattle.sx_syntax.specs.declared.kept.Item.{Item}
 use Rattle.sx_syntax.specs.declared.kept.Node.{Node}
 use Rattle.sx_syntax.proofs.FormLemmas.{later_fits, new_list, new_vector, new_tree, list_settled, vector_settled}

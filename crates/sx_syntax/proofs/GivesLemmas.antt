@@ -12,7 +12,7 @@ use Rattle.sx_tree.proofs.TreeLaws.{chain-append}
 use Rattle.sx_tree.proofs.MeasureLaws.{within-fits, within-past}
 use Rattle.sx_syntax.specs.Kept.{Lazily, end_of}
 use Rattle.sx_syntax.specs.KeptView.{Run, run_tree, run_rest, IsFirst}
-use Rattle.sx_syntax.specs.Built.{Built, built_tree}
+use Rattle.sx_syntax.specs.Builder.{Built, built_tree}
 use Rattle.sx_syntax.specs.Refuses.{Refuses}
 use Rattle.sx_syntax.specs.Opens.{Opens}
 use Rattle.sx_syntax.specs.declared.syn.Opened.TheVariants as opened

@@ -13,7 +13,7 @@ use Rattle.sx_tree.specs.Leaves.{tree_of}
 use Rattle.sx_tree.proofs.TreeLaws.{chain-append}
 use Rattle.sx_tree.proofs.MeasureLaws.{pair_fits, chain_fits, height-spanned, size-spanned}
 use Rattle.sx_syntax.specs.Kept.{Lazily, end_of}
-use Rattle.sx_syntax.specs.Built.{Built, built_tree, with_front}
+use Rattle.sx_syntax.specs.Builder.{Built, built_tree, with_front}
 use Rattle.sx_syntax.specs.Leaves.{sample_context, span_by, datum_by, grown_tree}
 use Rattle.sx_syntax.specs.declared.leaves.Sample.{Sample}
 use Rattle.sx_syntax.specs.declared.leaves.Spans.{Spans}
@@ -109,11 +109,11 @@ pub grown_more : (f : PlainDatum → Tree) (ds : List PlainDatum) (k : ℕ) (d :
     → b.elements ≡ map f (drop (suc k) ds) ++ old.elements → b.tail ≡ old.tail → Fits (chain (map f ds) (built_tree old)) → Fits (built_tree (with_front x b))
 grown_more f ds k d x b old l e g h t fits =
     let whole : built_tree (with_front x b) ≡ chain (map f (drop k ds)) (built_tree old) =
-        ap (λ o. pair None x (chain b.elements (end_of o))) t
-        ∙ ap (λ y. pair None y (chain b.elements (end_of old.tail))) (g ∙ ap f e)
-        ∙ ap (λ ys. pair None (f (get_or ds k d)) (chain ys (end_of old.tail))) h
-        ∙ ap (pair None (f (get_or ds k d))) (chain-append (map f (drop (suc k) ds)) old.elements (end_of old.tail))
-        ∙ ap (λ ys. chain (map f ys) (built_tree old)) (sym (drop-cons ds k d l)) in
+    ap (λ o. pair None x (chain b.elements (end_of o))) t
+    ∙ ap (λ y. pair None y (chain b.elements (end_of old.tail))) (g ∙ ap f e)
+    ∙ ap (λ ys. pair None (f (get_or ds k d)) (chain ys (end_of old.tail))) h
+    ∙ ap (pair None (f (get_or ds k d))) (chain-append (map f (drop (suc k) ds)) old.elements (end_of old.tail))
+    ∙ ap (λ ys. chain (map f ys) (built_tree old)) (sym (drop-cons ds k d l)) in
     subst Fits (sym whole) (later_data f ds k (built_tree old) fits)
 
 pub list_node : (b : Spans) (s : Sample) (p q : Option Span) (ds es : List PlainDatum) (t u d : PlainDatum) → es ≡ ds → u ≡ t → q ≡ span_by b p → IsTrue (is_some_list ds && datum.is_tail t) → listed p ds t ≡ d

@@ -9,7 +9,7 @@ use Rattle.sx_tree.proofs.TreeLaws.{changed-unspanned, unspanned-spanned, unspan
 use Rattle.sx_tree.proofs.MeasureLaws.{height-unspanned, size-unspanned, chain_fits}
 use Rattle.sx_syntax.specs.Kept.{Lazily, end_of}
 use Rattle.sx_syntax.specs.KeptView.{Run, Form, list_form, vector_form, form_of, trees, run_tree, whole_tree, form_tree, seen, view_of, IsWholeRun}
-use Rattle.sx_syntax.specs.Built.{Built, built_tree}
+use Rattle.sx_syntax.specs.Builder.{Built, built_tree}
 use Rattle.sx_syntax.specs.declared.kept.Item.{Item}
 use Rattle.sx_syntax.specs.declared.kept.Node.{Node}
 use Rattle.sx_syntax.proofs.FormLemmas.{later_fits}

@@ -1,9 +1,9 @@
-pub mod Pending
+pub mod Wrap
+pub mod Base
 pub mod Kept
 pub mod KeptView
 pub mod KeptFalls
-pub mod Extents
-pub mod Built
-pub mod Opens
+pub mod Builder
 pub mod Leaves
+pub mod Opens
 pub mod Refuses

@@ -19,7 +19,7 @@ pub(crate) struct Base {
 impl Model for Base {
     ghost use Rattle.sx_tree.specs.Context.{LeafContext};
     ghost use Rattle.sx_tree.specs.ContextCode.{context_code};
-    ghost use Rattle.sx_syntax.specs.Pending.{context_in};
+    ghost use Rattle.sx_syntax.specs.Base.{context_in};
 
     ghost Value = { LeafContext };
 

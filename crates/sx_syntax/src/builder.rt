@@ -8,8 +8,8 @@ ghost use Rattle.sx_tree.specs.Changes.{changed};
 ghost use Rattle.sx_tree.specs.Measures.{Fits, joint, too_deep};
 ghost use Rattle.sx_syntax.specs.Kept.{IsSettled, end_of};
 ghost use Rattle.sx_syntax.specs.KeptView.{IsEnd, IsExtent, IsListRun, AreItems, trees, run_of, run_tree, InForm, list_form, vector_form};
-ghost use Rattle.sx_syntax.specs.Built.{Built, built_tree, with_front, Extends};
-ghost use Rattle.sx_syntax.specs.Extents.{Grows, grown_height, grown_size};
+ghost use Rattle.sx_syntax.specs.Builder.{Built, built_tree, with_front, Extends};
+ghost use Rattle.sx_syntax.specs.Builder.{Grows, grown_height, grown_size};
 ghost use Rattle.sx_syntax.specs.Refuses.{Refuses};
 
 use crate::kept::{Extent, Item, Kept, Node, Shape, Slice};
@@ -65,7 +65,7 @@ pub(crate) struct Builder {
 
 impl Model for Builder {
     ghost use Rattle.std.specs.Prelude.{reverse};
-    ghost use Rattle.sx_syntax.specs.Built.{Built, built_code, IsBuilt};
+    ghost use Rattle.sx_syntax.specs.Builder.{Built, built_code, IsBuilt};
     ghost use Rattle.sx_syntax.specs.KeptView.{trees};
 
     ghost Value = { Built };

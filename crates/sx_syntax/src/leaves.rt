@@ -8,7 +8,7 @@ ghost use Rattle.sx_tree.specs.Measures.{Fits};
 ghost use Rattle.sx_tree.specs.Leaves.{context_of};
 ghost use Rattle.sx_syntax.specs.Kept.{IsSettled, end_of};
 ghost use Rattle.sx_syntax.specs.KeptView.{IsEnd};
-ghost use Rattle.sx_syntax.specs.Built.{built_tree};
+ghost use Rattle.sx_syntax.specs.Builder.{built_tree};
 ghost use Rattle.sx_syntax.specs.Leaves.{sample_context, span_by, grown_tree};
 ghost use Rattle.sx_syntax.specs.Refuses.{Refuses};
 

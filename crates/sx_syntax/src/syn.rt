@@ -8,7 +8,7 @@ ghost use Rattle.sx_tree.specs.Changes.{changed, enter, leave, stamp};
 ghost use Rattle.sx_tree.specs.Leaves.{tree_of, datum_like, strip, marks_of, stamps_of};
 ghost use Rattle.sx_tree.specs.Context.{blank};
 ghost use Rattle.sx_syntax.specs.Leaves.{grown_tree};
-ghost use Rattle.sx_syntax.specs.Built.{built_tree};
+ghost use Rattle.sx_syntax.specs.Builder.{built_tree};
 ghost use Rattle.sx_base.specs.declared.span.Span.{Span};
 ghost use Rattle.sx_syntax.specs.KeptView.{run_of, run_tree, IsListRun};
 ghost use Rattle.sx_syntax.specs.Opens.{Opens};
@@ -102,12 +102,7 @@ fn pair_of(alloc: Global, slice: &Slice, wrap: &Wrap) -> Result<Opened, Memory>
 }
 
 /// The tree of a datum whose symbols are leaves like these.
-fn grown(
-    alloc: Global,
-    spans: Spans,
-    sample: &Sample,
-    datum: &Datum,
-) -> Result<Syn, BareStop>
+fn grown(alloc: Global, spans: Spans, sample: &Sample, datum: &Datum) -> Result<Syn, BareStop>
     ensures { BareGives (λ t. t) result (within (grown_tree spans sample.now datum.now)) }
 {
     let kept = from_datum(alloc, spans, sample, datum)?;

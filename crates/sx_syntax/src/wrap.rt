@@ -21,7 +21,7 @@ pub(crate) struct Wrap {
 impl Model for Wrap {
     ghost use Rattle.std.specs.Prelude.{List};
     ghost use Rattle.sx_tree.specs.declared.change.Change.{Change};
-    ghost use Rattle.sx_syntax.specs.Pending.{pending};
+    ghost use Rattle.sx_syntax.specs.Wrap.{pending};
 
     ghost Value = { List Change };
 

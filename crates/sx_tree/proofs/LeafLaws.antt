@@ -1,11 +1,12 @@
 -- Between data and trees.
-use Rattle.std.proofs.Common.{◌≡◌, List, refl, ap}
+use Rattle.std.proofs.Common.{◌≡◌, List, ◌++◌, map, refl, ap, sym, ◌∙◌}
+use Rattle.std.proofs.lemmas.List.{map-append}
 use Rattle.sx_base.specs.Datum.{PlainDatum, atom, symbol, pair, vector}
 use Rattle.sx_tree.specs.Context.{LeafContext, acts}
 use Rattle.sx_tree.specs.Tree.{Tree}
 use Rattle.sx_tree.specs.Tree as tree
 use Rattle.sx_tree.specs.Changes.{changed}
-use Rattle.sx_tree.specs.Leaves.{tree_of, strip}
+use Rattle.sx_tree.specs.Leaves.{tree_of, strip, contexts}
 use Rattle.sx_tree.specs.declared.change.Change.{Change}
 
 pub strip-changed : (xs : List Change) (t : Tree) → strip (changed xs t) ≡ strip t
@@ -20,8 +21,10 @@ strip-tree_of c (symbol s x) = refl
 strip-tree_of c (pair s d e) = let ed = strip-tree_of c d in let ee = strip-tree_of c e in cc
 strip-tree_of c (vector s d) = ap (vector s) (strip-tree_of c d)
 
-pub changed-tree_of : (xs : List Change) (c : LeafContext) (d : PlainDatum) → changed xs (tree_of c d) ≡ tree_of (acts xs c) d
-changed-tree_of xs c (atom s a) = refl
-changed-tree_of xs c (symbol s x) = refl
-changed-tree_of xs c (pair s d e) = let ed = changed-tree_of xs c d in let ee = changed-tree_of xs c e in cc
-changed-tree_of xs c (vector s d) = ap (tree.vector s) (changed-tree_of xs c d)
+pub contexts-changed : (xs : List Change) (t : Tree) → contexts (changed xs t) ≡ map (acts xs) (contexts t)
+contexts-changed xs (tree.atom s a) = refl
+contexts-changed xs (tree.leaf s x c) = refl
+contexts-changed xs (tree.pair s a d) =
+    ap (λ cs. cs ++ contexts (changed xs d)) (contexts-changed xs a) ∙ ap (λ cs. map (acts xs) (contexts a) ++ cs) (contexts-changed xs d)
+    ∙ sym (map-append (acts xs) (contexts a) (contexts d))
+contexts-changed xs (tree.vector s d) = contexts-changed xs d

@@ -1,5 +1,5 @@
 -- Between data and trees: the symbols of a datum are the leaves of a tree.
-use Rattle.std.specs.Prelude.{List}
+use Rattle.std.specs.Prelude.{List, [], ◌∷◌, ◌++◌}
 use Rattle.sx_base.specs.declared.name.Mark.{Mark}
 use Rattle.sx_base.specs.Datum.{PlainDatum}
 use Rattle.sx_base.specs.Datum as datum
@@ -20,6 +20,13 @@ strip (atom s a) = datum.atom s a
 strip (leaf s x c) = datum.symbol s x
 strip (pair s a d) = datum.pair s (strip a) (strip d)
 strip (vector s d) = datum.vector s (strip d)
+
+-- the contexts of all leaves, from left to right
+abbrev pub contexts : Tree → List LeafContext
+contexts (atom s a) = []
+contexts (leaf s x c) = c ∷ []
+contexts (pair s a d) = contexts a ++ contexts d
+contexts (vector s d) = contexts d
 
 -- the context of a leaf, and none of what is no leaf
 abbrev pub context_of : Tree → LeafContext

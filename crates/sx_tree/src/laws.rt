@@ -9,7 +9,7 @@ ghost use Rattle.sx_tree.specs.Context.{LeafContext, acts};
 ghost use Rattle.sx_tree.specs.Tree.{Tree, nil, chain, spanned, vector, is_pair};
 ghost use Rattle.sx_tree.specs.Measures.{size, height, tail_part, greatest};
 ghost use Rattle.sx_tree.specs.Changes.{changed, enter, leave, stamp};
-ghost use Rattle.sx_tree.specs.Leaves.{tree_of, strip};
+ghost use Rattle.sx_tree.specs.Leaves.{tree_of, strip, contexts};
 ghost use Rattle.sx_tree.specs.Renaming.{IsOneToOne, renamed, renamed_change};
 ghost use Rattle.sx_tree.specs.declared.change.Change.{Change};
 
@@ -44,16 +44,19 @@ pub fn changes_keep_measures()
     ensures height { (xs : List Change) (t : Tree) → height (changed xs t) ≡ height t }
 {}
 
-/// A datum is the same whatever marks and stamps its tree was given.
-pub fn strip_forgets_changes()
-    ensures changed { (xs : List Change) (t : Tree) → strip (changed xs t) ≡ strip t }
-    ensures back { (c : LeafContext) (d : PlainDatum) → strip (tree_of c d) ≡ d }
-{}
-
-/// The leaves of a datum's tree change alike.
+/// Changes act on every leaf alike, and on nothing else: the contexts of the leaves change one by one,
+/// and what is left without marks and stamps is as before.
 pub fn changes_act_on_every_leaf()
-    ensures { (xs : List Change) (c : LeafContext) (d : PlainDatum) → changed xs (tree_of c d) ≡ tree_of (acts xs c) d }
-{}
+    ensures leaves { (xs : List Change) (t : Tree) → contexts (changed xs t) ≡ map (acts xs) (contexts t) }
+    ensures rest { (xs : List Change) (t : Tree) → strip (changed xs t) ≡ strip t }
+{
+}
+
+/// To make a tree of a datum and strip it gives the datum back, whatever the context of its leaves.
+pub fn strip_gives_the_datum_back()
+    ensures { (c : LeafContext) (d : PlainDatum) → strip (tree_of c d) ≡ d }
+{
+}
 
 /// Only which marks are the same matters: to give the marks other names, one to one, before or after
 /// changes is the same.

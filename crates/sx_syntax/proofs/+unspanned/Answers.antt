@@ -3,7 +3,7 @@ use Rattle.std.proofs.lemmas.Result.{IfOk-weaker}
 use Rattle.sx_tree.specs.Tree.{unspanned}
 use Rattle.sx_syntax.specs.Kept.{Lazily, end_of}
 use Rattle.sx_syntax.specs.KeptView.{view_of, form_of, run_of, list_form, vector_form, InForm, IsListRun, trees, deepest}
-use Rattle.sx_syntax.specs.Built.{Built}
+use Rattle.sx_syntax.specs.Builder.{Built}
 use Rattle.sx_syntax.specs.declared.kept.Node.{Node}
 use Rattle.sx_syntax.proofs.BuiltLemmas.{under_settled}
 use Rattle.sx_syntax.proofs.DepthLemmas.{item_deep}

@@ -5,7 +5,7 @@ use Rattle.sx_base.specs.DatumView.{seen}
 use Rattle.sx_tree.specs.Tree.{Tree, chain, spanned, vector, nil}
 use Rattle.sx_tree.specs.Measures.{Fits}
 use Rattle.sx_tree.proofs.MeasureLaws.{chain_fits}
-use Rattle.sx_syntax.specs.Built.{built_tree, with_front}
+use Rattle.sx_syntax.specs.Builder.{built_tree, with_front}
 use Rattle.sx_syntax.specs.Leaves.{grown_tree, span_by}
 use Rattle.sx_syntax.proofs.GivesLemmas.{refuses_more}
 use Rattle.sx_syntax.proofs.GrownLemmas.{datum_size-some, end_smaller, elements_smaller, element_smaller, list_node, vector_node, bare_fits, vector_fits, datum_fits, grown_more}
@@ -14,7 +14,7 @@ use Rattle.sx_syntax.proofs.leaves.+from_datum.Goals as goal
 pub from_datum-returns-in-List-clause-tree : goal.from_datum-returns-in-List-clause-tree
 from_datum-returns-in-List-clause-tree t c =
     let same = list_node c.args.spans c.args.sample.now c.datum.inside.span c.in_ok-span.span c.in-List.items.items c.deref.result.now c.in-List.tail.value c.deref-in-List.result.now c.args.datum.now
-        c.deref.ensures.value c.deref-in-List.ensures c.in_ok-span.ensures (rw c.in-List.is at c.datum.invariant) (ap (seen c.datum.inside.span) (sym c.in-List.is) ∙ c.datum.view_is) in
+    c.deref.ensures.value c.deref-in-List.ensures c.in_ok-span.ensures (rw c.in-List.is at c.datum.invariant) (ap (seen c.datum.inside.span) (sym c.in-List.is) ∙ c.datum.view_is) in
     IfOk-weaker c.from_list.result _ _ (λ k h. h ∙ sym same) c.from_list.ensures.tree
 
 pub from_datum-returns-in-List-clause-refused : goal.from_datum-returns-in-List-clause-refused
@@ -22,7 +22,7 @@ from_datum-returns-in-List-clause-refused t c =
     let f = grown_tree c.args.spans c.args.sample.now in
     let list = chain (map f c.deref.result.now) (f c.deref-in-List.result.now) in
     let same = list_node c.args.spans c.args.sample.now c.datum.inside.span c.in_ok-span.span c.in-List.items.items c.deref.result.now c.in-List.tail.value c.deref-in-List.result.now c.args.datum.now
-        c.deref.ensures.value c.deref-in-List.ensures c.in_ok-span.ensures (rw c.in-List.is at c.datum.invariant) (ap (seen c.datum.inside.span) (sym c.in-List.is) ∙ c.datum.view_is) in
+    c.deref.ensures.value c.deref-in-List.ensures c.in_ok-span.ensures (rw c.in-List.is at c.datum.invariant) (ap (seen c.datum.inside.span) (sym c.in-List.is) ∙ c.datum.view_is) in
     IfErr-weaker c.from_list.result _ _
     (λ e h. refuses_more e (Fits list) (Fits (f c.args.datum.now)) (λ fits. bare_fits c.in_ok-span.span list (f c.args.datum.now) same fits) h)
     c.from_list.ensures.refused
@@ -30,7 +30,7 @@ from_datum-returns-in-List-clause-refused t c =
 pub from_datum-returns-in-Vector-clause-tree : goal.from_datum-returns-in-Vector-clause-tree
 from_datum-returns-in-Vector-clause-tree t c =
     let same = vector_node c.args.spans c.args.sample.now c.datum.inside.span c.in_ok-span.span c.in-Vector.items.items c.deref-in-Vector.result.now c.args.datum.now
-        c.deref-in-Vector.ensures.value c.in_ok-span.ensures (ap (seen c.datum.inside.span) (sym c.in-Vector.is) ∙ c.datum.view_is) in
+    c.deref-in-Vector.ensures.value c.in_ok-span.ensures (ap (seen c.datum.inside.span) (sym c.in-Vector.is) ∙ c.datum.view_is) in
     IfOk-weaker c.from_vector.result _ _ (λ k h. h ∙ sym same) c.from_vector.ensures.tree
 
 pub from_datum-returns-in-Vector-clause-refused : goal.from_datum-returns-in-Vector-clause-refused
@@ -38,7 +38,7 @@ from_datum-returns-in-Vector-clause-refused t c =
     let f = grown_tree c.args.spans c.args.sample.now in
     let list = chain (map f c.deref-in-Vector.result.now) nil in
     let same = vector_node c.args.spans c.args.sample.now c.datum.inside.span c.in_ok-span.span c.in-Vector.items.items c.deref-in-Vector.result.now c.args.datum.now
-        c.deref-in-Vector.ensures.value c.in_ok-span.ensures (ap (seen c.datum.inside.span) (sym c.in-Vector.is) ∙ c.datum.view_is) in
+    c.deref-in-Vector.ensures.value c.in_ok-span.ensures (ap (seen c.datum.inside.span) (sym c.in-Vector.is) ∙ c.datum.view_is) in
     IfErr-weaker c.from_vector.result _ _
     (λ e h. refuses_more e (Fits list) (Fits (f c.args.datum.now)) (λ fits. vector_fits c.in_ok-span.span list (f c.args.datum.now) same fits) h)
     c.from_vector.ensures.refused
@@ -81,7 +81,7 @@ push_data-returns-in_err-tree-clause-refused t c =
     let at = c.loop-at.at - 1 in
     let l : at < length ds = omega (arith, c.loop-at.invariant.within, c.loop-at-test.true) in
     rw (p.1, p.2) (refuses_more c.in_err-tree.field-0.0 (Fits (f c.index-items-at.result)) (Fits (chain (map f ds) old))
-        (λ h. datum_fits f ds at c.index-items-at.result old l c.index-items-at.is h) c.in_err-tree.ensures.refused)
+    (λ h. datum_fits f ds at c.index-items-at.result old l c.index-items-at.is h) c.in_err-tree.ensures.refused)
 
 pub push_data-returns-in-Err-clause-refused : goal.push_data-returns-in-Err-clause-refused
 push_data-returns-in-Err-clause-refused t c =

@@ -20,10 +20,10 @@ decreases-push_data l = 3 * datum_size (chain l.items.now nil) - 2
 
 abbrev pub invariant-push_data-loop-at : goal.invariant-push_data-loop-at
 invariant-push_data-loop-at l = record {
-    within : l.at ≤ length l.items;
-    elements : l.builder.elements ≡ map (grown_tree l.spans l.sample) (drop l.at l.items) ++ l.initial.builder.elements;
-    tail : l.builder.tail ≡ l.initial.builder.tail;
-  }
+  within : l.at ≤ length l.items;
+  elements : l.builder.elements ≡ map (grown_tree l.spans l.sample) (drop l.at l.items) ++ l.initial.builder.elements;
+  tail : l.builder.tail ≡ l.initial.builder.tail;
+}
 
 abbrev pub decreases-push_data-loop-at : goal.decreases-push_data-loop-at
 decreases-push_data-loop-at l = l.at

@@ -2,7 +2,7 @@ use Rattle.std.proofs.Common.{◌∙◌, ap}
 use Rattle.std.proofs.lemmas.Result.{err_from_is_err_and}
 use Rattle.sx_tree.specs.Tree.{chain, spanned}
 use Rattle.std.proofs.Common.{None}
-use Rattle.sx_syntax.specs.Built.{built_tree}
+use Rattle.sx_syntax.specs.Builder.{built_tree}
 use Rattle.sx_syntax.proofs.GivesLemmas.{gives_tree, gives_stop, built_on, spanned_chain}
 use Rattle.sx_syntax.proofs.syn.list_on.Goals as goal
 

@@ -2,7 +2,7 @@ use Rattle.std.proofs.Common.{◌≡◌, sym, ap, subst, ◌∙◌, ◌++◌, �
 use Rattle.sx_tree.specs.Tree.{Tree, chain}
 use Rattle.sx_tree.specs.Measures.{Fits}
 use Rattle.sx_tree.proofs.MeasureLaws.{chain_fits}
-use Rattle.sx_syntax.specs.Built.{built_tree, with_front}
+use Rattle.sx_syntax.specs.Builder.{built_tree, with_front}
 use Rattle.sx_syntax.proofs.GivesLemmas.{pushed_whole, refuses_more}
 use Rattle.sx_syntax.proofs.syn.push_all.Goals as goal
 

@@ -6,7 +6,7 @@ use Rattle.sx_tree.specs.Tree.{chain, nil, is_list}
 use Rattle.sx_tree.proofs.TreeLaws.{is_list-chain}
 use Rattle.sx_syntax.specs.Kept.{end_of}
 use Rattle.sx_syntax.specs.KeptView.{trees}
-use Rattle.sx_syntax.specs.Built.{Built, built_tree}
+use Rattle.sx_syntax.specs.Builder.{Built, built_tree}
 use Rattle.sx_syntax.proofs.FormLemmas.{some_list}
 use Rattle.sx_syntax.proofs.builder.Builder.joint.Goals as goal
 

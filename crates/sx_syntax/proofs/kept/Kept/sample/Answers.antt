@@ -8,4 +8,4 @@ pub returns-in_default : goal.returns-in_default
 returns-in_default c =
     c.blank.ensures
     ∙ sym (bare_node c.deref-node.result.now c.args.self.now (ap view_of c.deref-node.ensures ∙ c.self.view_is)
-        (subst (λ (n : Node). InForm (form_of n.shape)) (sym c.deref-node.ensures) c.self.invariant) c.in_default.not-Leaf)
+    (subst (λ (n : Node). InForm (form_of n.shape)) (sym c.deref-node.ensures) c.self.invariant) c.in_default.not-Leaf)

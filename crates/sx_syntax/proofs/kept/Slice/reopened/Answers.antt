@@ -3,7 +3,7 @@ use Rattle.sx_tree.specs.Tree.{chain}
 use Rattle.sx_tree.specs.Changes.{changed}
 use Rattle.sx_syntax.specs.Kept.{end_of}
 use Rattle.sx_syntax.specs.KeptView.{run_of, trees}
-use Rattle.sx_syntax.specs.Built.{built_tree, with_front}
+use Rattle.sx_syntax.specs.Builder.{built_tree, with_front}
 use Rattle.sx_syntax.proofs.BuiltLemmas.{end_fits, part_settled, part_tree, part_within}
 use Rattle.sx_syntax.proofs.kept.Slice.reopened.Goals as goal
 

@@ -4,7 +4,7 @@ use Rattle.sx_tree.specs.Tree.{chain}
 use Rattle.sx_tree.specs.Changes.{changed}
 use Rattle.sx_syntax.specs.Kept.{end_of}
 use Rattle.sx_syntax.specs.KeptView.{trees}
-use Rattle.sx_syntax.specs.Built.{built_tree}
+use Rattle.sx_syntax.specs.Builder.{built_tree}
 use Rattle.sx_syntax.proofs.kept.Slice.reopened.Given as goal
 
 abbrev pub invariant-loop-at : goal.invariant-loop-at

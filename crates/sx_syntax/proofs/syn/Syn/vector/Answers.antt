@@ -2,7 +2,7 @@ use Rattle.std.proofs.Common.{None, ◌∙◌, ap}
 use Rattle.std.proofs.lemmas.Result.{err_from_is_err_and}
 use Rattle.sx_tree.specs.Tree.{Tree, vector, vector_of, chain, nil}
 use Rattle.sx_tree.specs.Measures.{Fits}
-use Rattle.sx_syntax.specs.Built.{Built, built_tree}
+use Rattle.sx_syntax.specs.Builder.{Built, built_tree}
 use Rattle.sx_syntax.proofs.GivesLemmas.{gives_tree, gives_stop, built_on}
 use Rattle.sx_syntax.proofs.syn.Syn.vector.Goals as goal
 

@@ -1,5 +1,5 @@
 -- A list in the making: elements before a tail.
-use Rattle.std.specs.Prelude.{◌≡◌, List, [], ◌∷◌, Option, None, Some, reverse, refl}
+use Rattle.std.specs.Prelude.{◌≡◌, ℕ, ◌+◌, ◌≤◌, max, List, [], ◌∷◌, Option, None, Some, reverse, refl}
 use Rattle.std.specs.Coded.{Coded, code_by, coded×, coded_list, coded_option}
 use Rattle.sx_tree.specs.Tree.{Tree, chain}
 use Rattle.sx_tree.specs.TreeCode.{tree_code}
@@ -33,3 +33,14 @@ pub record IsBuilt (items : List Item) (tail : Option Lazily) (e : Extent) : Typ
 abbrev pub Extends : Option Extent → Tree → Type 0
 Extends None t = ¬ Fits t
 Extends (Some e) t = IsExtent e t × Fits t
+
+-- the height of a list with one more element before a rest
+abbrev pub grown_height : Extent → Extent → ℕ → ℕ
+grown_height element rest joint = max (element.height + 1) (rest.height + joint)
+
+abbrev pub grown_size : Extent → Extent → ℕ → ℕ
+grown_size element rest joint = element.size + (rest.size + joint)
+
+abbrev pub Grows : Option Extent → ℕ → ℕ → Type 0
+Grows None h n = ¬ ((h ≤ 1000) × (n ≤ 16777216))
+Grows (Some e) h n = (e.height ≡ h) × (e.size ≡ n) × (h ≤ 1000) × (n ≤ 16777216)
