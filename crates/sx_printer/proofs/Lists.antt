@@ -1,12 +1,11 @@
 -- The text of a list in memory, which has its elements and its tail apart.
-use Rattle.std.proofs.Common.{◌≡◌, ℕ, zero, suc, ◌+◌, ◌*◌, ◌<◌, ◌≤◌, Bool, true, false, List, [], ◌∷◌, ◌++◌, Option, Some, None, length, get_or, arith, refl, sym, ap, ◌∙◌, append_assoc}
+use Rattle.std.proofs.Common.{◌≡◌, ℕ, zero, suc, ◌<◌, ◌≤◌, List, [], ◌∷◌, ◌++◌, Option, length, get_or, arith, refl, sym, ap, ◌∙◌, append_assoc}
 use Rattle.std.proofs.lemmas.List.{append-nil}
 use Rattle.std.specs.Prelude.{IsTrue, ◌&&◌, codes}
 use Rattle.sx_base.specs.declared.span.Span.{Span}
 use Rattle.sx_base.specs.declared.atom.Atom.TheVariants as a
-use Rattle.sx_base.specs.Datum.{PlainDatum, atom, symbol, pair, vector, chain, listed, spanned, nil, is_tail, datum_size}
+use Rattle.sx_base.specs.Datum.{PlainDatum, atom, symbol, pair, vector, chain, listed, nil, is_tail, datum_size}
 use Rattle.sx_base.specs.DatumView.{is_some_list}
-use Rattle.sx_base.specs.DatumFalls.{tail_below}
 use Rattle.sx_printer.specs.DatumText.{datum_text, elements_text, rest_text, tail_text, items_text, further_items}
 
 -- a tail is no list

@@ -1,3 +1,7 @@
+ghost use Rattle.std.specs.Prelude.{◌≡◌, ◌&&◌, IfOk, IsTrue, None};
+ghost use Rattle.sx_base.specs.Datum.{atom, symbol, is_tail};
+ghost use Rattle.sx_base.specs.DatumView.{is_some_list};
+
 use crate::characters::put_character;
 use crate::datum_text::datum_text;
 use crate::strings::put_string;
@@ -7,6 +11,7 @@ use std::test::Fail;
 use sx_base::atom::Atom;
 use sx_base::bytes::Bytes;
 use sx_base::datum::{Datum, Node};
+use sx_base::memory::Memory;
 use sx_base::symbol::Symbol;
 
 #[test]
@@ -88,28 +93,53 @@ fn symbols_escape_what_may_not_stand_there(rt: HostRuntime) -> Result<(), Fail> 
     Ok(())
 }
 
-fn datum(node: Node) -> Datum {
+fn atom(value: Atom) -> Datum
+    ensures { result ≡ atom None value }
+{
+    let node = Node::Atom(value);
     Datum { span: None, node }
 }
 
-fn symbol(alloc: Global, name: &str) -> Result<Datum, Fail> {
-    Ok(datum(Node::Symbol(Symbol::new(alloc, name)?)))
+fn symbol(alloc: Global, name: &str) -> Result<Datum, Memory>
+    ensures { IfOk result (λ d. d ≡ symbol None name.now) }
+{
+    let node = Node::Symbol(Symbol::new(alloc, name)?);
+    Ok(Datum { span: None, node })
 }
 
-// The data of which parts of a list are made here.
-fn parts(alloc: Global) -> Result<Vec<Datum>, Fail> {
-    let mut parts = Vec::new(alloc);
-    parts.push(symbol(alloc, "quote")?)?;
-    parts.push(datum(Node::Atom(Atom::Bool(true))))?;
-    parts.push(datum(Node::Atom(Atom::Bool(false))))?;
-    parts.push(datum(Node::Atom(Atom::Nil)))?;
-    parts.push(datum(Node::Atom(Atom::Int(i128::MIN))))?;
-    parts.push(datum(Node::Atom(Atom::Spelt(Symbol::new(alloc, "+1.50e2")?))))?;
-    parts.push(datum(Node::Atom(Atom::Char('a'))))?;
-    parts.push(datum(Node::Atom(Atom::Str(Symbol::new(alloc, "s")?))))?;
+fn list(alloc: Global, items: Vec<Datum>, tail: Datum) -> Result<Datum, Memory>
+    requires { IsTrue (is_some_list items.items && is_tail tail) }
+{
+    let tail = Box::new(alloc, tail)?;
+    let node = Node::List(items, tail);
+    Ok(Datum { span: None, node })
+}
+
+fn vector(items: Vec<Datum>) -> Datum {
+    let node = Node::Vector(items);
+    Datum { span: None, node }
+}
+
+// One datum of each kind of atom, behind a symbol.
+fn atoms(alloc: Global) -> Result<Vec<Datum>, Memory>
+    ensures { IfOk result (λ v. IsTrue (is_some_list v.items)) }
+{
+    let quote = symbol(alloc, "quote")?;
+    let decimal = Symbol::new(alloc, "+1.50e2")?;
+    let text = Symbol::new(alloc, "s")?;
     let bytes = Bytes::from_vec(vec![in alloc; 0, 1, 255]?)?;
-    parts.push(datum(Node::Atom(Atom::Bytes(bytes))))?;
-    Ok(parts)
+    let items = vec![in alloc;
+        quote,
+        atom(Atom::Bool(true)),
+        atom(Atom::Bool(false)),
+        atom(Atom::Nil),
+        atom(Atom::Int(i128::MIN)),
+        atom(Atom::Spelt(decimal)),
+        atom(Atom::Char('a')),
+        atom(Atom::Str(text)),
+        atom(Atom::Bytes(bytes)),
+    ]?;
+    Ok(items)
 }
 
 #[test]
@@ -117,19 +147,18 @@ fn lists_have_their_tail_behind_a_dot(rt: HostRuntime) -> Result<(), Fail> {
     let alloc = rt.alloc();
     let inner =
         "quote #t #f () -170141183460469231731687303715884105728 +1.50e2 #\\a \"s\" #vu8(0 1 255)";
-    let ended = Box::new(alloc, datum(Node::Atom(Atom::Nil)))?;
-    let text = datum_text(alloc, &datum(Node::List(parts(alloc)?, ended)))?;
-    assert_eq!(rt; text, format!(in alloc; "({inner})")?);
-    let tail = Box::new(alloc, symbol(alloc, "x")?)?;
-    let text = datum_text(alloc, &datum(Node::List(parts(alloc)?, tail)))?;
-    assert_eq!(rt; text, format!(in alloc; "({inner} . x)")?);
-    let vector = datum(Node::Vector(parts(alloc)?));
-    let text = datum_text(alloc, &vector)?;
-    assert_eq!(rt; text, format!(in alloc; "#({inner})")?);
-    let first = vec![in alloc; symbol(alloc, "a")?]?;
-    let tail = Box::new(alloc, vector)?;
-    let text = datum_text(alloc, &datum(Node::List(first, tail)))?;
-    assert_eq!(rt; text, format!(in alloc; "(a . #({inner}))")?);
+    let ended = list(alloc, atoms(alloc)?, atom(Atom::Nil))?;
+    assert_eq!(rt; datum_text(alloc, &ended)?, format!(in alloc; "({inner})")?);
+    let dotted = list(alloc, atoms(alloc)?, symbol(alloc, "x")?)?;
+    assert_eq!(rt;
+        datum_text(alloc, &dotted)?,
+        format!(in alloc; "({inner} . x)")?
+    );
+    let vector = vector(atoms(alloc)?);
+    assert_eq!(rt;
+        datum_text(alloc, &vector)?,
+        format!(in alloc; "#({inner})")?
+    );
     Ok(())
 }
 
@@ -138,8 +167,7 @@ fn data_nested_as_deep_as_may_be_read_are_printed(rt: HostRuntime) -> Result<(),
     let alloc = rt.alloc();
     let mut deep = symbol(alloc, "x")?;
     for _ in 0..8192 {
-        let tail = Box::new(alloc, datum(Node::Atom(Atom::Nil)))?;
-        deep = datum(Node::List(vec![in alloc; deep]?, tail));
+        deep = list(alloc, vec![in alloc; deep]?, atom(Atom::Nil))?;
     }
     let text = datum_text(alloc, &deep)?;
     assert_eq!(rt; text.len(), 2 * 8192 + 1);

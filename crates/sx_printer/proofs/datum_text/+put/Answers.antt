@@ -1,9 +1,8 @@
-use Rattle.std.proofs.Common.{◌≡◌, ◌++◌, ◌+◌, ◌*◌, ◌<◌, ◌≤◌, get_or, ap, sym, ◌∙◌, arith, rules}
+use Rattle.std.proofs.Common.{◌≡◌, ◌++◌, ap, sym, ◌∙◌, arith}
 use Rattle.std.proofs.lemmas.Grind.{common_steps}
-use Rattle.std.specs.Prelude.{codes, IsTrue}
-use Rattle.sx_base.specs.Datum.{datum_size, chain, nil, listed, vector}
-use Rattle.sx_base.specs.DatumView.{seen, is_proper}
-use Rattle.sx_printer.specs.DatumText.{datum_text, items_text, tail_text}
+use Rattle.std.specs.Prelude.{codes}
+use Rattle.sx_base.specs.Datum.{chain, nil, listed, vector}
+use Rattle.sx_printer.specs.DatumText.{datum_text}
 use Rattle.sx_printer.proofs.Lists.{datum_text-listed, elements_text-chain, listed-items, item_below}
 use Rattle.sx_printer.proofs.datum_text.+put.Goals as goal
 
