@@ -1,0 +1,118 @@
+//! Work on syntax objects whose time `bench/syntax.sh` takes.
+//!
+//! The words are what to do and how many elements the list has, as `walk 1000`. `build` makes the list
+//! alone; `change` enters and leaves a mark on it 1,000 times; `walk` enters a mark and opens the list
+//! from its first element to its last, each element too. The program writes its words.
+#![tactic(auto)]
+
+ghost use Rattle.std.specs.Prelude.{◌≡◌, ◌<◌};
+
+use std::alloc::Global;
+use std::marker::Brand;
+use std::process::ExitCode;
+use std::rc::Rc;
+use std::sync::ledger::{Blank, Ledger};
+use std::{env, io};
+use sx_base::fault::BareStop;
+use sx_base::library::LibName;
+use sx_base::memory::Memory;
+use sx_base::name::{Mark, Name};
+use sx_base::steps::Steps;
+use sx_base::symbol::Symbol;
+use sx_syntax::syn::{Opened, Syn};
+
+/// What to do with the list.
+#[derive(Clone, Copy)]
+enum Work {
+    Build,
+    Change,
+    Walk,
+}
+
+fn work_of(word: &str) -> Option<Work> {
+    match word {
+        "build" => Some(Work::Build),
+        "change" => Some(Work::Change),
+        "walk" => Some(Work::Walk),
+        _ => None,
+    }
+}
+
+fn mark(library: &Rc<LibName>) -> Result<Mark, Memory> {
+    let library = library.clone()?;
+    Ok(Mark(Name { library, number: 0 }))
+}
+
+// A list of so many leaves.
+fn listed(alloc: Global, count: u32) -> Result<Syn, BareStop> {
+    let library = Rc::new(alloc, LibName::Program)?;
+    let symbol = Symbol::new(alloc, "x")?;
+    let mut items = Vec::new(alloc);
+    for _ in 0..count {
+        items.push(Syn::leaf(alloc, &symbol, mark(&library)?)?)?;
+    }
+    Syn::list(alloc, items, None)
+}
+
+fn change<N: Ledger>(alloc: Global, tree: Syn, nodes: &mut Steps<N>) -> Result<(), Memory> {
+    let library = Rc::new(alloc, LibName::Program)?;
+    let mut now = tree;
+    for _ in 0..1000 {
+        now = now.enter(alloc, mark(&library)?, nodes)?;
+        now = now.leave(alloc, mark(&library)?, None, nodes)?;
+    }
+    Ok(())
+}
+
+fn walk<N: Ledger>(alloc: Global, tree: Syn, nodes: &mut Steps<N>) -> Result<(), Memory> {
+    let library = Rc::new(alloc, LibName::Program)?;
+    let mut rest = tree.enter(alloc, mark(&library)?, nodes)?;
+    for _ in 0..u32::MAX {
+        match rest.open(alloc)? {
+            Opened::Pair(first, others) => {
+                let _ = first.open(alloc)?;
+                rest = others;
+            }
+            _ => break,
+        }
+    }
+    Ok(())
+}
+
+fn run<N: Ledger>(alloc: Global, work: Work, count: u32, blank: Blank) -> Result<(), BareStop>
+    requires name { blank.name ≡ N.name }
+    requires parts { (blank.parts ≡ N.parts) × (0 < N.parts) }
+{
+    let mut nodes = Steps::<N>::open(blank);
+    let tree = listed(alloc, count)?;
+    match work {
+        Work::Build => {}
+        Work::Change => change(alloc, tree, &mut nodes)?,
+        Work::Walk => walk(alloc, tree, &mut nodes)?,
+    }
+    Ok(())
+}
+
+// A run whose nodes nobody counts.
+fn run_uncounted(alloc: Global, work: Work, count: u32) -> Result<(), BareStop> {
+    run::<Brand>(alloc, work, count, Blank::new(1))
+}
+
+fn main(rt: HostRuntime) -> io::Result<ExitCode> {
+    let alloc = rt.alloc();
+    let mut words = Vec::new(alloc);
+    for word in env::args(&rt)?.skip(1) {
+        words.push(word)?;
+    }
+    let [what, count] = words.as_slice() else {
+        return Ok(ExitCode::from(2));
+    };
+    let (Some(work), Ok(number)) = (work_of(what.as_str()), count.as_str().parse::<u32>()) else {
+        return Ok(ExitCode::from(2));
+    };
+    if run_uncounted(alloc, work, number).is_err() {
+        return Ok(ExitCode::from(1));
+    }
+    println!(rt; "{what} {count}")?;
+    Ok(ExitCode::from(0))
+}

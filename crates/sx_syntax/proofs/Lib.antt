@@ -1,0 +1,10 @@
+pub mod WrapLemmas
+pub mod KeptLemmas
+pub mod FormLemmas
+pub mod NodeLemmas
+pub mod BuiltLemmas
+pub mod GivesLemmas
+pub mod DepthLemmas
+pub mod StripLemmas
+pub mod UnspannedLemmas
+pub mod GrownLemmas

@@ -1,0 +1,9 @@
+pub mod Wrap
+pub mod Base
+pub mod Kept
+pub mod KeptView
+pub mod KeptFalls
+pub mod Builder
+pub mod Leaves
+pub mod Opens
+pub mod Refuses

@@ -1,0 +1,353 @@
+//! Syntax trees, for every crate to use.
+
+ghost use Rattle.std.specs.Prelude.{◌≡◌, ◌+◌, [], ◌∷◌, ◌++◌, ◌<◌, length, Option, None, option_map, IfOk, IfErr, OnOk, OnErr};
+ghost use Rattle.sx_base.specs.Gives.{BareGives};
+ghost use Rattle.sx_tree.specs.Tree.{Tree, atom, leaf, spanned, unspanned, span_of, chain, list_of, vector_of};
+ghost use Rattle.sx_tree.specs.Measures.{height, size, within, Fits};
+ghost use Rattle.sx_tree.specs.Changes.{changed, enter, leave, stamp};
+ghost use Rattle.sx_tree.specs.Leaves.{tree_of, datum_like, strip, marks_of, stamps_of};
+ghost use Rattle.sx_tree.specs.Context.{blank};
+ghost use Rattle.sx_syntax.specs.Leaves.{grown_tree};
+ghost use Rattle.sx_syntax.specs.Builder.{built_tree};
+ghost use Rattle.sx_base.specs.declared.span.Span.{Span};
+ghost use Rattle.sx_syntax.specs.KeptView.{run_of, run_tree, IsListRun};
+ghost use Rattle.sx_syntax.specs.Opens.{Opens};
+ghost use Rattle.sx_syntax.specs.Refuses.{Refuses};
+
+use crate::base::Base;
+use crate::builder::Builder;
+use crate::kept::{Kept, Node, Shape, Slice};
+use crate::leaves::{Sample, Spans, from_datum};
+use crate::wrap::Wrap;
+use std::alloc::Global;
+use std::marker::Model;
+use std::sync::ledger::Ledger;
+use sx_base::atom::Atom;
+use sx_base::datum::Datum;
+use sx_base::fault::BareStop;
+use sx_base::memory::Memory;
+use sx_base::name::{FrameNo, Mark};
+use sx_base::span::Span;
+use sx_base::steps::Steps;
+use sx_base::symbol::Symbol;
+use sx_tree::change::Change;
+use sx_tree::context::Context;
+use sx_tree::marks::Marks;
+use sx_tree::stamp::Stamp;
+
+/// A shared syntax tree, seen as the tree that is meant.
+#[derive(Drop)]
+pub struct Syn {
+    pub(crate) kept: Kept,
+}
+
+impl Model for Syn {
+    ghost use Rattle.sx_tree.specs.Tree.{Tree};
+    ghost use Rattle.sx_tree.specs.TreeCode.{tree_code};
+
+    ghost Value = { Tree };
+
+    ghost coded = { tree_code };
+
+    ghost view = { λ s. s.kept.tree };
+}
+
+/// One level of a tree.
+#[derive(Drop)]
+pub enum Opened {
+    /// The symbol of a leaf.
+    Symbol(Symbol),
+    Atom(Atom),
+    /// The first element of a list, and the rest.
+    Pair(Syn, Syn),
+    Vector(Vec<Syn>),
+}
+
+/// Puts all of these before what is there.
+fn push_all(alloc: Global, builder: &mut Builder, items: Vec<Syn>) -> Result<(), BareStop>
+    ensures ok { OnOk result ((builder.new.elements ≡ items.items ++ builder.old.elements) × (builder.new.tail ≡ builder.old.tail)) }
+    ensures refused { IfErr result (λ e. Refuses e (Fits (chain items.items (built_tree builder.old)))) }
+{
+    let mut items = items;
+    while let Some(item) = items.pop() {
+        let tree = item.kept.settled(alloc)?;
+        match builder.push_front(alloc, tree) {
+            Ok(()) => {}
+            Err(stop) => return Err(stop),
+        }
+    }
+    Ok(())
+}
+
+/// The list of all of these, one or more, and then what is there.
+fn list_on(alloc: Global, builder: Builder, items: Vec<Syn>) -> Result<Syn, BareStop>
+    requires { 0 < length items.items }
+    ensures { BareGives (λ t. t) result (within (chain items.items (built_tree builder))) }
+{
+    let mut builder = builder;
+    push_all(alloc, &mut builder, items)?;
+    let kept = builder.into_list(alloc, None)?;
+    kept.within();
+    Ok(Syn { kept })
+}
+
+/// The level of a list.
+fn pair_of(alloc: Global, slice: &Slice, wrap: &Wrap) -> Result<Opened, Memory>
+    requires { IsListRun (run_of slice.now) }
+    ensures { IfOk result (λ o. (s : Option Span) → Opens o (changed wrap.now (spanned s (run_tree (run_of slice.now))))) }
+{
+    let first = slice.first(alloc, wrap)?;
+    let rest = slice.rest(alloc, wrap)?;
+    Ok(Opened::Pair(Syn { kept: first }, Syn { kept: rest }))
+}
+
+/// The tree of a datum whose symbols are leaves like these.
+fn grown(alloc: Global, spans: Spans, sample: &Sample, datum: &Datum) -> Result<Syn, BareStop>
+    ensures { BareGives (λ t. t) result (within (grown_tree spans sample.now datum.now)) }
+{
+    let kept = from_datum(alloc, spans, sample, datum)?;
+    kept.within();
+    Ok(Syn { kept })
+}
+
+impl Syn {
+    /// The atom, without a span.
+    pub fn atom(alloc: Global, value: Atom) -> Result<Syn, Memory>
+        ensures { IfOk result (λ t. t ≡ atom None value) }
+    {
+        let kept = Kept::new(alloc, Wrap::none(), None, Shape::Atom(value))?;
+        Ok(Syn { kept })
+    }
+
+    /// The leaf with this mark and no stamps, without a span.
+    pub fn leaf(alloc: Global, symbol: &Symbol, mark: Mark) -> Result<Syn, Memory>
+        ensures { IfOk result (λ t. t ≡ leaf None symbol.now (record { marks = mark ∷ []; stamps = [] })) }
+    {
+        let mut marks = Marks::new(alloc);
+        marks.push(mark)?;
+        Syn::whole_leaf(alloc, None, symbol, marks, Vec::new(alloc))
+    }
+
+    /// The leaf with these marks and stamps, both with the newest first.
+    pub fn whole_leaf(
+        alloc: Global,
+        span: Option<Span>,
+        symbol: &Symbol,
+        marks: Marks,
+        stamps: Vec<Stamp>,
+    ) -> Result<Syn, Memory>
+        ensures { IfOk result (λ t. t ≡ leaf span symbol.now (record { marks = marks; stamps = stamps.items })) }
+    {
+        let base = Base::new(alloc, Context::new(marks, stamps))?;
+        let symbol = symbol.share()?;
+        let kept = Kept::new(alloc, Wrap::none(), span, Shape::Leaf(symbol, base))?;
+        Ok(Syn { kept })
+    }
+
+    /// These elements, and a tail: one that is a list is joined on, and Nil ends the list. No elements
+    /// give the tail, or Nil where there is none. It is `TooDeep` where it would pass a limit.
+    pub fn list(alloc: Global, items: Vec<Syn>, tail: Option<Syn>) -> Result<Syn, BareStop>
+        ensures { BareGives (λ t. t) result (within (list_of items.items tail)) }
+    {
+        if items.is_empty() {
+            match tail {
+                None => {
+                    let nil = Syn::atom(alloc, Atom::Nil)?;
+                    Ok(nil)
+                }
+                Some(tail) => {
+                    tail.kept.within();
+                    Ok(tail)
+                }
+            }
+        } else {
+            match &tail {
+                None => list_on(alloc, Builder::before(alloc, None), items),
+                Some(tail) => {
+                    let builder = tail.kept.reopened(alloc)?;
+                    list_on(alloc, builder, items)
+                }
+            }
+        }
+    }
+
+    /// The vector of these elements. It is `TooDeep` where it would pass a limit.
+    pub fn vector(alloc: Global, items: Vec<Syn>) -> Result<Syn, BareStop>
+        ensures { BareGives (λ t. t) result (within (vector_of items.items)) }
+    {
+        let mut builder = Builder::before(alloc, None);
+        push_all(alloc, &mut builder, items)?;
+        let kept = builder.into_vector(alloc, None)?;
+        kept.within();
+        Ok(Syn { kept })
+    }
+
+    /// One level of the tree. Pending changes go one level down, by one node for each part.
+    pub fn open(&self, alloc: Global) -> Result<Opened, Memory>
+        ensures { IfOk result (λ o. Opens o self.now) }
+    {
+        let node: &Node = &self.kept.node;
+        match &node.shape {
+            Shape::Atom(atom) => {
+                let atom = atom.share()?;
+                Ok(Opened::Atom(atom))
+            }
+            Shape::Leaf(symbol, _) => {
+                let symbol = symbol.share()?;
+                Ok(Opened::Symbol(symbol))
+            }
+            Shape::List(slice) => pair_of(alloc, slice, &node.wrap),
+            Shape::Vector(slice) => {
+                let elements = slice.elements(alloc, &node.wrap)?;
+                Ok(Opened::Vector(elements))
+            }
+        }
+    }
+
+    /// Another owner of the same tree.
+    pub fn share(&self) -> Result<Syn, Memory>
+        ensures { IfOk result (λ t. t ≡ self.now) }
+    {
+        let kept = self.kept.share()?;
+        Ok(Syn { kept })
+    }
+
+    /// The span at the root.
+    pub fn span(&self) -> Option<&Span>
+        ensures { option_map (λ s. s.now) result ≡ span_of self.now }
+    {
+        let node: &Node = &self.kept.node;
+        node.span.as_ref()
+    }
+
+    /// The tree with another span at its root alone.
+    pub fn spanned(&self, alloc: Global, span: Option<Span>) -> Result<Syn, Memory>
+        ensures { IfOk result (λ t. t ≡ spanned span self.now) }
+    {
+        let kept = self.kept.spanned(alloc, span)?;
+        Ok(Syn { kept })
+    }
+
+    /// 1 for an atom or a leaf, and 1 more than the greatest of the parts for a list or a vector. It
+    /// is at most 1,000.
+    pub fn height(&self) -> u32
+        ensures { result ≡ height self.now }
+    {
+        self.kept.extent().height
+    }
+
+    /// 1 for an atom or a leaf, and 1 and the sizes of the parts for a list or a vector. It is at
+    /// most 16,777,216.
+    pub fn size(&self) -> u32
+        ensures { result ≡ size self.now }
+    {
+        self.kept.extent().size
+    }
+
+    /// The marks of a leaf. What is no leaf has none.
+    pub fn marks(&self, alloc: Global) -> Result<Marks, Memory>
+        ensures { IfOk result (λ m. m ≡ marks_of self.now) }
+    {
+        self.kept.marks(alloc)
+    }
+
+    /// The stamps of a leaf, the newest first. What is no leaf has none.
+    pub fn stamps(&self, alloc: Global) -> Result<Vec<Stamp>, Memory>
+        ensures { IfOk result (λ v. v.items ≡ stamps_of self.now) }
+    {
+        let context = self.kept.context(alloc)?;
+        Ok(context.into_stamps())
+    }
+
+    /// The tree under one change more: one node, for which `nodes` ticks.
+    fn changed<N: Ledger>(
+        &self,
+        alloc: Global,
+        change: Change,
+        nodes: &mut Steps<N>,
+    ) -> Result<Syn, Memory>
+        ensures tree { IfOk result (λ t. t ≡ changed (change ∷ []) self.now) }
+        ensures made { OnOk result (nodes.new ≡ nodes.old + 1) }
+        ensures refused { OnErr result (nodes.new ≡ nodes.old) }
+    {
+        let kept = self.kept.changed(alloc, change)?;
+        nodes.tick();
+        Ok(Syn { kept })
+    }
+
+    /// Puts the mark before the marks of every leaf. It makes one node.
+    pub fn enter<N: Ledger>(
+        &self,
+        alloc: Global,
+        mark: Mark,
+        nodes: &mut Steps<N>,
+    ) -> Result<Syn, Memory>
+        ensures tree { IfOk result (λ t. t ≡ enter mark self.now) }
+        ensures made { OnOk result (nodes.new ≡ nodes.old + 1) }
+        ensures refused { OnErr result (nodes.new ≡ nodes.old) }
+    {
+        self.changed(alloc, Change::Enter(mark), nodes)
+    }
+
+    /// At every leaf, takes the mark away where it is the first; else puts it before the marks and
+    /// then, where a frame is given, the frame with the marks before the stamps. It makes one node.
+    pub fn leave<N: Ledger>(
+        &self,
+        alloc: Global,
+        mark: Mark,
+        frame: Option<FrameNo>,
+        nodes: &mut Steps<N>,
+    ) -> Result<Syn, Memory>
+        ensures tree { IfOk result (λ t. t ≡ leave mark frame self.now) }
+        ensures made { OnOk result (nodes.new ≡ nodes.old + 1) }
+        ensures refused { OnErr result (nodes.new ≡ nodes.old) }
+    {
+        self.changed(alloc, Change::Leave(mark, frame), nodes)
+    }
+
+    /// Puts the frame with the marks before the stamps of every leaf. It makes one node.
+    pub fn stamp<N: Ledger>(
+        &self,
+        alloc: Global,
+        frame: FrameNo,
+        nodes: &mut Steps<N>,
+    ) -> Result<Syn, Memory>
+        ensures tree { IfOk result (λ t. t ≡ stamp frame self.now) }
+        ensures made { OnOk result (nodes.new ≡ nodes.old + 1) }
+        ensures refused { OnErr result (nodes.new ≡ nodes.old) }
+    {
+        self.changed(alloc, Change::Stamp(frame), nodes)
+    }
+
+    /// The tree of a datum: its symbols are leaves without marks and stamps, and the spans are kept.
+    /// It is `TooDeep` where it would pass a limit.
+    pub fn of_datum(alloc: Global, datum: &Datum) -> Result<Syn, BareStop>
+        ensures { BareGives (λ t. t) result (within (tree_of blank datum.now)) }
+    {
+        grown(alloc, Spans::Keep, &Sample::blank(), datum)
+    }
+
+    /// The tree of a datum, without spans: its symbols are leaves with the marks and stamps of this
+    /// leaf. It is `TooDeep` where it would pass a limit. What is no leaf gives no marks and no stamps.
+    pub fn datum_like(&self, alloc: Global, datum: &Datum) -> Result<Syn, BareStop>
+        ensures { BareGives (λ t. t) result (within (datum_like self.now datum.now)) }
+    {
+        let sample = self.kept.sample()?;
+        grown(alloc, Spans::Leave, &sample, datum)
+    }
+
+    /// The datum of the tree, with its spans.
+    pub fn strip(&self, alloc: Global) -> Result<Datum, Memory>
+        ensures { IfOk result (λ d. d ≡ strip self.now) }
+    {
+        self.kept.strip(alloc)
+    }
+
+    /// The tree without any spans.
+    pub fn unspanned(&self, alloc: Global) -> Result<Syn, Memory>
+        ensures { IfOk result (λ t. t ≡ unspanned self.now) }
+    {
+        let kept = self.kept.unspanned(alloc)?;
+        Ok(Syn { kept })
+    }
+}

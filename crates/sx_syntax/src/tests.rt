@@ -1,0 +1,347 @@
+ghost use Rattle.std.specs.Prelude.{◌≡◌, ◌<◌};
+
+use crate::syn::{Opened, Syn};
+use std::alloc::Global;
+use std::marker::Brand;
+use std::rc::Rc;
+use std::sync::ledger::{Blank, Ledger};
+use std::test::Fail;
+use sx_base::atom::Atom;
+use sx_base::datum::{Datum, Node};
+use sx_base::fault::BareStop;
+use sx_base::library::LibName;
+use sx_base::memory::Memory;
+use sx_base::name::{FrameNo, Mark, Name};
+use sx_base::span::Span;
+use sx_base::steps::Steps;
+use sx_base::symbol::Symbol;
+use sx_tree::marks::Marks;
+use sx_tree::stamp::Stamp;
+
+#[derive(Clone, Copy)]
+enum Step {
+    Enter(u64),
+    Leave(u64),
+    LeaveWith(u64, u64),
+    Stamp(u64),
+}
+
+/// Steps on the leaf x without marks, and its marks and its stamp then.
+#[derive(Drop)]
+struct Row {
+    steps: &'static [Step],
+    marks: &'static [u64],
+    stamp: Option<(u64, &'static [u64])>,
+}
+
+fn name(library: &Rc<LibName>, number: u64) -> Result<Name, Memory> {
+    let library = library.clone()?;
+    Ok(Name { library, number })
+}
+
+fn one_step<N: Ledger>(
+    alloc: Global,
+    library: &Rc<LibName>,
+    tree: &Syn,
+    step: Step,
+    nodes: &mut Steps<N>,
+) -> Result<Syn, Memory> {
+    match step {
+        Step::Enter(mark) => tree.enter(alloc, Mark(name(library, mark)?), nodes),
+        Step::Leave(mark) => tree.leave(alloc, Mark(name(library, mark)?), None, nodes),
+        Step::LeaveWith(mark, frame) => {
+            let frame = FrameNo(name(library, frame)?);
+            tree.leave(alloc, Mark(name(library, mark)?), Some(frame), nodes)
+        }
+        Step::Stamp(frame) => tree.stamp(alloc, FrameNo(name(library, frame)?), nodes),
+    }
+}
+
+fn stepped<N: Ledger>(alloc: Global, steps: &[Step], blank: Blank) -> Result<Syn, Memory>
+    requires name { blank.name ≡ N.name }
+    requires parts { (blank.parts ≡ N.parts) × (0 < N.parts) }
+{
+    let library = Rc::new(alloc, LibName::Program)?;
+    let mut nodes = Steps::<N>::open(blank);
+    let x = Symbol::new(alloc, "x")?;
+    let mut tree = Syn::whole_leaf(alloc, None, &x, Marks::new(alloc), Vec::new(alloc))?;
+    for now in steps {
+        tree = one_step(alloc, &library, &tree, *now, &mut nodes)?;
+    }
+    Ok(tree)
+}
+
+fn has_marks(alloc: Global, marks: &Marks, numbers: &[u64]) -> Result<bool, Memory> {
+    let marks = marks.to_vec(alloc)?;
+    for (mark, number) in marks.iter().zip(numbers) {
+        if mark.0.number != *number {
+            return Ok(false);
+        }
+    }
+    Ok(marks.len() == numbers.len())
+}
+
+fn is_stamped(
+    alloc: Global,
+    stamps: &[Stamp],
+    stamp: Option<(u64, &'static [u64])>,
+) -> Result<bool, Memory> {
+    match (stamps, stamp) {
+        ([], None) => Ok(true),
+        ([only], Some((frame, marks))) => {
+            let same = has_marks(alloc, &only.marks, marks)?;
+            Ok(same && only.frame.0.number == frame)
+        }
+        _ => Ok(false),
+    }
+}
+
+#[test]
+fn leaves_change_as_the_algorithm_says(rt: HostRuntime) -> Result<(), Fail> {
+    let alloc = rt.alloc();
+    let rows = [
+        Row {
+            steps: &[Step::Enter(1)],
+            marks: &[1],
+            stamp: None,
+        },
+        Row {
+            steps: &[Step::Enter(1), Step::Leave(1)],
+            marks: &[],
+            stamp: None,
+        },
+        Row {
+            steps: &[Step::LeaveWith(1, 2)],
+            marks: &[1],
+            stamp: Some((2, &[1])),
+        },
+        Row {
+            steps: &[Step::Enter(1), Step::LeaveWith(1, 2)],
+            marks: &[],
+            stamp: None,
+        },
+        Row {
+            steps: &[Step::Enter(3), Step::Stamp(2), Step::Leave(3)],
+            marks: &[],
+            stamp: Some((2, &[3])),
+        },
+        Row {
+            steps: &[Step::Enter(1), Step::Leave(2), Step::Stamp(4)],
+            marks: &[2, 1],
+            stamp: Some((4, &[2, 1])),
+        },
+    ];
+    for row in &rows {
+        let tree = stepped::<Brand>(alloc, row.steps, Blank::new(1))?;
+        assert!(rt; has_marks(alloc, &tree.marks(alloc)?, row.marks)?);
+        assert!(rt; is_stamped(alloc, tree.stamps(alloc)?.as_slice(), row.stamp)?);
+    }
+    Ok(())
+}
+
+/// The tree, or none where it would pass a limit.
+fn made(outcome: Result<Syn, BareStop>) -> Result<Option<Syn>, Memory> {
+    match outcome {
+        Ok(tree) => Ok(Some(tree)),
+        Err(BareStop::Fault(_)) => Ok(None),
+        Err(BareStop::Memory) => Err(Memory),
+    }
+}
+
+fn number(alloc: Global, n: u32) -> Result<Syn, Memory> {
+    Syn::atom(alloc, Atom::Int(i128::from(n)))
+}
+
+/// The list of a tree so many times.
+fn repeated(alloc: Global, tree: &Syn, times: u32) -> Result<Option<Syn>, Memory> {
+    let mut items = Vec::new(alloc);
+    for _ in 0..times {
+        items.push(tree.share()?)?;
+    }
+    made(Syn::list(alloc, items, None))
+}
+
+fn list_of_lists(alloc: Global, lists: u32, numbers: u32) -> Result<Option<Syn>, Memory> {
+    let one = number(alloc, 1)?;
+    match repeated(alloc, &one, numbers)? {
+        Some(list) => repeated(alloc, &list, lists),
+        None => Ok(None),
+    }
+}
+
+#[test]
+fn the_limits_are_kept_exactly(rt: HostRuntime) -> Result<(), Fail> {
+    let alloc = rt.alloc();
+    let mut tree = number(alloc, 1)?;
+    for _ in 1..1000u32 {
+        tree = repeated(alloc, &tree, 1)?.ok_or("too deep")?;
+    }
+    assert_eq!(rt; tree.height(), 1000);
+    assert!(rt; repeated(alloc, &tree, 1)?.is_none());
+    let mut items = Vec::new(alloc);
+    items.push(tree)?;
+    assert!(rt; made(Syn::vector(alloc, items))?.is_none());
+    let large = list_of_lists(alloc, 4095, 4096)?.ok_or("too large")?;
+    assert_eq!(rt; large.size(), 16_777_216);
+    assert_eq!(rt; large.height(), 3);
+    assert!(rt; list_of_lists(alloc, 4096, 4096)?.is_none());
+    Ok(())
+}
+
+fn enter_and_leave<N: Ledger>(
+    alloc: Global,
+    tree: &Syn,
+    times: u32,
+    blank: Blank,
+) -> Result<Syn, Memory>
+    requires name { blank.name ≡ N.name }
+    requires parts { (blank.parts ≡ N.parts) × (0 < N.parts) }
+{
+    let library = Rc::new(alloc, LibName::Program)?;
+    let mut nodes = Steps::<N>::open(blank);
+    let mut tree = tree.share()?;
+    for _ in 0..times {
+        let entered = tree.enter(alloc, Mark(name(&library, 7)?), &mut nodes)?;
+        tree = entered.leave(alloc, Mark(name(&library, 7)?), None, &mut nodes)?;
+    }
+    tree.stamp(alloc, FrameNo(name(&library, 8)?), &mut nodes)
+}
+
+/// How many elements the list has, each taken from the rest that the one before left.
+fn walked(alloc: Global, list: &Syn) -> Result<u32, Memory> {
+    let mut count = 0;
+    let mut rest = list.share()?;
+    for _ in 0..2_000_000u32 {
+        match rest.open(alloc)? {
+            Opened::Pair(_, next) => {
+                rest = next;
+                if count < 2_000_000 {
+                    count += 1;
+                }
+            }
+            _ => return Ok(count),
+        }
+    }
+    Ok(count)
+}
+
+/// Each round puts the rest of a list into the next one.
+fn nested_rests(alloc: Global, rounds: u32) -> Result<Option<Syn>, Memory> {
+    let mut rest = number(alloc, 0)?;
+    for _ in 0..rounds {
+        let mut items = Vec::new(alloc);
+        items.push(rest)?;
+        items.push(number(alloc, 1)?)?;
+        let Some(list) = made(Syn::list(alloc, items, None))? else {
+            return Ok(None);
+        };
+        let Opened::Pair(_, next) = list.open(alloc)? else {
+            return Ok(None);
+        };
+        rest = next;
+    }
+    Ok(Some(rest))
+}
+
+#[test]
+fn large_trees_cost_one_node_a_change_and_a_rest(rt: HostRuntime) -> Result<(), Fail> {
+    let alloc = rt.alloc();
+    let large = list_of_lists(alloc, 999, 1000)?.ok_or("too large")?;
+    assert_eq!(rt; large.size(), 1_000_000);
+    let changed = enter_and_leave::<Brand>(alloc, &large, 10_000, Blank::new(1))?;
+    assert_eq!(rt; changed.size(), 1_000_000);
+    let long = repeated(alloc, &number(alloc, 1)?, 1_000_000)?.ok_or("too large")?;
+    let changed = enter_and_leave::<Brand>(alloc, &long, 1, Blank::new(1))?;
+    assert_eq!(rt; walked(alloc, &changed)?, 1_000_000);
+    let rest = nested_rests(alloc, 20_000)?.ok_or("too deep")?;
+    assert_eq!(rt; rest.height(), 2);
+    Ok(())
+}
+
+fn span(file: &Symbol, from: u32, to: u32) -> Result<Option<Span>, Memory> {
+    let file = file.share()?;
+    Ok(Some(Span { file, from, to }))
+}
+
+/// The datum of `(a #(1) . b)`.
+fn example(alloc: Global) -> Result<Datum, Memory> {
+    let file = Symbol::new(alloc, "p.sps")?;
+    let one = Datum {
+        span: span(&file, 5, 6)?,
+        node: Node::Atom(Atom::Int(1)),
+    };
+    let mut ones = Vec::new(alloc);
+    ones.push(one)?;
+    let mut items = Vec::new(alloc);
+    items.push(Datum {
+        span: span(&file, 1, 2)?,
+        node: Node::Symbol(Symbol::new(alloc, "a")?),
+    })?;
+    items.push(Datum {
+        span: span(&file, 3, 7)?,
+        node: Node::Vector(ones),
+    })?;
+    let tail = Datum {
+        span: span(&file, 10, 11)?,
+        node: Node::Symbol(Symbol::new(alloc, "b")?),
+    };
+    let tail = Box::new(alloc, tail)?;
+    Ok(Datum {
+        span: span(&file, 0, 12)?,
+        node: Node::List(items, tail),
+    })
+}
+
+/// The symbol of a leaf.
+fn symbol_of(alloc: Global, tree: &Syn) -> Result<Option<Symbol>, Memory> {
+    match tree.open(alloc)? {
+        Opened::Symbol(symbol) => Ok(Some(symbol)),
+        _ => Ok(None),
+    }
+}
+
+#[test]
+fn data_become_trees_and_data_again(rt: HostRuntime) -> Result<(), Fail> {
+    let alloc = rt.alloc();
+    let tree = made(Syn::of_datum(alloc, &example(alloc)?))?.ok_or("too deep")?;
+    assert_eq!(rt; tree.size(), 5);
+    assert_eq!(rt; tree.height(), 3);
+    assert!(rt; tree.span().is_some());
+    let Opened::Pair(first, rest) = tree.open(alloc)? else {
+        return None.ok_or("no list")?;
+    };
+    let symbol = symbol_of(alloc, &first)?.ok_or("no leaf")?;
+    assert!(rt; symbol.as_str() == "a");
+    assert!(rt; rest.span().is_none());
+    let back = tree.strip(alloc)?;
+    assert!(rt; back.span().is_some());
+    assert!(rt; back.as_list().is_none());
+    let bare = tree.unspanned(alloc)?;
+    assert!(rt; bare.span().is_none());
+    assert_eq!(rt; bare.size(), 5);
+    assert!(rt; bare.spanned(alloc, span(&symbol, 0, 1)?)?.span().is_some());
+    Ok(())
+}
+
+#[test]
+fn data_take_the_context_of_a_leaf(rt: HostRuntime) -> Result<(), Fail> {
+    let alloc = rt.alloc();
+    let library = Rc::new(alloc, LibName::Program)?;
+    let leaf = Syn::leaf(alloc, &Symbol::new(alloc, "x")?, Mark(name(&library, 7)?))?;
+    let like = made(leaf.datum_like(alloc, &example(alloc)?))?.ok_or("too deep")?;
+    let mut items = Vec::new(alloc);
+    items.push(leaf)?;
+    let joined = made(Syn::list(alloc, items, Some(like)))?.ok_or("too deep")?;
+    assert_eq!(rt; joined.size(), 6);
+    let Opened::Pair(_, rest) = joined.open(alloc)? else {
+        return None.ok_or("no list")?;
+    };
+    let Opened::Pair(second, _) = rest.open(alloc)? else {
+        return None.ok_or("no list")?;
+    };
+    let symbol = symbol_of(alloc, &second)?.ok_or("no leaf")?;
+    assert!(rt; symbol.as_str() == "a");
+    assert!(rt; has_marks(alloc, &second.marks(alloc)?, &[7])?);
+    assert!(rt; second.span().is_none());
+    Ok(())
+}

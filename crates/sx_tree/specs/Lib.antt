@@ -1,0 +1,11 @@
+pub mod Marks
+pub mod SameMarks
+pub mod Remarks
+pub mod Context
+pub mod ContextCode
+pub mod Tree
+pub mod TreeCode
+pub mod Measures
+pub mod Changes
+pub mod Leaves
+pub mod Renaming
