@@ -7,7 +7,6 @@ use std::rc::Rc;
 use std::sync::ledger::{Blank, Ledger};
 use std::test::Fail;
 use sx_base::atom::Atom;
-use sx_base::datum::{Datum, Node};
 use sx_base::fault::BareStop;
 use sx_base::library::LibName;
 use sx_base::memory::Memory;
@@ -24,14 +23,6 @@ enum Step {
     Leave(u64),
     LeaveWith(u64, u64),
     Stamp(u64),
-}
-
-/// Steps on the leaf x without marks, and its marks and its stamp then.
-#[derive(Drop)]
-struct Row {
-    steps: &'static [Step],
-    marks: &'static [u64],
-    stamp: Option<(u64, &'static [u64])>,
 }
 
 fn name(library: &Rc<LibName>, number: u64) -> Result<Name, Memory> {
@@ -96,46 +87,43 @@ fn is_stamped(
     }
 }
 
+/// Whether the steps make of the leaf x without marks one with these marks and this stamp.
+fn gives(
+    alloc: Global,
+    steps: &[Step],
+    marks: &[u64],
+    stamp: Option<(u64, &'static [u64])>,
+) -> Result<bool, Memory> {
+    let tree = stepped::<Brand>(alloc, steps, Blank::new(1))?;
+    let marked = has_marks(alloc, &tree.marks(alloc)?, marks)?;
+    let stamps = tree.stamps(alloc)?;
+    Ok(marked && is_stamped(alloc, stamps.as_slice(), stamp)?)
+}
+
 #[test]
 fn leaves_change_as_the_algorithm_says(rt: HostRuntime) -> Result<(), Fail> {
     let alloc = rt.alloc();
-    let rows = [
-        Row {
-            steps: &[Step::Enter(1)],
-            marks: &[1],
-            stamp: None,
-        },
-        Row {
-            steps: &[Step::Enter(1), Step::Leave(1)],
-            marks: &[],
-            stamp: None,
-        },
-        Row {
-            steps: &[Step::LeaveWith(1, 2)],
-            marks: &[1],
-            stamp: Some((2, &[1])),
-        },
-        Row {
-            steps: &[Step::Enter(1), Step::LeaveWith(1, 2)],
-            marks: &[],
-            stamp: None,
-        },
-        Row {
-            steps: &[Step::Enter(3), Step::Stamp(2), Step::Leave(3)],
-            marks: &[],
-            stamp: Some((2, &[3])),
-        },
-        Row {
-            steps: &[Step::Enter(1), Step::Leave(2), Step::Stamp(4)],
-            marks: &[2, 1],
-            stamp: Some((4, &[2, 1])),
-        },
-    ];
-    for row in &rows {
-        let tree = stepped::<Brand>(alloc, row.steps, Blank::new(1))?;
-        assert!(rt; has_marks(alloc, &tree.marks(alloc)?, row.marks)?);
-        assert!(rt; is_stamped(alloc, tree.stamps(alloc)?.as_slice(), row.stamp)?);
-    }
+    let (enter, leave) = (Step::Enter(1), Step::LeaveWith(1, 2));
+    assert!(rt; gives(alloc, &[enter], &[1], None)?);
+    assert!(rt; gives(alloc, &[enter, Step::Leave(1)], &[], None)?);
+    assert!(rt; gives(alloc, &[leave], &[1], Some((2, &[1])))?);
+    assert!(rt; gives(alloc, &[enter, leave], &[], None)?);
+    assert!(rt;
+        gives(
+            alloc,
+            &[enter, Step::Stamp(2), Step::Leave(1)],
+            &[],
+            Some((2, &[1]))
+        )?
+    );
+    assert!(rt;
+        gives(
+            alloc,
+            &[enter, Step::Leave(3), Step::Stamp(4)],
+            &[3, 1],
+            Some((4, &[3, 1]))
+        )?
+    );
     Ok(())
 }
 
@@ -258,90 +246,81 @@ fn large_trees_cost_one_node_a_change_and_a_rest(rt: HostRuntime) -> Result<(), 
     Ok(())
 }
 
-fn span(file: &Symbol, from: u32, to: u32) -> Result<Option<Span>, Memory> {
-    let file = file.share()?;
-    Ok(Some(Span { file, from, to }))
-}
-
-/// The datum of `(a #(1) . b)`.
-fn example(alloc: Global) -> Result<Datum, Memory> {
-    let file = Symbol::new(alloc, "p.sps")?;
-    let one = Datum {
-        span: span(&file, 5, 6)?,
-        node: Node::Atom(Atom::Int(1)),
-    };
+/// `(a #(1) . b)`, where a and b have the mark 7.
+fn example(alloc: Global) -> Result<Option<Syn>, Memory> {
     let mut ones = Vec::new(alloc);
-    ones.push(one)?;
-    let mut items = Vec::new(alloc);
-    items.push(Datum {
-        span: span(&file, 1, 2)?,
-        node: Node::Symbol(Symbol::new(alloc, "a")?),
-    })?;
-    items.push(Datum {
-        span: span(&file, 3, 7)?,
-        node: Node::Vector(ones),
-    })?;
-    let tail = Datum {
-        span: span(&file, 10, 11)?,
-        node: Node::Symbol(Symbol::new(alloc, "b")?),
+    ones.push(number(alloc, 1)?)?;
+    let Some(vector) = made(Syn::vector(alloc, ones))? else {
+        return Ok(None);
     };
-    let tail = Box::new(alloc, tail)?;
-    Ok(Datum {
-        span: span(&file, 0, 12)?,
-        node: Node::List(items, tail),
-    })
+    let mut items = Vec::new(alloc);
+    items.push(marked(alloc, "a")?)?;
+    items.push(vector)?;
+    let tail = marked(alloc, "b")?;
+    made(Syn::list(alloc, items, Some(tail)))
 }
 
-/// The symbol of a leaf.
-fn symbol_of(alloc: Global, tree: &Syn) -> Result<Option<Symbol>, Memory> {
+/// The leaf with the mark 7.
+fn marked(alloc: Global, text: &str) -> Result<Syn, Memory> {
+    let library = Rc::new(alloc, LibName::Program)?;
+    let symbol = Symbol::new(alloc, text)?;
+    Syn::leaf(alloc, &symbol, Mark(Name { library, number: 7 }))
+}
+
+fn first(alloc: Global, tree: &Syn) -> Result<Option<Syn>, Memory> {
     match tree.open(alloc)? {
-        Opened::Symbol(symbol) => Ok(Some(symbol)),
+        Opened::Pair(first, _) => Ok(Some(first)),
         _ => Ok(None),
     }
 }
 
+/// Whether the tree is the leaf of this symbol with these marks.
+fn is_leaf(alloc: Global, tree: &Syn, text: &str, marks: &[u64]) -> Result<bool, Memory> {
+    match tree.open(alloc)? {
+        Opened::Symbol(symbol) => {
+            let same = symbol.as_str() == text;
+            Ok(same && has_marks(alloc, &tree.marks(alloc)?, marks)?)
+        }
+        _ => Ok(false),
+    }
+}
+
 #[test]
-fn data_become_trees_and_data_again(rt: HostRuntime) -> Result<(), Fail> {
+fn data_become_trees_again(rt: HostRuntime) -> Result<(), Fail> {
     let alloc = rt.alloc();
-    let tree = made(Syn::of_datum(alloc, &example(alloc)?))?.ok_or("too deep")?;
+    let datum = example(alloc)?.ok_or("too deep")?.strip(alloc)?;
+    let tree = made(Syn::of_datum(alloc, &datum))?.ok_or("too deep")?;
     assert_eq!(rt; tree.size(), 5);
     assert_eq!(rt; tree.height(), 3);
-    assert!(rt; tree.span().is_some());
-    let Opened::Pair(first, rest) = tree.open(alloc)? else {
-        return None.ok_or("no list")?;
-    };
-    let symbol = symbol_of(alloc, &first)?.ok_or("no leaf")?;
-    assert!(rt; symbol.as_str() == "a");
-    assert!(rt; rest.span().is_none());
-    let back = tree.strip(alloc)?;
-    assert!(rt; back.span().is_some());
-    assert!(rt; back.as_list().is_none());
-    let bare = tree.unspanned(alloc)?;
-    assert!(rt; bare.span().is_none());
-    assert_eq!(rt; bare.size(), 5);
-    assert!(rt; bare.spanned(alloc, span(&symbol, 0, 1)?)?.span().is_some());
+    let leaf = first(alloc, &tree)?.ok_or("no list")?;
+    assert!(rt; is_leaf(alloc, &leaf, "a", &[])?);
     Ok(())
 }
 
 #[test]
 fn data_take_the_context_of_a_leaf(rt: HostRuntime) -> Result<(), Fail> {
     let alloc = rt.alloc();
-    let library = Rc::new(alloc, LibName::Program)?;
-    let leaf = Syn::leaf(alloc, &Symbol::new(alloc, "x")?, Mark(name(&library, 7)?))?;
-    let like = made(leaf.datum_like(alloc, &example(alloc)?))?.ok_or("too deep")?;
-    let mut items = Vec::new(alloc);
-    items.push(leaf)?;
-    let joined = made(Syn::list(alloc, items, Some(like)))?.ok_or("too deep")?;
-    assert_eq!(rt; joined.size(), 6);
-    let Opened::Pair(_, rest) = joined.open(alloc)? else {
-        return None.ok_or("no list")?;
+    let datum = example(alloc)?.ok_or("too deep")?.strip(alloc)?;
+    let tree = made(marked(alloc, "x")?.datum_like(alloc, &datum))?.ok_or("too deep")?;
+    assert_eq!(rt; tree.size(), 5);
+    let leaf = first(alloc, &tree)?.ok_or("no list")?;
+    assert!(rt; is_leaf(alloc, &leaf, "a", &[7])?);
+    Ok(())
+}
+
+#[test]
+fn spans_come_and_go(rt: HostRuntime) -> Result<(), Fail> {
+    let alloc = rt.alloc();
+    let file = Symbol::new(alloc, "p.sps")?;
+    let span = Span {
+        file,
+        from: 0,
+        to: 1,
     };
-    let Opened::Pair(second, _) = rest.open(alloc)? else {
-        return None.ok_or("no list")?;
-    };
-    let symbol = symbol_of(alloc, &second)?.ok_or("no leaf")?;
-    assert!(rt; symbol.as_str() == "a");
-    assert!(rt; has_marks(alloc, &second.marks(alloc)?, &[7])?);
-    assert!(rt; second.span().is_none());
+    let tree = marked(alloc, "a")?.spanned(alloc, Some(span))?;
+    assert!(rt; tree.span().is_some());
+    let bare = tree.unspanned(alloc)?;
+    assert!(rt; bare.span().is_none());
+    assert!(rt; is_leaf(alloc, &bare, "a", &[7])?);
     Ok(())
 }
