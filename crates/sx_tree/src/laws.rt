@@ -49,14 +49,12 @@ pub fn changes_keep_measures()
 pub fn changes_act_on_every_leaf()
     ensures leaves { (xs : List Change) (t : Tree) → contexts (changed xs t) ≡ map (acts xs) (contexts t) }
     ensures rest { (xs : List Change) (t : Tree) → strip (changed xs t) ≡ strip t }
-{
-}
+{}
 
 /// To make a tree of a datum and strip it gives the datum back, whatever the context of its leaves.
 pub fn strip_gives_the_datum_back()
     ensures { (c : LeafContext) (d : PlainDatum) → strip (tree_of c d) ≡ d }
-{
-}
+{}
 
 /// Only which marks are the same matters: to give the marks other names, one to one, before or after
 /// changes is the same.
