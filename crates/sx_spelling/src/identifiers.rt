@@ -13,7 +13,7 @@ use unicode::properties::GeneralCategory;
 
 /// What stands at the begin of an identifier, or behind it.
 #[derive(Clone, Copy)]
-enum Class {
+pub enum Class {
     Initial,
     Subsequent,
 }

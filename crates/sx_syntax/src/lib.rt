@@ -24,7 +24,6 @@
 
 mod base;
 mod builder;
-pub mod frame_row;
 mod kept;
 mod leaves;
 mod strip;
@@ -33,3 +32,5 @@ pub mod syn;
 mod tests;
 mod unspanned;
 mod wrap;
+
+pub use sx_tree::frame_row;

@@ -21,6 +21,7 @@
 
 pub mod change;
 pub mod context;
+pub mod frame_row;
 pub mod laws;
 pub mod marks;
 pub mod stamp;

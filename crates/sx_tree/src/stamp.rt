@@ -8,7 +8,7 @@ use sx_base::memory::Memory;
 use sx_base::name::FrameNo;
 
 /// A frame, and the marks of the leaf when it was stamped with it.
-#[derive(Drop)]
+#[derive(PartialEq, Eq, Hash, Drop)]
 pub struct Stamp {
     pub frame: FrameNo,
     pub marks: Marks,

@@ -1,0 +1,7 @@
+pub mod Rows
+pub mod Scope
+pub mod Listed
+pub mod Kept
+pub mod Right
+pub mod Avoids
+pub mod Renaming

@@ -1,0 +1,117 @@
+//! Answers that were given, by what was asked.
+
+ghost use Rattle.std.specs.Prelude.{◌≡◌, ◌⊎◌, [], IfOk, IfSome};
+ghost use Rattle.sx_frames.specs.Kept.{Kept, kept, Has};
+
+use indexmap::{IndexMap, IndexSet};
+use std::alloc::Global;
+use std::marker::Model;
+use sx_base::items::Items;
+use sx_base::memory::Memory;
+use sx_base::name::Label;
+use sx_base::symbol::Symbol;
+use sx_tree::marks::Marks;
+use sx_tree::stamp::Stamp;
+
+/// What was asked: a symbol, and the numbers of the leaf's marks and stamps.
+#[derive(PartialEq, Eq, Hash, Drop)]
+pub struct Asked {
+    pub symbol: Symbol,
+    pub marks: usize,
+    pub stamps: usize,
+}
+
+/// The answer, and the sizes of the frames that it depends on: those of the stamps that gave none.
+/// What a frame gave once it gives again however it grows, so its size is no part.
+#[derive(Drop)]
+pub struct Answer {
+    pub label: Option<Label>,
+    pub sizes: Items<usize>,
+}
+
+/// The answers that were kept. Each list of marks and each list of stamps has a number, so that a
+/// question is three words.
+#[derive(Drop)]
+pub struct Memo {
+    marks: IndexSet<Marks>,
+    stamps: IndexSet<Items<Stamp>>,
+    answers: IndexMap<Asked, Answer>,
+}
+
+impl Model for Memo {
+    ghost use Rattle.std.specs.Prelude.{List};
+    ghost use Rattle.std.specs.Coded.{coded_list};
+    ghost use Rattle.sx_frames.specs.Kept.{Kept, kept_code, kept_of, AreNumbered};
+
+    ghost Value = { List Kept };
+
+    ghost coded = { coded_list kept_code };
+
+    ghost view = { λ m. kept_of m.stamps.keys m.answers.entries };
+
+    ghost invariant = { λ m. AreNumbered m.stamps.keys m.answers.entries };
+}
+
+impl Memo {
+    /// No answers. It takes no memory.
+    pub fn new(alloc: Global) -> Memo
+        ensures { result ≡ [] }
+    {
+        Memo {
+            marks: IndexSet::new(alloc),
+            stamps: IndexSet::new(alloc),
+            answers: IndexMap::new(alloc),
+        }
+    }
+
+    /// What was kept for this symbol, these marks and these stamps.
+    pub fn find(
+        &self,
+        symbol: &Symbol,
+        marks: &Marks,
+        stamps: &Items<Stamp>,
+    ) -> Result<Option<&Answer>, Memory>
+        ensures { IfOk result (λ o. IfSome o (λ a. Has (kept symbol.now stamps.now a.now) self.now)) }
+    {
+        let Some(m) = self.marks.get_index_of(marks) else {
+            return Ok(None);
+        };
+        let Some(t) = self.stamps.get_index_of(stamps) else {
+            return Ok(None);
+        };
+        let symbol = symbol.share()?;
+        let asked = Asked {
+            symbol,
+            marks: m,
+            stamps: t,
+        };
+        Ok(self.answers.get(&asked))
+    }
+
+    /// Keeps an answer, in the place of an older one.
+    pub fn put(
+        &mut self,
+        symbol: Symbol,
+        marks: Marks,
+        stamps: Items<Stamp>,
+        answer: Answer,
+    ) -> Result<(), Memory>
+        ensures { (k : Kept) → Has k self.new → Has k self.old ⊎ (k ≡ kept symbol stamps answer) }
+    {
+        let Ok((m, _)) = self.marks.insert_full(marks) else {
+            return Err(Memory);
+        };
+        let Ok((t, _)) = self.stamps.insert_full(stamps) else {
+            return Err(Memory);
+        };
+        let asked = Asked {
+            symbol,
+            marks: m,
+            stamps: t,
+        };
+        match self.answers.insert(asked, answer) {
+            Ok(_) => Ok(()),
+            Err(_) => Err(Memory),
+        }
+    }
+}

@@ -1,0 +1,15 @@
+pub mod Ascii
+pub mod Lexing
+pub mod Bare
+pub mod Signs
+pub mod Digits
+pub mod Ints
+pub mod Spelts
+pub mod Chars
+pub mod Escapes
+pub mod Strings
+pub mod Symbols
+pub mod Round
+pub mod Scalars
+pub mod Tokens
+pub mod Reading

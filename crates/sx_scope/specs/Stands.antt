@@ -1,0 +1,28 @@
+-- What a leaf stands for.
+use Rattle.std.specs.Prelude.{ℕ, List, [], Option}
+use Rattle.sx_base.specs.declared.name.Label.{Label}
+use Rattle.sx_tree.specs.Leaves.{marks_of, stamps_of}
+use Rattle.sx_tree.specs.Tree.{Tree, atom, leaf, pair, vector}
+use Rattle.sx_frames.specs.Rows.{Row}
+use Rattle.sx_frames.specs.Scope.{Scope, label_by}
+
+abbrev pub IsLeaf : Tree → Type 0
+IsLeaf (atom s a) = ⊥
+IsLeaf (leaf s x c) = Unit {0}
+IsLeaf (pair s a d) = ⊥
+IsLeaf (vector s d) = ⊥
+
+-- the symbol of a leaf
+abbrev pub symbol_of : Tree → List ℕ
+symbol_of (atom s a) = []
+symbol_of (leaf s x c) = x
+symbol_of (pair s a d) = []
+symbol_of (vector s d) = []
+
+-- the row that binds a leaf to a label
+abbrev pub row_for : Tree → Label → Row
+row_for t l = record { symbol = symbol_of t; marks = marks_of t; label = l }
+
+-- the label that the first stamp gives for which its frame has the leaf's symbol and the marks at stamping
+abbrev pub stands : Scope → Tree → Option Label
+stands fs t = label_by fs (symbol_of t) (stamps_of t)

@@ -1,0 +1,44 @@
+//! Laws of leaves in frames. Each function here computes nothing: what it promises is the law.
+
+ghost use Rattle.std.specs.Cmp.{IsEquivalence};
+ghost use Rattle.std.specs.Prelude.{◌≡◌, ◌↔◌, IsTrue};
+ghost use Rattle.sx_base.specs.declared.name.FrameNo.{FrameNo};
+ghost use Rattle.sx_base.specs.declared.name.Mark.{Mark};
+ghost use Rattle.sx_tree.specs.Leaves.{marks_of, stamps_of};
+ghost use Rattle.sx_tree.specs.Renaming.{IsOneToOne, renamed};
+ghost use Rattle.sx_tree.specs.Tree.{Tree};
+ghost use Rattle.sx_frames.specs.Avoids.{Avoids};
+ghost use Rattle.sx_frames.specs.Renaming.{renamed_scope};
+ghost use Rattle.sx_frames.specs.Rows.{Row};
+ghost use Rattle.sx_frames.specs.Scope.{Scope, label_at, with_row};
+ghost use Rattle.sx_scope.specs.Same.{same_binder, meaning, same_binding};
+ghost use Rattle.sx_scope.specs.Stands.{symbol_of, stands};
+
+/// Leaves have one binding exactly where they mean the same, so this is an equivalence.
+pub fn one_binding_is_one_meaning()
+    ensures meaning { (fs : Scope) (a b : Tree) → IsTrue (same_binding fs a b) ↔ (meaning fs a ≡ meaning fs b) }
+    ensures equivalence { (fs : Scope) → IsEquivalence (same_binding fs) }
+{}
+
+/// One binder has one row in every frame. So two leaves with one binder have one binding where they
+/// have the same stamps; without that they may not, as one of them may lie outside a frame.
+pub fn one_binder_is_one_row()
+    ensures rows { (fs : Scope) (f : FrameNo) (a b : Tree) → IsTrue (same_binder a b) →
+        label_at fs f (symbol_of a) (marks_of a) ≡ label_at fs f (symbol_of b) (marks_of b) }
+    ensures binding { (fs : Scope) (a b : Tree) → IsTrue (same_binder a b) → stamps_of a ≡ stamps_of b → IsTrue (same_binding fs a b) }
+    ensures equivalence { IsEquivalence same_binder }
+{}
+
+/// A bind changes what no leaf stands for whose stamps don't name its frame.
+pub fn a_bind_stays_in_its_frame()
+    ensures { (fs : Scope) (f : FrameNo) (r : Row) (t : Tree) → Avoids f (stamps_of t) → stands (with_row fs f r) t ≡ stands fs t }
+{}
+
+/// Only which marks are the same matters: to give the marks of leaves and frames other names, one to
+/// one, changes no answer.
+pub fn names_of_marks_are_free()
+    ensures stands { (r : Mark → Mark) → IsOneToOne r → (fs : Scope) (t : Tree) → stands (renamed_scope r fs) (renamed r t) ≡ stands fs t }
+    ensures binding { (r : Mark → Mark) → IsOneToOne r → (fs : Scope) (a b : Tree) →
+        same_binding (renamed_scope r fs) (renamed r a) (renamed r b) ≡ same_binding fs a b }
+    ensures binder { (r : Mark → Mark) → IsOneToOne r → (a b : Tree) → same_binder (renamed r a) (renamed r b) ≡ same_binder a b }
+{}

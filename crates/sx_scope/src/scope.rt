@@ -1,0 +1,142 @@
+//! Frames of bindings, and what leaves stand for in them.
+
+ghost use Rattle.std.specs.Prelude.{◌≡◌, ◌∷◌, ◌++◌, [], true, false, IfOk, OnOk, OnErr};
+ghost use Rattle.sx_base.specs.Gives.{BareGives};
+ghost use Rattle.sx_frames.specs.Listed.{rows_in};
+ghost use Rattle.sx_frames.specs.Scope.{has_frame, bound, adopted, are_new};
+ghost use Rattle.sx_scope.specs.Same.{same_binding};
+ghost use Rattle.sx_scope.specs.Stands.{IsLeaf, row_for, stands};
+
+use crate::same::symbol_of;
+use std::alloc::Global;
+use std::marker::Model;
+use sx_base::fault::BareStop;
+use sx_base::library::LibName;
+use sx_base::memory::Memory;
+use sx_base::name::{FrameNo, Label};
+use sx_frames::kept::KeptFrames;
+use sx_syntax::syn::Syn;
+use sx_tree::frame_row::FrameRow;
+
+/// Frames, each with its rows in the order of binding. Tables and remembered answers don't show.
+#[derive(Drop)]
+pub struct Frames {
+    alloc: Global,
+    frames: KeptFrames,
+}
+
+impl Model for Frames {
+    ghost use Rattle.sx_frames.specs.Scope.{Scope, scope_code};
+
+    ghost Value = { Scope };
+
+    ghost coded = { scope_code };
+
+    ghost view = { λ a. a.frames };
+}
+
+impl Frames {
+    /// No frames. It takes no memory.
+    pub fn new(alloc: Global) -> Frames
+        ensures { result ≡ [] }
+    {
+        Frames {
+            alloc,
+            frames: KeptFrames::new(alloc),
+        }
+    }
+
+    /// Whether the frame is there. It takes no memory.
+    pub fn has_frame(&self, frame: &FrameNo) -> bool
+        ensures { result ≡ has_frame frame.now self.now }
+    {
+        self.frames.has_frame(frame)
+    }
+
+    /// Adds a frame without rows. A refusal changes nothing.
+    pub fn new_frame(&mut self, frame: FrameNo) -> Result<(), Memory>
+        requires { has_frame frame self.old ≡ false }
+        ensures ok { OnOk result (self.new ≡ self.old ++ (frame, []) ∷ []) }
+        ensures err { OnErr result (self.new ≡ self.old) }
+    {
+        self.frames.new_frame(frame)
+    }
+
+    /// Whether no row is of a frame that is there. It takes no memory.
+    pub fn are_new(&self, rows: &[FrameRow]) -> bool
+        ensures { result ≡ are_new rows.now self.now }
+    {
+        self.frames.are_new(rows)
+    }
+
+    /// Adds the rows of a library, in their order. No frame of theirs may be there, and no two of them
+    /// may have one frame, symbol and marks: such rows are refused as want of memory is. A refusal
+    /// changes nothing.
+    pub fn adopt(&mut self, rows: &[FrameRow]) -> Result<(), Memory>
+        requires { are_new rows.now self.old ≡ true }
+        ensures ok { OnOk result (self.new ≡ adopted self.old rows.now) }
+        ensures err { OnErr result (self.new ≡ self.old) }
+    {
+        self.frames.adopt(rows)
+    }
+
+    /// Binds a leaf in a frame. It is `Duplicate` exactly where the frame has a row with the leaf's
+    /// symbol and marks; a frame that isn't there is added. A refusal changes nothing.
+    pub fn bind(&mut self, frame: FrameNo, id: &Syn, label: Label) -> Result<(), BareStop>
+        requires { IsLeaf id.now }
+        ensures row { BareGives (λ _. self.new) result (bound self.old frame (row_for id.now label)) }
+        ensures err { OnErr result (self.new ≡ self.old) }
+    {
+        let symbol = symbol_of(self.alloc, id)?;
+        let marks = id.marks(self.alloc)?;
+        self.frames.bind(&frame, symbol, marks, label)
+    }
+
+    /// The label that a leaf stands for: that of the first of its stamps whose frame has a row with
+    /// the leaf's symbol and the stamp's marks. A stamp whose frame isn't there has no row.
+    pub fn stands(&self, id: &Syn) -> Result<Option<Label>, Memory>
+        requires { IsLeaf id.now }
+        ensures { IfOk result (λ l. l ≡ stands self.now id.now) }
+    {
+        let symbol = symbol_of(self.alloc, id)?;
+        let stamps = id.stamps(self.alloc)?;
+        self.frames.label_by(symbol, stamps)
+    }
+
+    /// As `stands`, and remembers the answer. A remembered answer is given only where it still holds,
+    /// so none shows. A leaf with one stamp is looked up, since that costs less.
+    pub fn stands_kept(&mut self, id: &Syn) -> Result<Option<Label>, Memory>
+        requires { IsLeaf id.now }
+        ensures label { IfOk result (λ l. l ≡ stands self.old id.now) }
+        ensures unchanged { self.new ≡ self.old }
+    {
+        let symbol = symbol_of(self.alloc, id)?;
+        let stamps = id.stamps(self.alloc)?;
+        if stamps.len() < 2 {
+            return self.frames.label_by(symbol, stamps);
+        }
+        let marks = id.marks(self.alloc)?;
+        self.frames.label_kept(symbol, marks, stamps)
+    }
+
+    /// Whether two leaves stand for one label, or both for none and have one symbol, as
+    /// `free-identifier=?` says it (R6RS libraries 12.5).
+    pub fn same_binding(&self, a: &Syn, b: &Syn) -> Result<bool, Memory>
+        requires first { IsLeaf a.now }
+        requires second { IsLeaf b.now }
+        ensures { IfOk result (λ r. r ≡ same_binding self.now a.now b.now) }
+    {
+        match (self.stands(a)?, self.stands(b)?) {
+            (Some(first), Some(second)) => Ok(first == second),
+            (None, None) => Ok(symbol_of(self.alloc, a)? == symbol_of(self.alloc, b)?),
+            _ => Ok(false),
+        }
+    }
+
+    /// The rows of the library's frames, by frame and then in the order of binding.
+    pub fn rows(&self, library: &LibName) -> Result<Vec<FrameRow>, Memory>
+        ensures { IfOk result (λ rs. rs.items ≡ rows_in library.now self.now) }
+    {
+        self.frames.rows(library)
+    }
+}
