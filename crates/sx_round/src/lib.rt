@@ -15,9 +15,6 @@
 
 ghost use Rattle.sx_round.specs.ReadBack.{ReadableAreReadBack, OnlyReadableAreRead, ReadAreReadBack};
 
-#[cfg(test)]
-mod tests;
-
 /// The text of a readable datum, as a file, has this datum alone, but for the spans. Readable is what
 /// has integers of 128 bits, ratios and decimals as R6RS 4.2.8 spells them, characters, strings and
 /// bytes, symbols with a character or more, and no more forms in one another than may be nested.

@@ -1,6 +1,6 @@
 use crate::sources::{
     ABBREVIATIONS, BOOLEANS_AND_CHARACTERS, BYTEVECTORS, IDENTIFIERS, INVALID_UTF_8,
-    LISTS_AND_VECTORS, NUMBERS, STRINGS, WHITESPACE_AND_COMMENTS,
+    LISTS_AND_VECTORS, NUMBERS, PRINTED, STRINGS, WHITESPACE_AND_COMMENTS,
 };
 use std::alloc::{AllocError, Global};
 use std::fmt::Write;
@@ -39,6 +39,10 @@ fn check(rt: &impl Abort, alloc: Global, rows: &[(&[u8], &str)]) -> Result<(), F
     for (source, expected) in rows {
         let found = shown(alloc, source)?;
         assert_eq!(rt; found.as_str(), *expected);
+        // what is printed is read back, as data that are printed so again
+        if !found.starts_with("f:") {
+            assert_eq!(rt; shown(alloc, found.as_bytes())?.as_str(), *expected);
+        }
     }
     Ok(())
 }
@@ -54,7 +58,8 @@ fn sources_are_read_as_their_data_or_first_fault(rt: HostRuntime) -> Result<(), 
     check(&rt, alloc, &STRINGS)?;
     check(&rt, alloc, &IDENTIFIERS)?;
     check(&rt, alloc, &NUMBERS)?;
-    check(&rt, alloc, &INVALID_UTF_8)
+    check(&rt, alloc, &INVALID_UTF_8)?;
+    check(&rt, alloc, &PRINTED)
 }
 
 // The spans of a datum and its parts.

@@ -311,3 +311,29 @@ pub const INVALID_UTF_8: [(&[u8], &str); 16] = [
     (b"a\\\xFF", "f:1:1: 4 BadEscape\n"),
     (b"\xED\xA0\x80", "f:1:1: 1 BadUtf8\n"),
 ];
+
+/// Data that are printed otherwise than they were spelt.
+pub const PRINTED: [(&[u8], &str); 19] = [
+    (b"#xFf", "255"),
+    (b"-0012", "-12"),
+    (b"+1.50e2", "+1.50e2"),
+    (b"-1/2", "-1/2"),
+    (b"[a . ( b [])]", "(a b ())"),
+    (b"(a b . #(c))", "(a b . #(c))"),
+    (b"#vu8(0 #x1F 255)", "#vu8(0 31 255)"),
+    (
+        b"`(a ,b ,@c)",
+        "(quasiquote (a (unquote b) (unquote-splicing c)))",
+    ),
+    (b"#'a", "(syntax a)"),
+    (b"#\\linefeed", "#\\newline"),
+    (b"#\\x7F", "#\\delete"),
+    (b"#\\\xCE\xBB", "#\\x3BB"),
+    (b"\"a\\x41;\\t\\\"\\\\\"", "\"aA\\t\\\"\\\\\""),
+    (b"\"\xCE\xBB\n\"", "\"\\x3BB;\\n\""),
+    (b"\xCE\xBBx", "\\x3BB;x"),
+    (b"\\x31;+", "\\x31;+"),
+    (b"->\xCE\xBB", "->\\x3BB;"),
+    (b"\\x2D;>a", "->a"),
+    (b"a\\x20;b", "a\\x20;b"),
+];
