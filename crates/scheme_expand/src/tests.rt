@@ -48,91 +48,93 @@ fn run_over(
 const USAGE: &str =
     "usage: scheme-expand [--root DIR[:DIR]...] [--cache DIR] [--report] [--write core|xref] PROGRAM | --make N\n";
 
+// A program, its text, or the line of its fault.
+const PROGRAMS: [(&str, &str, &str); 24] = [
+    ("(import (rnrs base))", "(import (rnrs))\n", ""),
+    (
+        "(import (rnrs base)) (define x 1) (+ x 2)",
+        "(import (rnrs))\n(define %/x/0 1)\n(+ %/x/0 2)\n",
+        "",
+    ),
+    (
+        "(import (rnrs))\n(f #t) (define f car) -7 (define a/b #f) ((f cdr) a/b)",
+        "(import (rnrs))\n(%/f/0 #t)\n(define %/f/0 car)\n-7\n(define %/a~2F~b/1 #f)\n((%/f/0 cdr) %/a~2F~b/1)\n",
+        "",
+    ),
+    ("", "", "p.sps:1:1: 10 NotLibrary\n"),
+    ("x (import (rnrs))", "", "p.sps:1:1: 10 NotLibrary\n"),
+    (" (export)", "", "p.sps:1:2: 10 NotLibrary\n"),
+    (
+        "(import (rnrs base)) (+ x 2)",
+        "",
+        "p.sps:1:25: 21 Unbound: x\n",
+    ),
+    ("(import) car", "", "p.sps:1:10: 21 Unbound: car\n"),
+    (
+        "(import (rnrs base)) cons*",
+        "",
+        "p.sps:1:22: 21 Unbound: cons*\n",
+    ),
+    (
+        "(import (rnrs) (rnrs base)) cons*",
+        "(import (rnrs))\ncons*\n",
+        "",
+    ),
+    (
+        "(import (rnrs))\n(define x 1) (define x 2)",
+        "",
+        "p.sps:2:22: 22 Duplicate: x\n",
+    ),
+    (
+        "(import (rnrs)) zork (define list 1)",
+        "",
+        "p.sps:1:30: 22 Duplicate: list\n",
+    ),
+    ("(import (m))", "", "p.sps:1:9: 90 NotBuilt\n"),
+    (
+        "(import (rnrs)) (define x)",
+        "",
+        "p.sps:1:17: 90 NotBuilt\n",
+    ),
+    (
+        "(import (rnrs)) (define (f) 1)",
+        "",
+        "p.sps:1:17: 90 NotBuilt\n",
+    ),
+    (
+        "(import (rnrs)) (if #t 1 2)",
+        "",
+        "p.sps:1:17: 90 NotBuilt\n",
+    ),
+    (
+        "(import (rnrs)) zork (if #t 1 2)",
+        "",
+        "p.sps:1:22: 90 NotBuilt\n",
+    ),
+    ("(import (rnrs)) (list if)", "", "p.sps:1:23: 90 NotBuilt\n"),
+    (
+        "(import (rnrs)) (list (quote a))",
+        "",
+        "p.sps:1:23: 90 NotBuilt\n",
+    ),
+    ("(import (rnrs)) ()", "", "p.sps:1:17: 90 NotBuilt\n"),
+    ("(import (rnrs)) \"s\"", "", "p.sps:1:17: 90 NotBuilt\n"),
+    (
+        "(import (rnrs)) (list . 1)",
+        "",
+        "p.sps:1:17: 90 NotBuilt\n",
+    ),
+    (
+        "(import (rnrs)) (define . x) (define y 1) (define y 2)",
+        "",
+        "p.sps:1:17: 90 NotBuilt\n",
+    ),
+    ("(import (rnrs)) (list 1", "", "p.sps:1:17: 5 Unclosed\n"),
+];
+
 #[test]
 fn a_program_gives_its_text_or_its_first_fault(rt: HostRuntime) -> Result<(), Fail> {
-    let rows: [(&str, &str, &str); 24] = [
-        ("(import (rnrs base))", "(import (rnrs))\n", ""),
-        (
-            "(import (rnrs base)) (define x 1) (+ x 2)",
-            "(import (rnrs))\n(define %/x/0 1)\n(+ %/x/0 2)\n",
-            "",
-        ),
-        (
-            "(import (rnrs))\n(f #t) (define f car) -7 (define a/b #f) ((f cdr) a/b)",
-            "(import (rnrs))\n(%/f/0 #t)\n(define %/f/0 car)\n-7\n(define %/a~2F~b/1 #f)\n((%/f/0 cdr) %/a~2F~b/1)\n",
-            "",
-        ),
-        ("", "", "p.sps:1:1: 10 NotLibrary\n"),
-        ("x (import (rnrs))", "", "p.sps:1:1: 10 NotLibrary\n"),
-        (" (export)", "", "p.sps:1:2: 10 NotLibrary\n"),
-        (
-            "(import (rnrs base)) (+ x 2)",
-            "",
-            "p.sps:1:25: 21 Unbound: x\n",
-        ),
-        ("(import) car", "", "p.sps:1:10: 21 Unbound: car\n"),
-        (
-            "(import (rnrs base)) cons*",
-            "",
-            "p.sps:1:22: 21 Unbound: cons*\n",
-        ),
-        (
-            "(import (rnrs) (rnrs base)) cons*",
-            "(import (rnrs))\ncons*\n",
-            "",
-        ),
-        (
-            "(import (rnrs))\n(define x 1) (define x 2)",
-            "",
-            "p.sps:2:22: 22 Duplicate: x\n",
-        ),
-        (
-            "(import (rnrs)) zork (define list 1)",
-            "",
-            "p.sps:1:30: 22 Duplicate: list\n",
-        ),
-        ("(import (m))", "", "p.sps:1:9: 90 NotBuilt\n"),
-        (
-            "(import (rnrs)) (define x)",
-            "",
-            "p.sps:1:17: 90 NotBuilt\n",
-        ),
-        (
-            "(import (rnrs)) (define (f) 1)",
-            "",
-            "p.sps:1:17: 90 NotBuilt\n",
-        ),
-        (
-            "(import (rnrs)) (if #t 1 2)",
-            "",
-            "p.sps:1:17: 90 NotBuilt\n",
-        ),
-        (
-            "(import (rnrs)) zork (if #t 1 2)",
-            "",
-            "p.sps:1:22: 90 NotBuilt\n",
-        ),
-        ("(import (rnrs)) (list if)", "", "p.sps:1:23: 90 NotBuilt\n"),
-        (
-            "(import (rnrs)) (list (quote a))",
-            "",
-            "p.sps:1:23: 90 NotBuilt\n",
-        ),
-        ("(import (rnrs)) ()", "", "p.sps:1:17: 90 NotBuilt\n"),
-        ("(import (rnrs)) \"s\"", "", "p.sps:1:17: 90 NotBuilt\n"),
-        (
-            "(import (rnrs)) (list . 1)",
-            "",
-            "p.sps:1:17: 90 NotBuilt\n",
-        ),
-        (
-            "(import (rnrs)) (define . x) (define y 1) (define y 2)",
-            "",
-            "p.sps:1:17: 90 NotBuilt\n",
-        ),
-        ("(import (rnrs)) (list 1", "", "p.sps:1:17: 5 Unclosed\n"),
-    ];
-    for (program, out, err) in rows {
+    for (program, out, err) in PROGRAMS {
         let ran = run_over(
             rt.alloc(),
             Some(program.as_bytes()),
@@ -153,10 +155,11 @@ fn a_program_gives_its_text_or_its_first_fault(rt: HostRuntime) -> Result<(), Fa
     Ok(())
 }
 
+const OTHER_WORDS: [&[&str]; 4] = [&[], &["-p"], &["p.sps", "q.sps"], &["--report", "p.sps"]];
+
 #[test]
 fn words_other_than_one_path_are_refused(rt: HostRuntime) -> Result<(), Fail> {
-    let rows: [&[&str]; 4] = [&[], &["-p"], &["p.sps", "q.sps"], &["--report", "p.sps"]];
-    for words in rows {
+    for words in OTHER_WORDS {
         let ran = run_over(rt.alloc(), Some(b"(import (rnrs))"), words, &[], &[], &[])?;
         assert_eq!(rt; ran.status, Status::Usage);
         assert_eq!(rt; ran.out.as_str(), "");
@@ -165,31 +168,84 @@ fn words_other_than_one_path_are_refused(rt: HostRuntime) -> Result<(), Fail> {
     Ok(())
 }
 
+// A file, the calls of the outside that fail, and what a run over it answers and writes.
+#[derive(Drop)]
+struct Case<'a> {
+    file: Option<&'a [u8]>,
+    reads: &'a [u64],
+    outs: &'a [(u64, usize)],
+    errs: &'a [(u64, usize)],
+    status: Status,
+    out: &'a str,
+    err: &'a str,
+}
+
+const EMPTY_PROGRAM: Option<&[u8]> = Some(b"(import (rnrs base))");
+
+const FAILURES: [Case; 5] = [
+    Case {
+        file: None,
+        reads: &[],
+        outs: &[],
+        errs: &[],
+        status: Status::Fault,
+        out: "",
+        err: "p.sps:1:1: 12 LibraryNotFound: p.sps\n",
+    },
+    Case {
+        file: EMPTY_PROGRAM,
+        reads: &[0],
+        outs: &[],
+        errs: &[],
+        status: Status::ReadFault,
+        out: "",
+        err: "",
+    },
+    Case {
+        file: EMPTY_PROGRAM,
+        reads: &[],
+        outs: &[(0, 10)],
+        errs: &[],
+        status: Status::WriteFault,
+        out: "(import (r",
+        err: "",
+    },
+    Case {
+        file: EMPTY_PROGRAM,
+        reads: &[],
+        outs: &[(0, 0)],
+        errs: &[],
+        status: Status::WriteFault,
+        out: "",
+        err: "",
+    },
+    Case {
+        file: Some(b"1"),
+        reads: &[],
+        outs: &[],
+        errs: &[(0, 5)],
+        status: Status::WriteFault,
+        out: "",
+        err: "p.sps",
+    },
+];
+
 #[test]
 fn failures_of_the_outside_end_a_run_as_they_should(rt: HostRuntime) -> Result<(), Fail> {
     let alloc = rt.alloc();
-    let program = Some(b"(import (rnrs base))".as_slice());
-    let absent = run_over(alloc, None, &["p.sps"], &[], &[], &[])?;
-    assert_eq!(rt;
-        absent.err.as_str(),
-        "p.sps:1:1: 12 LibraryNotFound: p.sps\n"
-    );
-    assert_eq!(rt; absent.status, Status::Fault);
-    let unread = run_over(alloc, program, &["p.sps"], &[0], &[], &[])?;
-    assert_eq!(rt; unread.status, Status::ReadFault);
-    assert_eq!(rt; unread.out.as_str(), "");
-    assert_eq!(rt; unread.err.as_str(), "");
-    let cut = run_over(alloc, program, &["p.sps"], &[], &[(0, 10)], &[])?;
-    assert_eq!(rt; cut.status, Status::WriteFault);
-    assert_eq!(rt; cut.out.as_str(), "(import (r");
-    assert_eq!(rt; cut.err.as_str(), "");
-    let closed = run_over(alloc, program, &["p.sps"], &[], &[(0, 0)], &[])?;
-    assert_eq!(rt; closed.status, Status::WriteFault);
-    assert_eq!(rt; closed.out.as_str(), "");
-    let unsaid = run_over(alloc, Some(b"1"), &["p.sps"], &[], &[], &[(0, 5)])?;
-    assert_eq!(rt; unsaid.status, Status::WriteFault);
-    assert_eq!(rt; unsaid.err.as_str(), "p.sps");
-    assert_eq!(rt; unsaid.out.as_str(), "");
+    for case in FAILURES {
+        let ran = run_over(
+            alloc,
+            case.file,
+            &["p.sps"],
+            case.reads,
+            case.outs,
+            case.errs,
+        )?;
+        assert_eq!(rt; ran.out.as_str(), case.out);
+        assert_eq!(rt; ran.err.as_str(), case.err);
+        assert_eq!(rt; ran.status, case.status);
+    }
     Ok(())
 }
 
