@@ -1,8 +1,8 @@
 -- The libraries that this implementation gives: their names, and the numbers of the names that they export.
-use Rattle.std.specs.Prelude.{ℕ, zero, suc, ◌+◌, ◌-◌, Bool, ◌==◌, List, [], ◌∷◌, map, Option, codes}
+use Rattle.std.specs.Prelude.{true, false, not, ◌&&◌, ℕ, zero, suc, ◌+◌, ◌-◌, Bool, ◌==◌, List, [], ◌∷◌, map, Option, codes}
 use Rattle.std.specs.Borrow.{Bor}
 use Rattle.std.specs.Cmp.Lexicographic.{pointwise}
-use Rattle.std.specs.List.{find, flat_map}
+use Rattle.std.specs.List.{find, flat_map, list_any}
 use Rattle.sx_builtin.specs.declared.library.Library.{Library}
 use Rattle.sx_builtin.specs.declared.library.Library.TheVariants as l
 use Rattle.sx_builtin.specs.declared.library.Run.{Run}
@@ -70,3 +70,18 @@ run_numbers r = in_a_row r.from (r.to - r.from)
 -- the names that a library exports, by their numbers, in order
 abbrev pub library_numbers : Library → List ℕ
 library_numbers library = flat_map run_numbers (library_runs library)
+
+-- whether a number stands in a list
+abbrev pub among : ℕ → List ℕ → Bool
+among n ns = list_any (λ m. m == n) ns
+
+-- each number once
+abbrev pub once : List ℕ → Bool
+once [] = true
+once (n ∷ ns) = not (among n ns) && once ns
+
+-- the two libraries on records, whose names `(rnrs)` doesn't have
+abbrev pub is_on_records : Library → Bool
+is_on_records l.RecordsProcedural = true
+is_on_records l.RecordsSyntactic = true
+is_on_records _ = false

@@ -19,5 +19,8 @@
 
 pub mod derived;
 pub mod exports;
+pub mod laws;
 pub mod library;
 pub mod prelude;
+#[cfg(test)]
+mod tests;
