@@ -1,0 +1,6 @@
+//! Imports.
+#![tactic(auto)]
+
+pub mod names;
+pub mod set;
+pub mod table;

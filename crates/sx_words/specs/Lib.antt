@@ -1,0 +1,5 @@
+pub mod Command
+pub mod Given
+pub mod Roots
+pub mod Number
+pub mod Words

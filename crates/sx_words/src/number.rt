@@ -1,0 +1,34 @@
+//! The number of `--make`.
+
+ghost use Rattle.std.specs.Prelude.{◌≡◌, ◌≤◌};
+ghost use Rattle.sx_words.specs.Number.{number_from, number_of};
+
+/// The number that decimal digits without a leading zero spell, where it is from 1 to 1,000.
+pub fn number_of(text: &str) -> Option<u32>
+    ensures { result ≡ number_of text.now }
+{
+    match text.as_bytes() {
+        [] | [b'0', ..] => None,
+        digits => number_from(0, digits),
+    }
+}
+
+// The number that digits spell behind those of `n`, where none passes 1,000.
+fn number_from(n: u32, digits: &[u8]) -> Option<u32>
+    requires { n ≤ 1000 }
+    ensures { result ≡ number_from n digits.now }
+{
+    match digits {
+        [] => Some(n),
+        [digit, rest @ ..] => {
+            if !digit.is_ascii_digit() {
+                return None;
+            }
+            let next = 10 * n + u32::from(digit - 48);
+            if next > 1000 {
+                return None;
+            }
+            number_from(next, rest)
+        }
+    }
+}
