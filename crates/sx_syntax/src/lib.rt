@@ -28,8 +28,6 @@ mod kept;
 mod leaves;
 mod strip;
 pub mod syn;
-#[cfg(test)]
-mod tests;
 mod unspanned;
 mod wrap;
 

@@ -1,6 +1,5 @@
 ghost use Rattle.std.specs.Prelude.{◌≡◌, ◌<◌};
 
-use crate::syn::{Opened, Syn};
 use std::alloc::Global;
 use std::marker::Brand;
 use std::rc::Rc;
@@ -14,6 +13,7 @@ use sx_base::name::{FrameNo, Mark, Name};
 use sx_base::span::Span;
 use sx_base::steps::Steps;
 use sx_base::symbol::Symbol;
+use sx_syntax::syn::{Opened, Syn};
 use sx_tree::marks::Marks;
 use sx_tree::stamp::Stamp;
 
@@ -100,30 +100,52 @@ fn gives(
     Ok(marked && is_stamped(alloc, stamps.as_slice(), stamp)?)
 }
 
+/// Steps on the leaf x without marks, and the marks and the stamp that it has then.
+#[derive(Drop)]
+struct Change {
+    steps: &'static [Step],
+    marks: &'static [u64],
+    stamp: Option<(u64, &'static [u64])>,
+}
+
+const CHANGES: [Change; 6] = [
+    Change {
+        steps: &[Step::Enter(1)],
+        marks: &[1],
+        stamp: None,
+    },
+    Change {
+        steps: &[Step::Enter(1), Step::Leave(1)],
+        marks: &[],
+        stamp: None,
+    },
+    Change {
+        steps: &[Step::LeaveWith(1, 2)],
+        marks: &[1],
+        stamp: Some((2, &[1])),
+    },
+    Change {
+        steps: &[Step::Enter(1), Step::LeaveWith(1, 2)],
+        marks: &[],
+        stamp: None,
+    },
+    Change {
+        steps: &[Step::Enter(1), Step::Stamp(2), Step::Leave(1)],
+        marks: &[],
+        stamp: Some((2, &[1])),
+    },
+    Change {
+        steps: &[Step::Enter(1), Step::Leave(3), Step::Stamp(4)],
+        marks: &[3, 1],
+        stamp: Some((4, &[3, 1])),
+    },
+];
+
 #[test]
 fn leaves_change_as_the_algorithm_says(rt: HostRuntime) -> Result<(), Fail> {
-    let alloc = rt.alloc();
-    let (enter, leave) = (Step::Enter(1), Step::LeaveWith(1, 2));
-    assert!(rt; gives(alloc, &[enter], &[1], None)?);
-    assert!(rt; gives(alloc, &[enter, Step::Leave(1)], &[], None)?);
-    assert!(rt; gives(alloc, &[leave], &[1], Some((2, &[1])))?);
-    assert!(rt; gives(alloc, &[enter, leave], &[], None)?);
-    assert!(rt;
-        gives(
-            alloc,
-            &[enter, Step::Stamp(2), Step::Leave(1)],
-            &[],
-            Some((2, &[1]))
-        )?
-    );
-    assert!(rt;
-        gives(
-            alloc,
-            &[enter, Step::Leave(3), Step::Stamp(4)],
-            &[3, 1],
-            Some((4, &[3, 1]))
-        )?
-    );
+    for change in CHANGES {
+        assert!(rt; gives(rt.alloc(), change.steps, change.marks, change.stamp)?);
+    }
     Ok(())
 }
 
