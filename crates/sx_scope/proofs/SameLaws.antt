@@ -17,10 +17,14 @@ use Rattle.sx_frames.specs.Renaming.{renamed_scope}
 use Rattle.sx_frames.specs.Scope.{Scope, label_at, label_by}
 use Rattle.sx_frames.proofs.RenamingLaws.{same_marks-renamed, label_by-renamed}
 use Rattle.sx_scope.specs.Same.{same_binder, Meaning, bound, free, meant, meaning, same_meaning, same_binding}
-use Rattle.sx_scope.specs.Stands.{symbol_of, stands}
+use Rattle.sx_scope.specs.Stands.{symbol_of, stands, is_for}
 
 label_is : (l m : Label) → same_name l.0 m.0 ≡ true → l ≡ m
 label_is l m h = ap (λ (n : Named). let x : Label = record { 0 = n } in x) ((same_name_cases l.0 m.0).0 h)
+
+pub is_for_decides : (l : Label) (o : Option Label) → Decides (is_for l o) (o ≡ Some l)
+is_for_decides l None = (λ h. cc, λ e. cc)
+is_for_decides l (Some m) = (λ h. ap Some (label_is m l h), λ e. let k : m ≡ l = cc in (same_name_cases m.0 l.0).1 (ap (λ (x : Label). x.0) k))
 
 pub same_meaning_decides : (m n : Meaning) → Decides (same_meaning m n) (m ≡ n)
 same_meaning_decides (bound l) (bound m) = (λ h. ap bound (label_is l m h), λ e. let k : l ≡ m = cc in (same_name_cases l.0 m.0).1 (ap (λ (x : Label). x.0) k))

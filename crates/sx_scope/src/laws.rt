@@ -1,8 +1,9 @@
 //! Laws of leaves in frames. Each function here computes nothing: what it promises is the law.
 
 ghost use Rattle.std.specs.Cmp.{IsEquivalence};
-ghost use Rattle.std.specs.Prelude.{◌≡◌, ◌↔◌, IsTrue};
+ghost use Rattle.std.specs.Prelude.{◌≡◌, ◌↔◌, IsTrue, Some};
 ghost use Rattle.sx_base.specs.declared.name.FrameNo.{FrameNo};
+ghost use Rattle.sx_base.specs.declared.name.Label.{Label};
 ghost use Rattle.sx_base.specs.declared.name.Mark.{Mark};
 ghost use Rattle.sx_tree.specs.Leaves.{marks_of, stamps_of};
 ghost use Rattle.sx_tree.specs.Renaming.{IsOneToOne, renamed};
@@ -12,7 +13,12 @@ ghost use Rattle.sx_frames.specs.Renaming.{renamed_scope};
 ghost use Rattle.sx_frames.specs.Rows.{Row};
 ghost use Rattle.sx_frames.specs.Scope.{Scope, label_at, with_row};
 ghost use Rattle.sx_scope.specs.Same.{same_binder, meaning, same_binding};
-ghost use Rattle.sx_scope.specs.Stands.{symbol_of, stands};
+ghost use Rattle.sx_scope.specs.Stands.{symbol_of, stands, is_for};
+
+/// A leaf stands for a label exactly where that label is the answer.
+pub fn one_label_is_the_answer()
+    ensures { (fs : Scope) (t : Tree) (l : Label) → IsTrue (is_for l (stands fs t)) ↔ (stands fs t ≡ Some l) }
+{}
 
 /// Leaves have one binding exactly where they mean the same, so this is an equivalence.
 pub fn one_binding_is_one_meaning()

@@ -5,7 +5,7 @@ ghost use Rattle.sx_base.specs.Gives.{BareGives};
 ghost use Rattle.sx_frames.specs.Listed.{rows_in};
 ghost use Rattle.sx_frames.specs.Scope.{has_frame, bound, adopted, are_new};
 ghost use Rattle.sx_scope.specs.Same.{same_binding};
-ghost use Rattle.sx_scope.specs.Stands.{IsLeaf, row_for, stands};
+ghost use Rattle.sx_scope.specs.Stands.{row_for, stands, is_for};
 
 use crate::same::symbol_of;
 use std::alloc::Global;
@@ -83,7 +83,6 @@ impl Frames {
     /// Binds a leaf in a frame. It is `Duplicate` exactly where the frame has a row with the leaf's
     /// symbol and marks; a frame that isn't there is added. A refusal changes nothing.
     pub fn bind(&mut self, frame: FrameNo, id: &Syn, label: Label) -> Result<(), BareStop>
-        requires { IsLeaf id.now }
         ensures row { BareGives (λ _. self.new) result (bound self.old frame (row_for id.now label)) }
         ensures err { OnErr result (self.new ≡ self.old) }
     {
@@ -95,7 +94,6 @@ impl Frames {
     /// The label that a leaf stands for: that of the first of its stamps whose frame has a row with
     /// the leaf's symbol and the stamp's marks. A stamp whose frame isn't there has no row.
     pub fn stands(&self, id: &Syn) -> Result<Option<Label>, Memory>
-        requires { IsLeaf id.now }
         ensures { IfOk result (λ l. l ≡ stands self.now id.now) }
     {
         let symbol = symbol_of(self.alloc, id)?;
@@ -106,7 +104,6 @@ impl Frames {
     /// As `stands`, and remembers the answer. A remembered answer is given only where it still holds,
     /// so none shows. A leaf with one stamp is looked up, since that costs less.
     pub fn stands_kept(&mut self, id: &Syn) -> Result<Option<Label>, Memory>
-        requires { IsLeaf id.now }
         ensures label { IfOk result (λ l. l ≡ stands self.old id.now) }
         ensures unchanged { self.new ≡ self.old }
     {
@@ -119,11 +116,20 @@ impl Frames {
         self.frames.label_kept(symbol, marks, stamps)
     }
 
+    /// Whether a leaf stands for this label. It asks as `stands_kept` does.
+    pub fn stands_for(&mut self, id: &Syn, label: &Label) -> Result<bool, Memory>
+        ensures label { IfOk result (λ r. r ≡ is_for label.now (stands self.old id.now)) }
+        ensures unchanged { self.new ≡ self.old }
+    {
+        match self.stands_kept(id)? {
+            Some(found) => Ok(found == *label),
+            None => Ok(false),
+        }
+    }
+
     /// Whether two leaves stand for one label, or both for none and have one symbol, as
     /// `free-identifier=?` says it (R6RS libraries 12.5).
     pub fn same_binding(&self, a: &Syn, b: &Syn) -> Result<bool, Memory>
-        requires first { IsLeaf a.now }
-        requires second { IsLeaf b.now }
         ensures { IfOk result (λ r. r ≡ same_binding self.now a.now b.now) }
     {
         match (self.stands(a)?, self.stands(b)?) {

@@ -1,6 +1,3 @@
-ghost use Rattle.std.specs.Prelude.{◌≡◌, IfOk};
-ghost use Rattle.sx_scope.specs.Stands.{IsLeaf};
-
 use crate::same::same_binder;
 use crate::scope::Frames;
 use std::alloc::Global;
@@ -44,9 +41,7 @@ fn leaf(
     symbol: &str,
     now: &[u64],
     stamped: &[(u64, &[u64])],
-) -> Result<Syn, Memory>
-    ensures { IfOk result (λ t. IsLeaf t) }
-{
+) -> Result<Syn, Memory> {
     let mut stamps = Vec::new(alloc);
     for (number, numbers) in stamped {
         let frame = frame(library, *number)?;
@@ -64,9 +59,7 @@ fn refused(
     frame: FrameNo,
     id: &Syn,
     label: Label,
-) -> Result<Option<u16>, Memory>
-    requires { IsLeaf id.now }
-{
+) -> Result<Option<u16>, Memory> {
     match frames.bind(frame, id, label) {
         Ok(()) => Ok(None),
         Err(BareStop::Fault(fault)) => Ok(Some(fault.kind.number())),
@@ -156,9 +149,7 @@ fn adopts(
 }
 
 /// Whether a leaf stands for this, with and without the memo.
-fn stands_for(frames: &mut Frames, id: &Syn, expected: Option<u64>) -> Result<bool, Memory>
-    requires { IsLeaf id.now }
-{
+fn stands_for(frames: &mut Frames, id: &Syn, expected: Option<u64>) -> Result<bool, Memory> {
     let kept = number_of(frames.stands_kept(id)?);
     let plain = number_of(frames.stands(id)?);
     Ok(kept == expected && plain == expected)
@@ -170,9 +161,7 @@ fn goes(
     frames: &mut Frames,
     id: &Syn,
     step: Step,
-) -> Result<bool, Memory>
-    requires { IsLeaf id.now }
-{
+) -> Result<bool, Memory> {
     match step {
         Step::Bind(marks, bound, expected) => binds(alloc, library, frames, marks, bound, expected),
         Step::Adopt(at) => adopts(alloc, library, frames, at),
@@ -200,9 +189,7 @@ fn turns(
     frames: &mut Frames,
     id: &Syn,
     turn: u64,
-) -> Result<bool, Memory>
-    requires { IsLeaf id.now }
-{
+) -> Result<bool, Memory> {
     let expected = if turn <= 2_500 {
         None
     } else if turn <= 7_500 {
@@ -302,9 +289,7 @@ const PAIRS: [(Spelt, Spelt, bool, bool); 5] = [
     (BOUND, BOUND, true, true),
 ];
 
-fn spelt(alloc: Global, library: &Rc<LibName>, spelt: Spelt) -> Result<Syn, Memory>
-    ensures { IfOk result (λ t. IsLeaf t) }
-{
+fn spelt(alloc: Global, library: &Rc<LibName>, spelt: Spelt) -> Result<Syn, Memory> {
     let (symbol, marks, stamps) = spelt;
     leaf(alloc, library, symbol, marks, stamps)
 }
