@@ -27,7 +27,5 @@
 pub mod laws;
 pub mod same;
 pub mod scope;
-#[cfg(test)]
-mod tests;
 
 pub use sx_tree::frame_row;

@@ -1,5 +1,3 @@
-use crate::same::same_binder;
-use crate::scope::Frames;
 use std::alloc::Global;
 use std::rc::Rc;
 use std::test::Fail;
@@ -8,6 +6,8 @@ use sx_base::library::LibName;
 use sx_base::memory::Memory;
 use sx_base::name::{FrameNo, Label, Mark, Name};
 use sx_base::symbol::Symbol;
+use sx_scope::same::same_binder;
+use sx_scope::scope::Frames;
 use sx_syntax::syn::Syn;
 use sx_tree::frame_row::FrameRow;
 use sx_tree::marks::Marks;
