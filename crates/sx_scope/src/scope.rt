@@ -19,6 +19,7 @@ use sx_syntax::syn::Syn;
 use sx_tree::frame_row::FrameRow;
 
 /// Frames, each with its rows in the order of binding. Tables and remembered answers don't show.
+/// What is no leaf counts as one of the empty symbol, without marks and stamps, so it stands for no label.
 #[derive(Drop)]
 pub struct Frames {
     alloc: Global,
