@@ -1,12 +1,16 @@
-//! Work on syntax objects whose time `bench/syntax.sh` takes.
+//! Work on syntax objects and frames whose time `bench/syntax.sh` and `bench/scope.sh` take.
 //!
 //! The words are what to do and how many elements the list has, as `walk 1000`. `build` makes the list
 //! alone; `change` enters and leaves a mark on it 1,000 times; `walk` enters a mark and opens the list
-//! from its first element to its last, each element too. The program writes its words.
+//! from its first element to its last, each element too. With `fill`, `find`, `ask`, `layer`, `look` and
+//! `recall` the number is that of names or frames, as `scopes` says. The program writes its words.
 #![tactic(auto)]
+
+mod scopes;
 
 ghost use Rattle.std.specs.Prelude.{◌≡◌, ◌<◌};
 
+use crate::scopes::FrameWork;
 use std::alloc::Global;
 use std::marker::Brand;
 use std::process::ExitCode;
@@ -23,17 +27,30 @@ use sx_syntax::syn::{Opened, Syn};
 
 /// What to do with the list.
 #[derive(Clone, Copy)]
-enum Work {
+enum ListWork {
     Build,
     Change,
     Walk,
 }
 
+/// What to do.
+#[derive(Clone, Copy)]
+enum Work {
+    List(ListWork),
+    Frames(FrameWork),
+}
+
 fn work_of(word: &str) -> Option<Work> {
     match word {
-        "build" => Some(Work::Build),
-        "change" => Some(Work::Change),
-        "walk" => Some(Work::Walk),
+        "build" => Some(Work::List(ListWork::Build)),
+        "change" => Some(Work::List(ListWork::Change)),
+        "walk" => Some(Work::List(ListWork::Walk)),
+        "fill" => Some(Work::Frames(FrameWork::Fill)),
+        "find" => Some(Work::Frames(FrameWork::Find)),
+        "ask" => Some(Work::Frames(FrameWork::Ask)),
+        "layer" => Some(Work::Frames(FrameWork::Layer)),
+        "look" => Some(Work::Frames(FrameWork::Look)),
+        "recall" => Some(Work::Frames(FrameWork::Recall)),
         _ => None,
     }
 }
@@ -79,23 +96,34 @@ fn walk<N: Ledger>(alloc: Global, tree: Syn, nodes: &mut Steps<N>) -> Result<(),
     Ok(())
 }
 
-fn run<N: Ledger>(alloc: Global, work: Work, count: u32, blank: Blank) -> Result<(), BareStop>
+fn run<N: Ledger>(alloc: Global, work: ListWork, count: u32, blank: Blank) -> Result<(), BareStop>
     requires name { blank.name ≡ N.name }
     requires parts { (blank.parts ≡ N.parts) × (0 < N.parts) }
 {
     let mut nodes = Steps::<N>::open(blank);
     let tree = listed(alloc, count)?;
     match work {
-        Work::Build => {}
-        Work::Change => change(alloc, tree, &mut nodes)?,
-        Work::Walk => walk(alloc, tree, &mut nodes)?,
+        ListWork::Build => {}
+        ListWork::Change => change(alloc, tree, &mut nodes)?,
+        ListWork::Walk => walk(alloc, tree, &mut nodes)?,
     }
     Ok(())
 }
 
 // A run whose nodes nobody counts.
-fn run_uncounted(alloc: Global, work: Work, count: u32) -> Result<(), BareStop> {
+fn run_uncounted(alloc: Global, work: ListWork, count: u32) -> Result<(), BareStop> {
     run::<Brand>(alloc, work, count, Blank::new(1))
+}
+
+// Whether the work ended well.
+fn done(alloc: Global, work: Work, count: u32) -> Result<bool, BareStop> {
+    match work {
+        Work::List(work) => {
+            run_uncounted(alloc, work, count)?;
+            Ok(true)
+        }
+        Work::Frames(work) => scopes::run(alloc, work, count),
+    }
 }
 
 fn main(rt: HostRuntime) -> io::Result<ExitCode> {
@@ -110,8 +138,9 @@ fn main(rt: HostRuntime) -> io::Result<ExitCode> {
     let (Some(work), Ok(number)) = (work_of(what.as_str()), count.as_str().parse::<u32>()) else {
         return Ok(ExitCode::from(2));
     };
-    if run_uncounted(alloc, work, number).is_err() {
-        return Ok(ExitCode::from(1));
+    match done(alloc, work, number) {
+        Ok(true) => {}
+        _ => return Ok(ExitCode::from(1)),
     }
     println!(rt; "{what} {count}")?;
     Ok(ExitCode::from(0))
