@@ -1,6 +1,0 @@
-//! Imports.
-#![tactic(auto)]
-
-pub mod names;
-pub mod set;
-pub mod table;
