@@ -1,0 +1,14 @@
+pub mod Bush
+pub mod Pattern
+pub mod PatternCode
+pub mod PatternView
+pub mod PatternFalls
+pub mod Template
+pub mod TemplateCode
+pub mod TemplateView
+pub mod TemplateFalls
+pub mod Core
+pub mod CoreCode
+pub mod CoreView
+pub mod CoreFalls
+pub mod CoreForm
