@@ -12,3 +12,7 @@ pub mod CoreCode
 pub mod CoreView
 pub mod CoreFalls
 pub mod CoreForm
+pub mod Labels
+pub mod Bindings
+pub mod References
+pub mod Height

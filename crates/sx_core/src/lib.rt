@@ -11,13 +11,17 @@
 #![tactic(auto)]
 
 pub mod binding;
+pub mod bindings;
 pub mod code;
 pub mod core_form;
 pub mod formals;
+pub mod height;
 pub mod job;
+pub mod labels;
 pub mod link;
 pub mod pattern;
 pub mod record;
+pub mod references;
 pub mod template;
 
 pub use sx_base::op::Op;
