@@ -1,10 +1,9 @@
 -- Labels that are added one after another.
 use Rattle.std.proofs.Common.{◌≡◌, ℕ, suc, ◌+◌, ◌<◌, List, [], ◌∷◌, ◌++◌, length, get_or, drop, refl, sym, ap, ◌∙◌, append_assoc, add-one, drop-cons}
-use Rattle.std.proofs.lemmas.List.{append-nil}
 use Rattle.std.specs.Prelude.{Option, None, Some}
 use Rattle.sx_base.specs.declared.name.Label.{Label}
 use Rattle.sx_core.specs.Labels.{with_label, with_labels}
-use Rattle.sx_core.specs.Pattern.{PlainPattern, PlainPatterns, none, patterns, patterns_on}
+use Rattle.sx_core.specs.Pattern.{PlainPattern, PlainPatterns, patterns, patterns_on}
 use Rattle.sx_core.specs.Core.{PlainCore}
 use Rattle.sx_core.specs.CoreView.{clauses}
 use Rattle.sx_core.specs.declared.code.Clause.{Clause}
@@ -24,6 +23,7 @@ clause_binders_more c cs = go c.fender
   where
     rest : List Label
     rest = clause_binders (clauses cs)
+
     go : (f : Option PlainCore) → clause_binders (clauses (record c { fender = f } ∷ cs)) ≡ clause_binders (clauses (record c { fender = f } ∷ [])) ++ rest
     go None = sym (append_assoc (variables c.pattern) (binders c.output ++ []) rest ∙ ap (λ ls. variables c.pattern ++ ls) (append_assoc (binders c.output) [] rest))
     go (Some f) = sym (append_assoc (variables c.pattern) (binders f ++ (binders c.output ++ [])) rest
@@ -34,6 +34,7 @@ clause_mentions_more c cs = go c.fender
   where
     rest : List Label
     rest = clause_mentions (clauses cs)
+
     go : (f : Option PlainCore) → clause_mentions (clauses (record c { fender = f } ∷ cs)) ≡ clause_mentions (clauses (record c { fender = f } ∷ [])) ++ rest
     go None = sym (append_assoc (mentions c.output) [] rest)
     go (Some f) = sym (append_assoc (mentions f) (mentions c.output ++ []) rest ∙ ap (λ ls. mentions f ++ ls) (append_assoc (mentions c.output) [] rest))

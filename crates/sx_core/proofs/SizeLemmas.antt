@@ -1,8 +1,8 @@
 -- A part of a list of parts is smaller than the list.
-use Rattle.std.proofs.Common.{◌≡◌, ℕ, zero, suc, ◌<◌, ◌≤◌, ◌+◌, List, [], ◌∷◌, length, get_or, arith, max}
+use Rattle.std.proofs.Common.{◌≡◌, ℕ, zero, suc, ◌<◌, ◌≤◌, List, [], ◌∷◌, length, get_or, arith, max}
 use Rattle.std.specs.Prelude.{Option, None, Some}
 use Rattle.sx_core.specs.Pattern.{PlainPattern, PlainPatterns, none, more, dots, patterns, patterns_on, pattern_size, patterns_size}
-use Rattle.sx_core.specs.Core.{PlainCore, PlainCores, PlainInits, PlainCases, PlainClauses, cores, core_size, cores_size, inits_size, cases_size, clauses_size}
+use Rattle.sx_core.specs.Core.{PlainCore, cores, core_size, cores_size, inits_size, cases_size, clauses_size}
 use Rattle.sx_core.specs.CoreView.{inits, cases, clauses}
 use Rattle.sx_core.specs.Height.{height, highest, highest_init, highest_case, highest_clause}
 use Rattle.sx_core.specs.declared.code.Init.{Init}
@@ -34,6 +34,7 @@ clauses_some c cs = go c.fender
         more : (f : Option PlainCore) → 1 ≤ clauses_size (clauses (record d { fender = f } ∷ ds))
         more None = omega arith
         more (Some f) = omega arith
+
     go : (f : Option PlainCore) → (clauses_size (clauses (record c { fender = f } ∷ [])) ≤ clauses_size (clauses (record c { fender = f } ∷ cs))) × (clauses_size (clauses cs) ≤ clauses_size (clauses (record c { fender = f } ∷ cs)))
     go None = (omega (arith, some cs), omega arith)
     go (Some f) = (omega (arith, some cs), omega arith)

@@ -1,6 +1,6 @@
 -- How the logic tells two core expressions apart.
 use Rattle.std.specs.Prelude.{◌≡◌, Bool, refl, ◌⊎◌}
-use Rattle.std.proofs.Common.{inl, inr, ap}
+use Rattle.std.proofs.Common.{inl, inr}
 use Rattle.std.specs.Coded.{Coded, code_by, coded⊎, coded×, coded_bool}
 use base.Stored.{coded_unit}
 use Rattle.sx_base.specs.Datum.{PlainDatum}

@@ -1,5 +1,5 @@
 -- A part of core code is smaller than it.
-use Rattle.std.specs.Prelude.{ℕ, ◌+◌, ◌≤◌, max, List, [], ◌∷◌, Option, Some, None}
+use Rattle.std.specs.Prelude.{◌+◌, ◌≤◌, max, List, [], ◌∷◌, Option, Some, None}
 use Rattle.std.proofs.Common.{arith}
 use denote.Param.Weighed.{most}
 use Rattle.sx_core.specs.Core.{PlainCore, core_size, cores_size, inits_size, cases_size, clauses_size, cores}

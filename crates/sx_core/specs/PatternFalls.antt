@@ -1,14 +1,14 @@
 -- A part of a pattern is smaller than it.
-use Rattle.std.specs.Prelude.{ℕ, ◌+◌, ◌≤◌, max, List, [], ◌∷◌, Option, Some, None}
+use Rattle.std.specs.Prelude.{◌+◌, ◌≤◌, max, List, [], ◌∷◌, Option, Some, None}
 use Rattle.std.proofs.Common.{arith}
 use denote.Param.Weighed.{most}
 use Rattle.sx_core.specs.Pattern.{PlainPattern, PlainPatterns, none, patterns, patterns_on, pattern_size, patterns_size, dots}
-use Rattle.sx_core.specs.PatternView.{seen, elements_of, repeated_on}
+use Rattle.sx_core.specs.PatternView.{seen, elements_of}
 use Rattle.sx_core.specs.declared.pattern.Elements.{Elements}
 use Rattle.sx_core.specs.declared.pattern.Repeated.{Repeated}
 use Rattle.sx_core.specs.declared.pattern.PatternNode.{PatternNode}
 use Rattle.sx_core.specs.declared.pattern.PatternNode.TheVariants as node
-use Rattle.sx_core.specs.declared.pattern.Pattern.TheDeep.{deep-PatternNode, deep-Elements, deep-Repeated}
+use Rattle.sx_core.specs.declared.pattern.Pattern.TheDeep.{deep-PatternNode, deep-Elements}
 
 pub most_below : (ps : List PlainPattern) (q : PlainPatterns) → most (λ p. pattern_size p + 1) ps ≤ patterns_size (patterns_on ps q)
 most_below [] q = omega arith

@@ -1,6 +1,6 @@
 -- What a pattern in memory stands for.
 use Rattle.std.specs.Prelude.{Option, Some, None}
-use Rattle.sx_core.specs.Pattern.{PlainPattern, any, variable, literal, atom, list, vector, PlainPatterns, none, more, dots, patterns, patterns_on}
+use Rattle.sx_core.specs.Pattern.{PlainPattern, any, variable, literal, atom, list, vector, PlainPatterns, none, dots, patterns, patterns_on}
 use Rattle.sx_core.specs.declared.pattern.Elements.{Elements}
 use Rattle.sx_core.specs.declared.pattern.Repeated.{Repeated}
 use Rattle.sx_core.specs.declared.pattern.PatternNode.{PatternNode}

@@ -1,8 +1,8 @@
 -- A part of a template is smaller than it.
-use Rattle.std.specs.Prelude.{ℕ, ◌+◌, ◌≤◌, max, List, [], ◌∷◌}
+use Rattle.std.specs.Prelude.{◌≤◌, max, List, [], ◌∷◌}
 use Rattle.std.proofs.Common.{arith}
 use denote.Param.Weighed.{most}
-use Rattle.sx_core.specs.Template.{PlainTemplate, PlainItems, template_size, items_size}
+use Rattle.sx_core.specs.Template.{template_size, items_size}
 use Rattle.sx_core.specs.TemplateView.{seen, items}
 use Rattle.sx_core.specs.declared.template.Item.{Item}
 use Rattle.sx_core.specs.declared.template.TemplateNode.{TemplateNode}

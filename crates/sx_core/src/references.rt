@@ -115,11 +115,7 @@ fn scan_cases(bound: &mut Labels, mentioned: &mut Labels, list: &[Lambda]) -> Re
 
 #[cycle(scan)]
 #[tactic(auto, using(crate::proofs::LabelLemmas::with_labels_joined, crate::proofs::LabelLemmas::clause_binders_more, crate::proofs::LabelLemmas::clause_mentions_more))]
-fn scan_clauses(
-    bound: &mut Labels,
-    mentioned: &mut Labels,
-    list: &[Clause],
-) -> Result<(), Memory>
+fn scan_clauses(bound: &mut Labels, mentioned: &mut Labels, list: &[Clause]) -> Result<(), Memory>
     ensures bound { OnOk result (bound.new ≡ with_labels bound.old (clause_binders (clauses list.now))) }
     ensures mentioned { OnOk result (mentioned.new ≡ with_labels mentioned.old (clause_mentions (clauses list.now))) }
 {
