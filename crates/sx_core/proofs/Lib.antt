@@ -1,0 +1,3 @@
+pub mod LabelLemmas
+pub mod SizeLemmas
+pub mod MemberLemmas

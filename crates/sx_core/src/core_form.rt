@@ -1,0 +1,219 @@
+//! Core forms: the keywords that expansion itself knows.
+
+ghost use Rattle.std.specs.Prelude.{◌≡◌, slice_get};
+ghost use Rattle.sx_core.specs.CoreForm.{place, number, at_place, at_number, first_numbered};
+
+use sx_base::op::Op;
+
+/// A keyword that expansion itself knows: the core forms, their auxiliary keywords, the forms of
+/// records, and the auxiliary keywords of these.
+#[derive(Clone, Copy, PartialEq, Eq)]
+pub enum CoreForm {
+    Quote,
+    Lambda,
+    CaseLambda,
+    If,
+    Set,
+    Begin,
+    Letrec,
+    /// `letrec*`
+    LetrecStar,
+    Define,
+    DefineSyntax,
+    LetSyntax,
+    LetrecSyntax,
+    Quasiquote,
+    Syntax,
+    Quasisyntax,
+    SyntaxCase,
+    Else,
+    /// `=>`
+    Arrow,
+    /// `...`
+    Ellipsis,
+    /// `_`
+    Underscore,
+    Unquote,
+    UnquoteSplicing,
+    Unsyntax,
+    UnsyntaxSplicing,
+    DefineRecordType,
+    RecordTypeDescriptor,
+    RecordConstructorDescriptor,
+    Fields,
+    Mutable,
+    Immutable,
+    Parent,
+    Protocol,
+    Sealed,
+    Opaque,
+    Nongenerative,
+    /// `parent-rtd`
+    ParentRtd,
+}
+
+/// All of them in order.
+pub const CORE_FORMS: [CoreForm; 36] = [
+    CoreForm::Quote,
+    CoreForm::Lambda,
+    CoreForm::CaseLambda,
+    CoreForm::If,
+    CoreForm::Set,
+    CoreForm::Begin,
+    CoreForm::Letrec,
+    CoreForm::LetrecStar,
+    CoreForm::Define,
+    CoreForm::DefineSyntax,
+    CoreForm::LetSyntax,
+    CoreForm::LetrecSyntax,
+    CoreForm::Quasiquote,
+    CoreForm::Syntax,
+    CoreForm::Quasisyntax,
+    CoreForm::SyntaxCase,
+    CoreForm::Else,
+    CoreForm::Arrow,
+    CoreForm::Ellipsis,
+    CoreForm::Underscore,
+    CoreForm::Unquote,
+    CoreForm::UnquoteSplicing,
+    CoreForm::Unsyntax,
+    CoreForm::UnsyntaxSplicing,
+    CoreForm::DefineRecordType,
+    CoreForm::RecordTypeDescriptor,
+    CoreForm::RecordConstructorDescriptor,
+    CoreForm::Fields,
+    CoreForm::Mutable,
+    CoreForm::Immutable,
+    CoreForm::Parent,
+    CoreForm::Protocol,
+    CoreForm::Sealed,
+    CoreForm::Opaque,
+    CoreForm::Nongenerative,
+    CoreForm::ParentRtd,
+];
+
+impl CoreForm {
+    /// Its place among them.
+    pub fn place(self) -> u8
+        ensures { result ≡ place self }
+    {
+        match self {
+            CoreForm::Quote => 0,
+            CoreForm::Lambda => 1,
+            CoreForm::CaseLambda => 2,
+            CoreForm::If => 3,
+            CoreForm::Set => 4,
+            CoreForm::Begin => 5,
+            CoreForm::Letrec => 6,
+            CoreForm::LetrecStar => 7,
+            CoreForm::Define => 8,
+            CoreForm::DefineSyntax => 9,
+            CoreForm::LetSyntax => 10,
+            CoreForm::LetrecSyntax => 11,
+            CoreForm::Quasiquote => 12,
+            CoreForm::Syntax => 13,
+            CoreForm::Quasisyntax => 14,
+            CoreForm::SyntaxCase => 15,
+            CoreForm::Else => 16,
+            CoreForm::Arrow => 17,
+            CoreForm::Ellipsis => 18,
+            CoreForm::Underscore => 19,
+            CoreForm::Unquote => 20,
+            CoreForm::UnquoteSplicing => 21,
+            CoreForm::Unsyntax => 22,
+            CoreForm::UnsyntaxSplicing => 23,
+            CoreForm::DefineRecordType => 24,
+            CoreForm::RecordTypeDescriptor => 25,
+            CoreForm::RecordConstructorDescriptor => 26,
+            CoreForm::Fields => 27,
+            CoreForm::Mutable => 28,
+            CoreForm::Immutable => 29,
+            CoreForm::Parent => 30,
+            CoreForm::Protocol => 31,
+            CoreForm::Sealed => 32,
+            CoreForm::Opaque => 33,
+            CoreForm::Nongenerative => 34,
+            CoreForm::ParentRtd => 35,
+        }
+    }
+
+    /// Its number in the table of names: a keyword is bound to the label of the library `Core` with
+    /// this number.
+    pub fn number(self) -> u16
+        ensures { result ≡ number self }
+    {
+        match self {
+            CoreForm::Quote => 0,
+            CoreForm::Lambda => 1,
+            CoreForm::CaseLambda => 214,
+            CoreForm::If => 2,
+            CoreForm::Set => 3,
+            CoreForm::Begin => 4,
+            CoreForm::Letrec => 5,
+            CoreForm::LetrecStar => 6,
+            CoreForm::Define => 7,
+            CoreForm::DefineSyntax => 8,
+            CoreForm::LetSyntax => 9,
+            CoreForm::LetrecSyntax => 10,
+            CoreForm::Quasiquote => 11,
+            CoreForm::Syntax => 217,
+            CoreForm::Quasisyntax => 225,
+            CoreForm::SyntaxCase => 216,
+            CoreForm::Else => 12,
+            CoreForm::Arrow => 13,
+            CoreForm::Ellipsis => 14,
+            CoreForm::Underscore => 15,
+            CoreForm::Unquote => 16,
+            CoreForm::UnquoteSplicing => 17,
+            CoreForm::Unsyntax => 226,
+            CoreForm::UnsyntaxSplicing => 227,
+            CoreForm::DefineRecordType => 289,
+            CoreForm::RecordTypeDescriptor => 290,
+            CoreForm::RecordConstructorDescriptor => 291,
+            CoreForm::Fields => 292,
+            CoreForm::Mutable => 293,
+            CoreForm::Immutable => 294,
+            CoreForm::Parent => 295,
+            CoreForm::Protocol => 296,
+            CoreForm::Sealed => 297,
+            CoreForm::Opaque => 298,
+            CoreForm::Nongenerative => 299,
+            CoreForm::ParentRtd => 300,
+        }
+    }
+
+    /// The one at a place.
+    pub fn at_place(place: u8) -> Option<CoreForm>
+        ensures { result ≡ at_place place }
+    {
+        form_at(&CORE_FORMS, place as usize)
+    }
+
+    /// The one of a number.
+    pub fn at_number(op: &Op) -> Option<CoreForm>
+        ensures { result ≡ at_number op.now.0 }
+    {
+        first_numbered(&CORE_FORMS, op.0)
+    }
+}
+
+fn form_at(forms: &[CoreForm], place: usize) -> Option<CoreForm>
+    ensures { result ≡ slice_get forms.now place }
+{
+    if place < forms.len() {
+        Some(forms[place])
+    } else {
+        None
+    }
+}
+
+fn first_numbered(forms: &[CoreForm], number: u16) -> Option<CoreForm>
+    ensures { result ≡ first_numbered forms.now number }
+{
+    for form in forms {
+        if form.number() == number {
+            return Some(*form);
+        }
+    }
+    None
+}
