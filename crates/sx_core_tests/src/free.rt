@@ -1,0 +1,102 @@
+use std::alloc::Global;
+use std::rc::Rc;
+use std::test::Fail;
+use sx_base::atom::Atom;
+use sx_base::datum::{Datum, Node};
+use sx_base::items::Items;
+use sx_base::library::LibName;
+use sx_base::memory::Memory;
+use sx_base::name::{CodeNo, Label, Name};
+use sx_core::code::{Code, Core, CoreNode, Init, Lambda};
+use sx_core::formals::Formals;
+use sx_core::references::references;
+
+fn name(library: &Rc<LibName>, number: u64) -> Result<Name, Memory> {
+    let library = library.clone()?;
+    Ok(Name { library, number })
+}
+
+fn variable(library: &Rc<LibName>, number: u64) -> Result<Core, Memory> {
+    let node = CoreNode::Ref(Label(name(library, number)?));
+    Ok(Core { node })
+}
+
+/// `(v8 v9 v8)`
+fn call(alloc: Global, library: &Rc<LibName>) -> Result<Core, Memory> {
+    let operator = Box::new(alloc, variable(library, 8)?)?;
+    let mut operands = Vec::new(alloc);
+    operands.push(variable(library, 9)?)?;
+    operands.push(variable(library, 8)?)?;
+    let node = CoreNode::App(operator, operands);
+    Ok(Core { node })
+}
+
+/// `(set! v7 (v8 v9 v8))`
+fn assignment(alloc: Global, library: &Rc<LibName>) -> Result<Core, Memory> {
+    let target = Label(name(library, 7)?);
+    let value = Box::new(alloc, call(alloc, library)?)?;
+    let node = CoreNode::Set(target, value);
+    Ok(Core { node })
+}
+
+/// `(lambda (v8) (set! v7 (v8 v9 v8)))`
+fn procedure(alloc: Global, library: &Rc<LibName>) -> Result<Core, Memory> {
+    let mut required = Items::new(alloc);
+    required.push(Label(name(library, 8)?))?;
+    let formals = Formals {
+        required,
+        rest: None,
+    };
+    let body = assignment(alloc, library)?;
+    let mut cases = Vec::new(alloc);
+    cases.push(Lambda { formals, body })?;
+    let number = CodeNo(name(library, 0)?);
+    let code = Code {
+        number,
+        cases,
+        plain: true,
+    };
+    let node = CoreNode::Lambda(Rc::new(alloc, code)?);
+    Ok(Core { node })
+}
+
+fn constant() -> Core {
+    let node = Node::Atom(Atom::Bool(false));
+    let node = CoreNode::Quote(Datum { span: None, node });
+    Core { node }
+}
+
+/// `(letrec ((v9 #f)) (lambda (v8) (set! v7 (v8 v9 v8))))`
+fn bound(alloc: Global, library: &Rc<LibName>) -> Result<Core, Memory> {
+    let label = Label(name(library, 9)?);
+    let mut inits = Vec::new(alloc);
+    inits.push(Init {
+        label,
+        value: constant(),
+    })?;
+    let body = Box::new(alloc, procedure(alloc, library)?)?;
+    let node = CoreNode::Letrec(false, inits, body);
+    Ok(Core { node })
+}
+
+fn are_numbered(labels: &[Label], numbers: &[u64]) -> bool {
+    for (label, number) in labels.iter().zip(numbers) {
+        if label.0.number != *number {
+            return false;
+        }
+    }
+    labels.len() == numbers.len()
+}
+
+#[test]
+fn references_are_those_that_nothing_binds(rt: HostRuntime) -> Result<(), Fail> {
+    let alloc = rt.alloc();
+    let library = Rc::new(alloc, LibName::Program)?;
+    let free = references(alloc, &assignment(alloc, &library)?)?;
+    assert!(rt; are_numbered(free.as_slice(), &[7, 8, 9]));
+    let free = references(alloc, &procedure(alloc, &library)?)?;
+    assert!(rt; are_numbered(free.as_slice(), &[7, 9]));
+    let free = references(alloc, &bound(alloc, &library)?)?;
+    assert!(rt; are_numbered(free.as_slice(), &[7]));
+    Ok(())
+}
