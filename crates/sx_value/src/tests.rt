@@ -51,22 +51,86 @@ use Step::{Nil, NoElements, Number, Pair, Prim, Syntax, Text, Unspecified, Vecto
 
 /// Each pair, element and character costs 1; what is wrong first, from left to right, is the fault.
 const CASES: [Case; 16] = [
-    Case { steps: &[Number(5)], fuel: 0, answer: Tree(1, 0) },
-    Case { steps: &[Syntax], fuel: 0, answer: Tree(1, 0) },
-    Case { steps: &[Number(1), Number(2), Nil, Pair, Pair], fuel: 2, answer: Tree(3, 0) },
-    Case { steps: &[Number(1), Number(2), Nil, Pair, Pair], fuel: 1, answer: Fault(FaultKind::FuelSpent) },
-    Case { steps: &[Number(1), Number(2), Pair], fuel: 3, answer: Tree(3, 2) },
-    Case { steps: &[Text("añb")], fuel: 3, answer: Tree(1, 0) },
-    Case { steps: &[Text("añb")], fuel: 2, answer: Fault(FaultKind::FuelSpent) },
-    Case { steps: &[NoElements], fuel: 0, answer: Tree(1, 0) },
-    Case { steps: &[Number(1), Vector], fuel: 1, answer: Tree(2, 0) },
-    Case { steps: &[Number(1), Vector, Vector], fuel: 1, answer: Fault(FaultKind::FuelSpent) },
-    Case { steps: &[Step::Symbol], fuel: 9, answer: Fault(FaultKind::RawSymbol) },
-    Case { steps: &[Prim, Step::Symbol, Pair], fuel: 9, answer: Fault(FaultKind::BadOutput) },
-    Case { steps: &[Step::Symbol, Prim, Pair], fuel: 9, answer: Fault(FaultKind::RawSymbol) },
-    Case { steps: &[Step::Symbol, Prim, Pair], fuel: 0, answer: Fault(FaultKind::FuelSpent) },
-    Case { steps: &[Number(1), Number(2), Vector, Pair], fuel: 9, answer: Tree(4, 7) },
-    Case { steps: &[Unspecified, Vector], fuel: 1, answer: Fault(FaultKind::BadOutput) },
+    Case {
+        steps: &[Number(5)],
+        fuel: 0,
+        answer: Tree(1, 0),
+    },
+    Case {
+        steps: &[Syntax],
+        fuel: 0,
+        answer: Tree(1, 0),
+    },
+    Case {
+        steps: &[Number(1), Number(2), Nil, Pair, Pair],
+        fuel: 2,
+        answer: Tree(3, 0),
+    },
+    Case {
+        steps: &[Number(1), Number(2), Nil, Pair, Pair],
+        fuel: 1,
+        answer: Fault(FaultKind::FuelSpent),
+    },
+    Case {
+        steps: &[Number(1), Number(2), Pair],
+        fuel: 3,
+        answer: Tree(3, 2),
+    },
+    Case {
+        steps: &[Text("añb")],
+        fuel: 3,
+        answer: Tree(1, 0),
+    },
+    Case {
+        steps: &[Text("añb")],
+        fuel: 2,
+        answer: Fault(FaultKind::FuelSpent),
+    },
+    Case {
+        steps: &[NoElements],
+        fuel: 0,
+        answer: Tree(1, 0),
+    },
+    Case {
+        steps: &[Number(1), Vector],
+        fuel: 1,
+        answer: Tree(2, 0),
+    },
+    Case {
+        steps: &[Number(1), Vector, Vector],
+        fuel: 1,
+        answer: Fault(FaultKind::FuelSpent),
+    },
+    Case {
+        steps: &[Step::Symbol],
+        fuel: 9,
+        answer: Fault(FaultKind::RawSymbol),
+    },
+    Case {
+        steps: &[Prim, Step::Symbol, Pair],
+        fuel: 9,
+        answer: Fault(FaultKind::BadOutput),
+    },
+    Case {
+        steps: &[Step::Symbol, Prim, Pair],
+        fuel: 9,
+        answer: Fault(FaultKind::RawSymbol),
+    },
+    Case {
+        steps: &[Step::Symbol, Prim, Pair],
+        fuel: 0,
+        answer: Fault(FaultKind::FuelSpent),
+    },
+    Case {
+        steps: &[Number(1), Number(2), Vector, Pair],
+        fuel: 9,
+        answer: Tree(4, 7),
+    },
+    Case {
+        steps: &[Unspecified, Vector],
+        fuel: 1,
+        answer: Fault(FaultKind::BadOutput),
+    },
 ];
 
 fn run_step(
@@ -113,12 +177,7 @@ fn read(alloc: Global, case: Case) -> Result<Answer, Memory> {
     answer(alloc, &cells, &value, case.fuel)
 }
 
-fn answer(
-    alloc: Global,
-    cells: &Region<Cell>,
-    value: &Value,
-    fuel: u64,
-) -> Result<Answer, Memory> {
+fn answer(alloc: Global, cells: &Region<Cell>, value: &Value, fuel: u64) -> Result<Answer, Memory> {
     match to_syntax(alloc, cells, value, fuel) {
         Ok((tree, left)) => Ok(Answer::Tree(tree.size(), left)),
         Err(BareStop::Fault(fault)) => Ok(Answer::Fault(fault.kind)),
@@ -135,18 +194,30 @@ fn values_are_read_from_left_to_right(rt: HostRuntime) -> Result<(), Fail> {
 }
 
 fn number(value: i128) -> Datum {
-    Datum { span: None, node: Node::Atom(Atom::Int(value)) }
+    Datum {
+        span: None,
+        node: Node::Atom(Atom::Int(value)),
+    }
 }
 
 /// The datum `("a" 1)`.
 fn text_and_number(alloc: Global) -> Result<Datum, Memory> {
     let text = Symbol::new(alloc, "a")?;
     let mut items = Vec::new(alloc);
-    items.push(Datum { span: None, node: Node::Atom(Atom::Str(text)) })?;
+    items.push(Datum {
+        span: None,
+        node: Node::Atom(Atom::Str(text)),
+    })?;
     items.push(number(1))?;
-    let nil = Datum { span: None, node: Node::Atom(Atom::Nil) };
+    let nil = Datum {
+        span: None,
+        node: Node::Atom(Atom::Nil),
+    };
     let tail = Box::new(alloc, nil)?;
-    Ok(Datum { span: None, node: Node::List(items, tail) })
+    Ok(Datum {
+        span: None,
+        node: Node::List(items, tail),
+    })
 }
 
 #[test]
@@ -166,7 +237,11 @@ fn many(alloc: Global, cells: &mut Region<Cell>, count: u64, deep: bool) -> Resu
     let mut value = Value::Atom(Atom::Nil);
     for _ in 0..count {
         let one = Value::Atom(Atom::Int(1));
-        let cell = if deep { Cell::Pair(value, one) } else { Cell::Pair(one, value) };
+        let cell = if deep {
+            Cell::Pair(value, one)
+        } else {
+            Cell::Pair(one, value)
+        };
         value = Value::Pair(add_cell(cells, cell)?);
     }
     Ok(value)
@@ -178,11 +253,23 @@ fn long_and_deep_values_are_read_without_recursion(rt: HostRuntime) -> Result<()
     let mut cells = Region::new(alloc);
     let level = cells.mark();
     let long = many(alloc, &mut cells, 1_000_000, false)?;
-    assert_eq!(rt; answer(alloc, &cells, &long, 1_000_000)?, Answer::Tree(1_000_001, 0));
-    assert_eq!(rt; answer(alloc, &cells, &long, 999_999)?, Answer::Fault(FaultKind::FuelSpent));
+    assert_eq!(rt;
+        answer(alloc, &cells, &long, 1_000_000)?,
+        Answer::Tree(1_000_001, 0)
+    );
+    assert_eq!(rt;
+        answer(alloc, &cells, &long, 999_999)?,
+        Answer::Fault(FaultKind::FuelSpent)
+    );
     let deep = many(alloc, &mut cells, 1_000_000, true)?;
-    assert_eq!(rt; answer(alloc, &cells, &deep, 1_000_000)?, Answer::Fault(FaultKind::TooDeep));
-    assert_eq!(rt; answer(alloc, &cells, &deep, 999_999)?, Answer::Fault(FaultKind::FuelSpent));
+    assert_eq!(rt;
+        answer(alloc, &cells, &deep, 1_000_000)?,
+        Answer::Fault(FaultKind::TooDeep)
+    );
+    assert_eq!(rt;
+        answer(alloc, &cells, &deep, 999_999)?,
+        Answer::Fault(FaultKind::FuelSpent)
+    );
     cells.release(level);
     Ok(())
 }
