@@ -28,7 +28,5 @@ pub mod bind;
 pub mod cell;
 pub mod from_datum;
 pub mod laws;
-#[cfg(test)]
-mod tests;
 pub mod to_syntax;
 pub mod value;
