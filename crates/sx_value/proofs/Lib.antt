@@ -1,0 +1,4 @@
+pub mod Readings
+pub mod Stacks
+pub mod Stored
+pub mod Wholes

@@ -1,0 +1,28 @@
+//! Laws of cells and of reading them. Each function here computes nothing: what it promises is the law.
+
+ghost use Rattle.std.specs.Prelude.{◌≡◌, ℕ, List, []};
+ghost use Rattle.sx_base.specs.Datum.{PlainDatum};
+ghost use Rattle.sx_value.specs.declared.cell.Cell.{Cell};
+ghost use Rattle.sx_value.specs.declared.value.Value.{Value};
+ghost use Rattle.sx_value.specs.Cells.{Whole, FitsIn};
+ghost use Rattle.sx_value.specs.FromDatum.{stored, Keeps};
+ghost use Rattle.sx_value.specs.ToSyntax.{to_syntax, level, shown};
+
+/// No cells are whole, and the cells of a datum keep whole cells whole. Its value fits in them.
+pub fn data_keep_cells_whole()
+    ensures none { Whole [] }
+    ensures cells { (d : PlainDatum) (cells : List Cell) → Whole cells → Whole (stored d cells).1 }
+    ensures value { (d : PlainDatum) (cells : List Cell) → Whole cells → FitsIn (stored d cells).1 (stored d cells).0 }
+{}
+
+/// The cells of a datum come behind those that are there, which keep their places.
+pub fn data_keep_older_cells()
+    ensures { (d : PlainDatum) (cells : List Cell) → Keeps cells (stored d cells).1 }
+{}
+
+/// How a value is read is said by one level of it, and by how its parts are read: that fuel bounds the
+/// levels in the definition doesn't show.
+pub fn a_value_is_read_by_its_parts()
+    ensures { (cells : List Cell) (x : Value) (fuel : ℕ) →
+        to_syntax cells x fuel ≡ level (to_syntax cells) (shown cells x) fuel }
+{}
