@@ -1,5 +1,5 @@
 -- The text of core code.
-use Rattle.std.specs.Prelude.{ℕ, Bool, true, false, List, [], ◌∷◌, ◌++◌, Option, None, Some, unwrap_or, if◌then◌else◌, codes}
+use Rattle.std.specs.Prelude.{ℕ, Bool, true, false, List, [], ◌∷◌, ◌++◌, Option, None, Some, unwrap_or, nat_lt, if◌then◌else◌, codes}
 use Rattle.std.specs.Map.{lookup}
 use Rattle.sx_base.specs.Datum as datum
 use Rattle.sx_base.specs.Datum.{PlainDatum}
@@ -22,6 +22,10 @@ Names = List (Label × List ℕ)
 -- the name of a variable; one that has none is written as nothing
 abbrev pub name_of : Names → Label → List ℕ
 name_of names l = unwrap_or (lookup (same_label l) names) []
+
+-- the report name of a primitive; past the table of names there is none
+abbrev pub report_name : ℕ → List ℕ
+report_name n = if nat_lt n 301 then op_text n else []
 
 abbrev pub quote_text : List ℕ → List ℕ
 quote_text text = codes "(quote " ++ text ++ codes ")"
@@ -81,7 +85,7 @@ abbrev mutual
   pub text : Names → PlainCore → List ℕ
   text names (quoted d) = quoted_text d
   text names (variable l) = name_of names l
-  text names (primitive o) = op_text o.0
+  text names (primitive o) = report_name o.0
   text names (one_armed c d) = codes "(if " ++ text names c ++ codes " " ++ text names d ++ codes ")"
   text names (two_armed c d e) = codes "(if " ++ text names c ++ codes " " ++ text names d ++ codes " " ++ text names e ++ codes ")"
   text names (assignment l c) = codes "(set! " ++ name_of names l ++ codes " " ++ text names c ++ codes ")"

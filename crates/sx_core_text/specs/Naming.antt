@@ -1,6 +1,6 @@
 -- The names of variables.
 use Rattle.std.specs.Prelude.{ℕ, List, [], ◌∷◌, Option, None, Some}
-use Rattle.std.specs.Map.{insert_entry}
+use Rattle.indexmap.specs.IndexMap.{insert_entry}
 use Rattle.sx_base.specs.declared.name.Label.{Label}
 use Rattle.sx_names.specs.Generated.{generated_name}
 use Rattle.sx_core.specs.declared.binding.Binding.{Binding}

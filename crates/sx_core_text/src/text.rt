@@ -4,9 +4,8 @@ ghost use Rattle.std.specs.Prelude.{◌≡◌, ◌++◌, OnOk, codes};
 ghost use Rattle.std.specs.String.{string_bytes};
 ghost use Rattle.sx_core.specs.Core.{cores};
 ghost use Rattle.sx_core.specs.CoreView.{inits, cases};
-ghost use Rattle.sx_base.specs.Op.{op_text};
 ghost use Rattle.sx_printer.specs.DatumText.{datum_text};
-ghost use Rattle.sx_core_text.specs.CoreText.{quote_text, quoted_text, quoted_atom, formals_text, formals_of, lone_rest, rest_name, further_names, name_of, letrec_word, lambda_word, case_open, case_close, text, further_text, inits_text, further_inits, cases_text, line_text, lines_text};
+ghost use Rattle.sx_core_text.specs.CoreText.{report_name, quote_text, quoted_text, quoted_atom, formals_text, formals_of, lone_rest, rest_name, further_names, name_of, letrec_word, lambda_word, case_open, case_close, text, further_text, inits_text, further_inits, cases_text, line_text, lines_text};
 
 use crate::names::Names;
 use std::alloc::AllocError;
@@ -27,7 +26,7 @@ fn put_name(out: &mut String, names: &Names, label: &Label) -> Result<(), AllocE
 
 /// Adds the report name of a primitive. Past the table of names there is none.
 fn put_op(out: &mut String, op: &Op) -> Result<(), AllocError>
-    ensures { OnOk result (string_bytes out.new ≡ string_bytes out.old ++ op_text op.now.0) }
+    ensures { OnOk result (string_bytes out.new ≡ string_bytes out.old ++ report_name op.now.0) }
 {
     if op.0 < 301 {
         out.push_str(op_text(op))

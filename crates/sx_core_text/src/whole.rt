@@ -3,6 +3,7 @@
 ghost use Rattle.std.specs.Prelude.{◌≡◌, ◌++◌, OnOk, slice_get, option_map};
 ghost use Rattle.std.specs.String.{string_bytes};
 ghost use Rattle.sx_base.specs.Gives.{Gives};
+ghost use Rattle.sx_core_text.specs.CoreText.{lines_text};
 ghost use Rattle.sx_core_text.specs.Whole.{named_by, plan_names, record_checked, plan_checked, record_text, plan_text, all_text, core_text};
 
 use crate::check::check_lines;
@@ -23,12 +24,12 @@ fn record_at(records: &[LibRecord], place: usize) -> Option<&LibRecord>
     }
 }
 
-fn add_record(names: &mut Names, record: Option<&LibRecord>) -> Result<(), Memory>
-    ensures { OnOk result (names.new ≡ named_by names.old (option_map (λ r. r.now) record.entry)) }
+fn add_record(names: &mut Names, library: Option<&LibRecord>) -> Result<(), Memory>
+    ensures { OnOk result (names.new ≡ named_by names.old (option_map (λ r. r.now) library.entry)) }
 {
-    match record {
+    match library {
         None => Ok(()),
-        Some(record) => names.add_all(record.bindings.as_slice()),
+        Some(library) => names.add_all(library.bindings.as_slice()),
     }
 }
 
@@ -36,18 +37,18 @@ fn add_plan(names: &mut Names, records: &[LibRecord], plan: &[usize]) -> Result<
     ensures { OnOk result (names.new ≡ plan_names records.now names.old plan.now) }
 {
     for place in plan {
-        let record = record_at(records, *place);
-        add_record(names, record)?;
+        let library = record_at(records, *place);
+        add_record(names, library)?;
     }
     Ok(())
 }
 
-fn check_record(alloc: Global, record: Option<&LibRecord>) -> Result<(), Stop>
-    ensures { Gives (λ _. tt) result (record_checked (option_map (λ r. r.now) record.entry)) }
+fn check_record(alloc: Global, library: Option<&LibRecord>) -> Result<(), Stop>
+    ensures { Gives (λ _. tt) result (record_checked (option_map (λ r. r.now) library.entry)) }
 {
-    match record {
+    match library {
         None => Ok(()),
-        Some(record) => check_lines(alloc, record.run.as_slice()),
+        Some(library) => check_lines(alloc, library.run.as_slice()),
     }
 }
 
@@ -55,18 +56,22 @@ fn check_plan(alloc: Global, records: &[LibRecord], plan: &[usize]) -> Result<()
     ensures { Gives (λ _. tt) result (plan_checked records.now plan.now) }
 {
     for place in plan {
-        let record = record_at(records, *place);
-        check_record(alloc, record)?;
+        let library = record_at(records, *place);
+        check_record(alloc, library)?;
     }
     Ok(())
 }
 
-fn put_record(out: &mut String, names: &Names, record: Option<&LibRecord>) -> Result<(), AllocError>
-    ensures { OnOk result (string_bytes out.new ≡ string_bytes out.old ++ record_text names.now (option_map (λ r. r.now) record.entry)) }
+fn put_record(
+    out: &mut String,
+    names: &Names,
+    library: Option<&LibRecord>,
+) -> Result<(), AllocError>
+    ensures { OnOk result (string_bytes out.new ≡ string_bytes out.old ++ record_text names.now (option_map (λ r. r.now) library.entry)) }
 {
-    match record {
+    match library {
         None => Ok(()),
-        Some(record) => put_lines(out, names, record.run.as_slice()),
+        Some(library) => put_lines(out, names, library.run.as_slice()),
     }
 }
 
@@ -79,13 +84,13 @@ fn put_plan(
     ensures { OnOk result (string_bytes out.new ≡ string_bytes out.old ++ plan_text records.now names.now plan.now) }
 {
     for place in plan {
-        let record = record_at(records, *place);
-        put_record(out, names, record)?;
+        let library = record_at(records, *place);
+        put_record(out, names, library)?;
     }
     Ok(())
 }
 
-/// Adds the first line, the lines of the planned records, and those of the program.
+/// Adds the lines of the planned records, and those of the program.
 fn put_all(
     out: &mut String,
     names: &Names,
@@ -93,9 +98,8 @@ fn put_all(
     plan: &[usize],
     program: &LibRecord,
 ) -> Result<(), Memory>
-    ensures { OnOk result (string_bytes out.new ≡ string_bytes out.old ++ all_text names.now records.now plan.now program.now) }
+    ensures { OnOk result (string_bytes out.new ≡ string_bytes out.old ++ (plan_text records.now names.now plan.now ++ lines_text names.now program.now.run)) }
 {
-    out.push_str("(import (rnrs))\n")?;
     put_plan(out, names, records, plan)?;
     put_lines(out, names, program.run.as_slice())?;
     Ok(())
@@ -116,7 +120,7 @@ pub fn core_text(
     let mut names = Names::new(alloc);
     add_plan(&mut names, records, plan)?;
     names.add_all(program.bindings.as_slice())?;
-    let mut out = String::new(alloc);
+    let mut out = String::from_str(alloc, "(import (rnrs))\n")?;
     put_all(&mut out, &names, records, plan, program)?;
     Ok(out)
 }
