@@ -1,0 +1,4 @@
+pub mod CoreText
+pub mod Naming
+pub mod Syntax
+pub mod Whole

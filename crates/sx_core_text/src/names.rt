@@ -1,0 +1,91 @@
+//! The names of variables, each made once.
+
+ghost use Rattle.std.specs.Prelude.{◌≡◌, [], OnOk};
+ghost use Rattle.sx_core_text.specs.CoreText.{name_of};
+ghost use Rattle.sx_core_text.specs.Naming.{with_name, with_names, with_index};
+
+use indexmap::IndexMap;
+use std::alloc::Global;
+use std::marker::Model;
+use sx_base::memory::Memory;
+use sx_base::name::Label;
+use sx_base::symbol::Symbol;
+use sx_core::binding::{Binding, VarInfo};
+use sx_names::put_generated_name;
+
+/// The texts of variables' names.
+#[derive(Drop)]
+pub struct Names {
+    alloc: Global,
+    texts: IndexMap<Label, Symbol>,
+}
+
+impl Model for Names {
+    ghost use Rattle.std.specs.Coded.{coded_list, coded×, coded_ℕ};
+    ghost use Rattle.sx_base.specs.contracts.name.Label as labels;
+    ghost use Rattle.sx_core_text.specs.CoreText.{Names};
+
+    ghost Value = { Names };
+
+    ghost coded = { coded_list (coded× labels.the_row.coded (coded_list coded_ℕ)) };
+
+    ghost view = { λ n. n.texts.entries };
+}
+
+impl Names {
+    /// No names. It takes no memory.
+    pub fn new(alloc: Global) -> Names
+        ensures { result ≡ [] }
+    {
+        Names {
+            alloc,
+            texts: IndexMap::new(alloc),
+        }
+    }
+
+    /// The name of a variable. It takes no memory.
+    pub fn name(&self, label: &Label) -> &str
+        ensures { result.now ≡ name_of self.now label.now }
+    {
+        match self.texts.get(label) {
+            Some(text) => text.as_str(),
+            None => "",
+        }
+    }
+
+    fn add_variable(&mut self, label: &Label, info: &VarInfo) -> Result<(), Memory>
+        ensures { OnOk result (self.new ≡ with_index self.old label.now info.now.symbol info.now.index) }
+    {
+        let Some(number) = info.index else {
+            return Ok(());
+        };
+        let mut text = String::new(self.alloc);
+        put_generated_name(&mut text, &label.0.library, info.symbol.as_str(), number)?;
+        let text = Symbol::from_string(text)?;
+        let label = label.share()?;
+        match self.texts.insert(label, text) {
+            Ok(_) => Ok(()),
+            Err(_) => Err(Memory),
+        }
+    }
+
+    /// Adds the name of a label that is bound to a variable with an index.
+    pub fn add(&mut self, label: &Label, binding: &Binding) -> Result<(), Memory>
+        ensures { OnOk result (self.new ≡ with_name self.old label.now binding.now) }
+    {
+        match binding {
+            Binding::Variable(info) => self.add_variable(label, info),
+            _ => Ok(()),
+        }
+    }
+
+    /// Adds the names of the variables among these bindings.
+    pub fn add_all(&mut self, bindings: &[(Label, Binding)]) -> Result<(), Memory>
+        ensures { OnOk result (self.new ≡ with_names self.old bindings.now) }
+    {
+        for row in bindings {
+            self.add(&row.0, &row.1)?;
+        }
+        Ok(())
+    }
+}
