@@ -200,7 +200,7 @@ fn turns(
     if !stands_for(frames, id, expected)? {
         return Ok(false);
     }
-    let other = [10_000 + turn];
+    let other = [turn.saturating_add(10_000)];
     let marks: &[u64] = match turn {
         2_500 => &[],
         7_500 => &[0],
