@@ -130,11 +130,6 @@ pub fn core(alloc: Global, datum: &Datum) -> Result<Core, Fail> {
 }
 
 #[cycle(core)]
-fn boxed(alloc: Global, datum: &Datum) -> Result<Box<Core>, Fail> {
-    Ok(Box::new(alloc, core(alloc, datum)?)?)
-}
-
-#[cycle(core)]
 fn cores(alloc: Global, data: &[Datum]) -> Result<Vec<Core>, Fail> {
     let mut all = Vec::new(alloc);
     for datum in data {
@@ -158,26 +153,31 @@ fn form(alloc: Global, items: &[Datum]) -> Result<CoreNode, Fail> {
     };
     match (word(head), parts) {
         ("quote", [datum]) => Ok(CoreNode::Quote(copied(alloc, datum)?)),
-        ("if", [test, then]) => Ok(CoreNode::If(boxed(alloc, test)?, boxed(alloc, then)?, None)),
+        ("if", [test, then]) => {
+            let test = Box::new(alloc, core(alloc, test)?)?;
+            let then = Box::new(alloc, core(alloc, then)?)?;
+            Ok(CoreNode::If(test, then, None))
+        }
         ("if", [test, then, other]) => {
-            let test = boxed(alloc, test)?;
-            let then = boxed(alloc, then)?;
-            Ok(CoreNode::If(test, then, Some(boxed(alloc, other)?)))
+            let test = Box::new(alloc, core(alloc, test)?)?;
+            let then = Box::new(alloc, core(alloc, then)?)?;
+            let other = Box::new(alloc, core(alloc, other)?)?;
+            Ok(CoreNode::If(test, then, Some(other)))
         }
         ("set!", [target, value]) => {
             let target = label_of(alloc, target)?;
-            Ok(CoreNode::Set(target, boxed(alloc, value)?))
+            let value = Box::new(alloc, core(alloc, value)?)?;
+            Ok(CoreNode::Set(target, value))
         }
         ("begin", parts) => Ok(CoreNode::Seq(cores(alloc, parts)?)),
-        ("lambda", [ids, body]) => {
-            let mut cases = Vec::new(alloc);
-            cases.push(case(alloc, ids, body)?)?;
-            procedure(alloc, cases, true)
-        }
+        ("lambda", parts) => procedure(alloc, case(alloc, parts)?, true),
         ("case-lambda", parts) => procedure(alloc, cases(alloc, parts)?, false),
-        ("letrec", [list, body]) => letrec(alloc, false, list, body),
-        ("letrec*", [list, body]) => letrec(alloc, true, list, body),
-        (_, parts) => Ok(CoreNode::App(boxed(alloc, head)?, cores(alloc, parts)?)),
+        ("letrec", parts) => letrec(alloc, false, parts),
+        ("letrec*", parts) => letrec(alloc, true, parts),
+        (_, parts) => {
+            let operator = Box::new(alloc, core(alloc, head)?)?;
+            Ok(CoreNode::App(operator, cores(alloc, parts)?))
+        }
     }
 }
 
@@ -192,12 +192,16 @@ fn procedure(alloc: Global, cases: Vec<Lambda>, plain: bool) -> Result<CoreNode,
     Ok(CoreNode::Lambda(Rc::new(alloc, code)?))
 }
 
+// The case of formals and a body, alone in a list.
 #[cycle(core)]
-fn case(alloc: Global, ids: &Datum, body: &Datum) -> Result<Lambda, Fail> {
-    Ok(Lambda {
-        formals: formals(alloc, ids)?,
-        body: core(alloc, body)?,
-    })
+fn case(alloc: Global, parts: &[Datum]) -> Result<Vec<Lambda>, Fail> {
+    let mut all = Vec::new(alloc);
+    if let [ids, body] = parts {
+        let formals = formals(alloc, ids)?;
+        let body = core(alloc, body)?;
+        all.push(Lambda { formals, body })?;
+    }
+    Ok(all)
 }
 
 #[cycle(core)]
@@ -205,10 +209,22 @@ fn cases(alloc: Global, data: &[Datum]) -> Result<Vec<Lambda>, Fail> {
     let mut all = Vec::new(alloc);
     for datum in data {
         if let Node::List(items, _) = &datum.node {
-            if let [ids, body] = items.as_slice() {
-                all.push(case(alloc, ids, body)?)?;
+            for case in case(alloc, items)? {
+                all.push(case)?;
             }
         }
+    }
+    Ok(all)
+}
+
+// The variable of a name and an expression, alone in a list.
+#[cycle(core)]
+fn init(alloc: Global, parts: &[Datum]) -> Result<Vec<Init>, Fail> {
+    let mut all = Vec::new(alloc);
+    if let [id, value] = parts {
+        let label = label_of(alloc, id)?;
+        let value = core(alloc, value)?;
+        all.push(Init { label, value })?;
     }
     Ok(all)
 }
@@ -218,10 +234,8 @@ fn inits(alloc: Global, data: &[Datum]) -> Result<Vec<Init>, Fail> {
     let mut all = Vec::new(alloc);
     for datum in data {
         if let Node::List(items, _) = &datum.node {
-            if let [id, value] = items.as_slice() {
-                let label = label_of(alloc, id)?;
-                let value = core(alloc, value)?;
-                all.push(Init { label, value })?;
+            for init in init(alloc, items)? {
+                all.push(init)?;
             }
         }
     }
@@ -229,12 +243,17 @@ fn inits(alloc: Global, data: &[Datum]) -> Result<Vec<Init>, Fail> {
 }
 
 #[cycle(core)]
-fn letrec(alloc: Global, in_order: bool, list: &Datum, body: &Datum) -> Result<CoreNode, Fail> {
+fn letrec(alloc: Global, in_order: bool, parts: &[Datum]) -> Result<CoreNode, Fail> {
+    let [list, body] = parts else {
+        let nothing: Option<CoreNode> = None;
+        return Ok(nothing.ok_or("no letrec")?);
+    };
     let bound = match &list.node {
         Node::List(items, _) => inits(alloc, items)?,
         _ => Vec::new(alloc),
     };
-    Ok(CoreNode::Letrec(in_order, bound, boxed(alloc, body)?))
+    let body = Box::new(alloc, core(alloc, body)?)?;
+    Ok(CoreNode::Letrec(in_order, bound, body))
 }
 
 /// The line of a datum.
