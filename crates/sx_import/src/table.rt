@@ -1,0 +1,78 @@
+//! Values by name, in the order in which they were put in.
+
+ghost use Rattle.std.specs.Map.{lookup};
+ghost use Rattle.std.specs.Option.{option_copied, option_map};
+ghost use Rattle.std.specs.Prelude.{◌≡◌, ℕ, List, [], ◌∷◌, ◌++◌, take, length, slice_get, None, Some, Ok, IfOk, OnOk, OnErr, if◌then◌else◌, is_some};
+ghost use Rattle.sx_import.specs.Table.{value_of, put_first, pair_now};
+
+use indexmap::IndexMap;
+use std::alloc::Global;
+use std::marker::Model;
+use sx_base::memory::Memory;
+use sx_base::symbol::Symbol;
+
+/// Values by name, seen as a list of pairs in order.
+#[derive(Drop)]
+pub struct Table<V> {
+    rows: IndexMap<Symbol, V>,
+}
+
+impl<V> Model for Table<V> {
+    ghost use Rattle.std.specs.Prelude.{List, ℕ};
+
+    ghost Value = { List (List ℕ × V) };
+
+    ghost view = { λ t. t.rows.entries };
+}
+
+impl<V: Drop> Table<V> {
+    /// No values. It takes no memory.
+    pub fn new(alloc: Global) -> Table<V>
+        ensures { result ≡ [] }
+    {
+        Table {
+            rows: IndexMap::new(alloc),
+        }
+    }
+
+    pub fn size(&self) -> usize
+        ensures { result ≡ length self.now }
+    {
+        self.rows.len()
+    }
+
+    /// The value of a name. It takes no memory.
+    pub fn get(&self, name: &Symbol) -> Option<&V>
+        ensures { option_copied result ≡ value_of name.now self.now }
+    {
+        self.rows.get(name)
+    }
+
+    /// The name and value at a place.
+    pub fn at(&self, place: usize) -> Option<(&Symbol, &V)>
+        ensures { option_map pair_now result ≡ slice_get self.now place }
+    {
+        self.rows.get_index(place)
+    }
+
+    /// Puts a value at the end, unless its name has one. A refusal changes nothing.
+    pub fn put_first(&mut self, name: Symbol, value: V) -> Result<(), Memory>
+        ensures ok { OnOk result (self.new ≡ put_first self.old (name, value)) }
+        ensures err { OnErr result (self.new ≡ self.old) }
+    {
+        if self.get(&name).is_some() {
+            return Ok(());
+        }
+        match self.rows.insert(name, value) {
+            Ok(_) => Ok(()),
+            Err(_) => Err(Memory),
+        }
+    }
+
+    /// Leaves the first values alone.
+    pub fn truncate(&mut self, size: usize)
+        ensures { self.new ≡ take size self.old }
+    {
+        self.rows.truncate(size)
+    }
+}
