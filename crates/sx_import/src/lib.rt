@@ -14,8 +14,7 @@
 //! are joined in a table, in which the same name for the same label may come twice.
 //!
 //! The promise: `import_names` and `join_names` give exactly the names of their definition in
-//! `specs/Names`, in its order, or its first fault; only want of memory is free. The laws say what that
-//! is as maps from names to labels.
+//! `specs/Names`, in its order, or its first fault; only want of memory is free.
 #![tactic(auto)]
 
 pub mod names;
