@@ -3,22 +3,7 @@
 # frame of so many names, and should not grow. `look` and `recall` are 200 look-ups of a leaf with so many
 # stamps, of which the last alone gives a label, without and with remembered answers; they should double.
 # `ask` looks up each name of a frame once. The time to bind the names is taken off, and stands before.
-top=$(cd "$(dirname "$0")/.." && pwd) || exit 1
-crate=$top/crates/sx_bench
-(cd "$crate" && rt run -- fill 1) >/dev/null 2>&1 || { echo "sx_bench is not built" >&2; exit 1; }
-program=$crate/out/sx_bench
-
-# the nanoseconds of the best of three runs
-best() {
-    least=
-    for _ in 1 2 3; do
-        begun=$(date +%s%N)
-        "$program" "$@" >/dev/null || exit 1
-        taken=$(( $(date +%s%N) - begun ))
-        if [ -z "$least" ] || [ "$taken" -lt "$least" ]; then least=$taken; fi
-    done
-    echo "$least"
-}
+. "$(dirname "$0")/times.sh"
 
 # the work, the making that comes before it, and the numbers
 row() {

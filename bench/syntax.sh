@@ -3,22 +3,7 @@
 # on the whole list, `walk` enters a mark and opens the list from its first element to its last, each
 # element too. The time to make the list is taken off. That an enter, leave or stamp makes one node is
 # proved; how many were made has no trace at run time.
-top=$(cd "$(dirname "$0")/.." && pwd) || exit 1
-crate=$top/crates/sx_bench
-(cd "$crate" && rt run -- build 1) >/dev/null 2>&1 || { echo "sx_bench is not built" >&2; exit 1; }
-program=$crate/out/sx_bench
-
-# the nanoseconds of the best of three runs
-best() {
-    least=
-    for _ in 1 2 3; do
-        begun=$(date +%s%N)
-        "$program" "$@" >/dev/null || exit 1
-        taken=$(( $(date +%s%N) - begun ))
-        if [ -z "$least" ] || [ "$taken" -lt "$least" ]; then least=$taken; fi
-    done
-    echo "$least"
-}
+. "$(dirname "$0")/times.sh"
 
 for work in change walk; do
     last=
