@@ -5,7 +5,7 @@ use Rattle.sx_outside.specs.Causes.{Rose}
 use Rattle.sx_outside.specs.Sink.{Gains}
 use Rattle.scheme_expand.specs.declared.status.Status.{Status}
 use Rattle.scheme_expand.specs.declared.status.Status.TheVariants as status
-use Rattle.scheme_expand.specs.Words.{program_of, usage_line}
+use Rattle.scheme_expand.specs.Words.{job_asked, usage_line}
 use Rattle.scheme_expand.specs.Whole.{Outcome, usage, done, fault, whole}
 
 -- a sink before a call and after it: its bytes, where they are told, and its count of faults
@@ -30,10 +30,15 @@ pub record Broke (sunk : Sunk) (piece : List ℕ) : Type 0 where
 abbrev pub Says : Option Paths → List (List ℕ) → Outcome → Type 0
 Says told words outcome = IfSome told (λ files. whole files words ≡ outcome)
 
--- the text was written, or broke off
-pub data Finishes (out err : Sunk) (text : List ℕ) : Status → Type 0 where
-  written : Wrote out text → Wrote err [] → Finishes out err text status.Done
-  broken : Broke out text → Wrote err [] → Finishes out err text status.WriteFault
+-- the report was written, or broke off
+pub data Reports (err : Sunk) (report : List ℕ) : Status → Type 0 where
+  reported : Wrote err report → Reports err report status.Done
+  unreported : Broke err report → Reports err report status.WriteFault
+
+-- the text was written, and then the report; or the text broke off
+pub data Finishes (out err : Sunk) (text report : List ℕ) : Status → Type 0 where
+  written : (s : Status) → Wrote out text → Reports err report s → Finishes out err text report s
+  broken : Broke out text → Wrote err [] → Finishes out err text report status.WriteFault
 
 -- a line was written on `err` alone with a status, or broke off
 pub data Complains (out err : Sunk) (line : List ℕ) (s : Status) : Status → Type 0 where
@@ -42,15 +47,15 @@ pub data Complains (out err : Sunk) (line : List ℕ) (s : Status) : Status → 
 
 -- what a run wrote, and why it ended as it did
 pub data Headline (told : Option Paths) (words : List (List ℕ)) (faults_before faults_after : ℕ) (out err : Sunk) (s : Status) : Type 0 where
-  wrote_text : (text : List ℕ) → Says told words (done text) → Finishes out err text s → Headline told words faults_before faults_after out err s
+  wrote_text : (text report : List ℕ) → Says told words (done text report) → Finishes out err text report s → Headline told words faults_before faults_after out err s
   wrote_fault : (line : List ℕ) → Says told words (fault line) → Complains out err line status.Fault s → Headline told words faults_before faults_after out err s
-  wrong_words : program_of words ≡ None → Complains out err usage_line status.Usage s → Headline told words faults_before faults_after out err s
+  wrong_words : job_asked words ≡ None → Complains out err usage_line status.Usage s → Headline told words faults_before faults_after out err s
   read_fault : s ≡ status.ReadFault → Rose faults_before faults_after → Wrote out [] → Wrote err [] → Headline told words faults_before faults_after out err s
   no_memory : s ≡ status.Memory → Wrote out [] → Wrote err [] → Headline told words faults_before faults_after out err s
 
 abbrev pub status_of : Outcome → Status
 status_of usage = status.Usage
-status_of (done text) = status.Done
+status_of (done text report) = status.Done
 status_of (fault line) = status.Fault
 
 -- where no count rose, the status is the definition's, unless memory ran out

@@ -1,7 +1,7 @@
 //! `scheme-expand`: an R6RS library and `syntax-case` expander.
 //!
-//! The program takes the path of a top-level program (R6RS 8), expands it, and writes its core text. For
-//! the file `p.sps` that holds `(import (rnrs base)) (define x 1) (+ x 2)` it writes
+//! The program takes the path of a top-level program (R6RS 8), expands it, and writes its core text;
+//! `docs/USING.md` has its further words. For the file `p.sps` that holds `(import (rnrs base)) (define x 1) (+ x 2)` it writes
 //!
 //! ```text
 //! (import (rnrs))
@@ -15,8 +15,8 @@
 //! definition `whole` gives, its core text or its first fault with its place; any other answer is a
 //! usage fault, a read or write fault that was counted in the call, or want of memory.
 //!
-//! This crate stands topmost: `words` reads the words, `prepare` makes all text with no sink at hand,
-//! and `top` writes it. `expander` and `program` are a first expansion, of definitions and calls.
+//! This crate stands topmost: `words` asks `sx_words` for the job that the words ask for, `prepare` makes
+//! all text with no sink at hand, and `top` writes it. `expander` and `program` are a first expansion, of definitions and calls.
 #![tactic(auto)]
 
 mod expander;
@@ -26,7 +26,9 @@ mod status;
 mod top;
 mod words;
 
+use crate::status::Status;
 use std::alloc::Global;
+use std::io::ErrorKind;
 use std::process::ExitCode;
 use std::{env, io};
 use sx_outside::{HostFiles, HostSink};
@@ -39,9 +41,19 @@ fn arguments(rt: &HostRuntime, alloc: Global) -> io::Result<Vec<String>> {
     Ok(words)
 }
 
+// The words of the call. Where one isn't UTF-8 there are none, and so they are refused.
+fn words_given(rt: &HostRuntime, alloc: Global) -> io::Result<Vec<String>> {
+    match arguments(rt, alloc) {
+        Err(error) if error.kind() == ErrorKind::InvalidData => Ok(Vec::new(alloc)),
+        given => given,
+    }
+}
+
 fn main(rt: HostRuntime) -> io::Result<ExitCode> {
     let alloc = rt.alloc();
-    let words = arguments(&rt, alloc)?;
+    let Ok(words) = words_given(&rt, alloc) else {
+        return Ok(ExitCode::from(Status::Memory as u8));
+    };
     let mut files = HostFiles::new(alloc, rt.clone()?);
     let mut out = HostSink::new(rt.stdout());
     let mut err = HostSink::new(rt.stderr());

@@ -1,11 +1,11 @@
 //! All that is to be written, before anything is.
 
-ghost use Rattle.std.specs.Prelude.{◌≡◌, ◌≢◌, ◌<◌, ◌≤◌, ◌^◌, length, [], IfSome, Err};
+ghost use Rattle.std.specs.Prelude.{◌≡◌, ◌≢◌, ◌<◌, ◌≤◌, ◌^◌, length, [], IfOk, IfSome, Err, false};
 ghost use Rattle.std.specs.String.{string_bytes};
 ghost use Rattle.sx_base.specs.Gives.{Gives};
 ghost use Rattle.sx_outside.specs.Causes.{Rose};
 ghost use Rattle.sx_outside.specs.Files.{file_reading};
-ghost use Rattle.scheme_expand.specs.Whole.{source_text, outcome_of, of_reading, of_path, at_start};
+ghost use Rattle.scheme_expand.specs.Whole.{source_text, libraries, report_if, outcome_of, of_reading, of_job, at_start};
 ghost use Rattle.scheme_expand.specs.Prepared.{Prepares, capped};
 ghost use Rattle.scheme_expand.specs.declared.prepare.Unfinished.TheVariants as unfinished;
 
@@ -19,9 +19,20 @@ use sx_base::memory::Memory;
 use sx_base::symbol::Symbol;
 use sx_outside::{FileAnswer, Files, OutsideError};
 use sx_reader::read::read_all;
+use sx_report::report::report_text;
+use sx_words::job::Job;
 
 // The most bytes of a file.
 const FILE_LIMIT: usize = 4_194_304;
+
+/// What is to be written of a program without fault.
+#[derive(Drop)]
+pub struct Prepared {
+    /// The core text.
+    pub text: String,
+    /// The report on the libraries, where it is asked for, and else nothing.
+    pub report: String,
+}
 
 /// Why there is no core text.
 #[derive(Drop)]
@@ -50,14 +61,33 @@ fn source_text(alloc: Global, path: &Symbol, source: &[u8]) -> Result<String, St
     program_text(alloc, path, &data)
 }
 
+// The report, where it is asked for.
+fn report_if(alloc: Global, report: bool) -> Result<String, Memory>
+    ensures { IfOk result (λ text. string_bytes text ≡ report_if report) }
+{
+    if report {
+        report_text(alloc, &[])
+    } else {
+        Ok(String::new(alloc))
+    }
+}
+
 // The text of a source, or the line of its fault.
-fn of_source(alloc: Global, path: &Symbol, source: &[u8]) -> Result<String, Unfinished>
+fn of_source(
+    alloc: Global,
+    report: bool,
+    path: &Symbol,
+    source: &[u8],
+) -> Result<Prepared, Unfinished>
     requires { length source.now < 2 ^ 32 }
-    ensures gives { Prepares result (outcome_of source.now (source_text path.now source.now)) }
+    ensures gives { Prepares result (outcome_of report source.now (source_text path.now source.now)) }
     ensures unread { result ≢ Err Unfinished.Read }
 {
     match source_text(alloc, path, source) {
-        Ok(text) => Ok(text),
+        Ok(text) => {
+            let report = report_if(alloc, report)?;
+            Ok(Prepared { text, report })
+        }
         Err(Stop::Fault(fault)) => Err(Unfinished::Line(fault_line(alloc, &fault, source)?)),
         Err(Stop::Memory) => Err(Unfinished::Memory),
     }
@@ -69,8 +99,8 @@ fn of_no_source(
     path: &Symbol,
     kind: FaultKind,
     words: Items<Symbol>,
-) -> Result<String, Unfinished>
-    ensures gives { Prepares result (outcome_of [] (Err (at_start kind path.now words))) }
+) -> Result<Prepared, Unfinished>
+    ensures gives { Prepares result (outcome_of false [] (Err (at_start kind path.now words))) }
     ensures unread { result ≢ Err Unfinished.Read }
 {
     let span = span_or_start(path, &None)?;
@@ -78,14 +108,19 @@ fn of_no_source(
     Err(Unfinished::Line(fault_line(alloc, &fault, &[])?))
 }
 
-fn of_answer(alloc: Global, path: &Symbol, answer: FileAnswer) -> Result<String, Unfinished>
-    ensures gives { Prepares result (of_reading path.now (capped (file_reading answer))) }
+fn of_answer(
+    alloc: Global,
+    report: bool,
+    path: &Symbol,
+    answer: FileAnswer,
+) -> Result<Prepared, Unfinished>
+    ensures gives { Prepares result (of_reading report path.now (capped (file_reading answer))) }
     ensures unread { result ≢ Err Unfinished.Read }
 {
     match answer {
         FileAnswer::Bytes(source) => {
             if source.len() <= FILE_LIMIT {
-                of_source(alloc, path, &source)
+                of_source(alloc, report, path, &source)
             } else {
                 of_no_source(alloc, path, FaultKind::TooLong, Items::new(alloc))
             }
@@ -99,15 +134,14 @@ fn of_answer(alloc: Global, path: &Symbol, answer: FileAnswer) -> Result<String,
     }
 }
 
-/// The core text of the program at a path, or why there is none.
-#[tactic(auto, unfolding(crate::specs::Whole::of_path), using(crate::proofs::Capped::capped_read))]
-pub fn prepare<F: Files>(alloc: Global, path: &str, files: &mut F) -> Result<String, Unfinished>
-    ensures gives { IfSome (F.told files.old) (λ fs. Prepares result (of_path fs path.now)) }
+/// The core text of a job's program and its report, or why there is none.
+#[tactic(auto, unfolding(crate::specs::Whole::of_job), using(crate::proofs::Capped::capped_read))]
+pub fn prepare<F: Files>(alloc: Global, job: &Job, files: &mut F) -> Result<Prepared, Unfinished>
+    ensures gives { IfSome (F.told files.old) (λ fs. Prepares result (of_job fs job.now)) }
     ensures read { result ≡ Err Unfinished.Read → Rose (F.faults files.old) (F.faults files.new) }
 {
-    let name = Symbol::new(alloc, path)?;
-    match files.read(path, FILE_LIMIT) {
-        Ok(answer) => of_answer(alloc, &name, answer),
+    match files.read(job.program.as_str(), FILE_LIMIT) {
+        Ok(answer) => of_answer(alloc, job.report, &job.program, answer),
         Err(OutsideError::Failed) => Err(Unfinished::Read),
         Err(OutsideError::Memory) => Err(Unfinished::Memory),
     }

@@ -155,15 +155,37 @@ fn a_program_gives_its_text_or_its_first_fault(rt: HostRuntime) -> Result<(), Fa
     Ok(())
 }
 
-const OTHER_WORDS: [&[&str]; 4] = [&[], &["-p"], &["p.sps", "q.sps"], &["--report", "p.sps"]];
+// Words, and whether the program is expanded: else they are refused. The map of identifiers and libraries
+// made in memory aren't built, and the words for them are refused too.
+const WORDS: [(&[&str], bool); 14] = [
+    (&["p.sps"], true),
+    (&["--", "p.sps"], true),
+    (&["--report", "p.sps"], true),
+    (&["--cache", "c", "p.sps"], true),
+    (&["--root", "a:b", "p.sps"], true),
+    (&["p.sps", "--write=core"], true),
+    (&[], false),
+    (&["-p"], false),
+    (&["p.sps", "q.sps"], false),
+    (&["--root", "a:", "p.sps"], false),
+    (&["--report", "--report", "p.sps"], false),
+    (&["--write", "lisp", "p.sps"], false),
+    (&["--write", "xref", "p.sps"], false),
+    (&["--make", "2"], false),
+];
 
 #[test]
-fn words_other_than_one_path_are_refused(rt: HostRuntime) -> Result<(), Fail> {
-    for words in OTHER_WORDS {
-        let ran = run_over(rt.alloc(), Some(b"(import (rnrs))"), words, &[], &[], &[])?;
-        assert_eq!(rt; ran.status, Status::Usage);
-        assert_eq!(rt; ran.out.as_str(), "");
-        assert_eq!(rt; ran.err.as_str(), USAGE);
+fn words_are_taken_or_refused_with_the_usage_line(rt: HostRuntime) -> Result<(), Fail> {
+    for (words, taken) in WORDS {
+        let ran = run_over(rt.alloc(), EMPTY_PROGRAM, words, &[], &[], &[])?;
+        let (status, out, err) = if taken {
+            (Status::Done, "(import (rnrs))\n", "")
+        } else {
+            (Status::Usage, "", USAGE)
+        };
+        assert_eq!(rt; ran.status, status, "{words:?}");
+        assert_eq!(rt; ran.out.as_str(), out);
+        assert_eq!(rt; ran.err.as_str(), err);
     }
     Ok(())
 }

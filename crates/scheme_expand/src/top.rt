@@ -3,24 +3,35 @@
 ghost use Rattle.std.specs.Prelude.{◌≡◌, []};
 ghost use Rattle.sx_outside.specs.Causes.{Rose};
 ghost use Rattle.scheme_expand.specs.Words.{texts};
-ghost use Rattle.scheme_expand.specs.Headline.{Sunk, Wrote, Finishes, Complains, Headline, Complete};
+ghost use Rattle.scheme_expand.specs.Headline.{Sunk, Wrote, Reports, Finishes, Complains, Headline, Complete};
 
 use crate::prepare::{Unfinished, prepare};
 use crate::status::Status;
-use crate::words::read_words;
+use crate::words::job_asked;
 use std::alloc::Global;
 use sx_outside::{Files, Sink};
 
-const USAGE: &[u8] =
+/// The line that is written where the words are refused.
+pub const USAGE: &[u8] =
     b"usage: scheme-expand [--root DIR[:DIR]...] [--cache DIR] [--report] [--write core|xref] PROGRAM | --make N\n";
 
-// Puts a text on `out`.
-fn finish<O: Sink, E: Sink>(out: &mut O, err: &mut E, text: &[u8]) -> Status
+// Puts a report on `err`.
+fn tell<E: Sink>(err: &mut E, report: &[u8]) -> Status
+    ensures { Reports (record { before = E.told err.old; after = E.told err.new; faults_before = E.faults err.old; faults_after = E.faults err.new }) report.now result }
+{
+    match err.put(report) {
+        Ok(()) => Status::Done,
+        Err(_) => Status::WriteFault,
+    }
+}
+
+// Puts a text on `out`, and behind it a report on `err`.
+fn finish<O: Sink, E: Sink>(out: &mut O, err: &mut E, text: &[u8], report: &[u8]) -> Status
     ensures { Finishes (record { before = O.told out.old; after = O.told out.new; faults_before = O.faults out.old; faults_after = O.faults out.new })
-        (record { before = E.told err.old; after = E.told err.new; faults_before = E.faults err.old; faults_after = E.faults err.new }) text.now result }
+        (record { before = E.told err.old; after = E.told err.new; faults_before = E.faults err.old; faults_after = E.faults err.new }) text.now report.now result }
 {
     match out.put(text) {
-        Ok(()) => Status::Done,
+        Ok(()) => tell(err, report),
         Err(_) => Status::WriteFault,
     }
 }
@@ -47,20 +58,22 @@ fn run_words<F: Files, O: Sink, E: Sink>(
         (record { before = O.told out.old; after = O.told out.new; faults_before = O.faults out.old; faults_after = O.faults out.new })
         (record { before = E.told err.old; after = E.told err.new; faults_before = E.faults err.old; faults_after = E.faults err.new }) result }
 {
-    let Some(path) = read_words(words) else {
-        return complain(out, err, USAGE, Status::Usage);
+    let job = match job_asked(alloc, words) {
+        Ok(Some(job)) => job,
+        Ok(None) => return complain(out, err, USAGE, Status::Usage),
+        Err(_) => return Status::Memory,
     };
-    match prepare(alloc, path, files) {
-        Ok(text) => finish(out, err, text.as_bytes()),
+    match prepare(alloc, &job, files) {
+        Ok(made) => finish(out, err, made.text.as_bytes(), made.report.as_bytes()),
         Err(Unfinished::Line(line)) => complain(out, err, line.as_bytes(), Status::Fault),
         Err(Unfinished::Read) => Status::ReadFault,
         Err(Unfinished::Memory) => Status::Memory,
     }
 }
 
-/// All that the program does. Of the words, which are one path, it reads the program there, and writes
-/// its core text on `out`, or the line of its first fault on `err`. All text is made before the first
-/// write: `out` gets at most one put, and `err` at most one behind it.
+/// All that the program does. It reads the program that the words name, and writes its core text on `out`
+/// and behind it, where it is asked for, the report on `err`; or the line of its first fault on `err`. All
+/// text is made before the first write: `out` gets at most one put, and `err` at most one behind it.
 pub fn run<F: Files, O: Sink, E: Sink>(
     alloc: Global,
     words: &[String],

@@ -1,30 +1,33 @@
-//! What the words of a run ask for.
+//! The job that the words of a run ask for.
 
-ghost use Rattle.std.specs.Prelude.{◌≡◌, option_map};
-ghost use Rattle.scheme_expand.specs.Words.{texts, program_of, begins_with_dash};
+ghost use Rattle.std.specs.Prelude.{◌≡◌, IfOk};
+ghost use Rattle.scheme_expand.specs.Words.{texts, job_of, job_asked};
 
-fn begins_with_dash(text: &str) -> bool
-    ensures { result ≡ begins_with_dash text.now }
+use std::alloc::Global;
+use sx_base::memory::Memory;
+use sx_words::job::{Job, Kind};
+use sx_words::words::{Words, read_words};
+
+/// The job that the words ask for, or none where they are refused.
+pub fn job_asked(alloc: Global, words: &[String]) -> Result<Option<Job>, Memory>
+    ensures { IfOk result (λ job. job ≡ job_asked (texts words.now)) }
 {
-    match text.as_bytes() {
-        [] => false,
-        [first, ..] => *first == b'-',
-    }
+    let words = read_words(alloc, words)?;
+    Ok(job_of(words))
 }
 
-/// The program's path: the one word, where it doesn't begin with `-`.
-pub fn read_words(words: &[String]) -> Option<&str>
-    ensures { option_map (λ path. path.now) result ≡ program_of (texts words.now) }
+// The map of identifiers and libraries made in memory aren't built: the words for them are refused.
+fn job_of(words: Words) -> Option<Job>
+    ensures { result ≡ job_of words }
 {
     match words {
-        [path] => {
-            let path = path.as_str();
-            if begins_with_dash(path) {
-                None
+        Words::Expand(job) => {
+            if job.kind == Kind::Core {
+                Some(job)
             } else {
-                Some(path)
+                None
             }
         }
-        _ => None,
+        Words::Make(_) | Words::Usage => None,
     }
 }
