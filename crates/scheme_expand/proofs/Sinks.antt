@@ -45,7 +45,7 @@ module _ (told : Option Paths) (words : List (List ℕ)) (fb fa : ℕ) (out err 
   by_report s text report given (unreported b) = excused told words s _ _ _ _ (λ p q r m. r b.rose)
 
   by_text : (s : Status) (text report : List ℕ) → Says told words (done text report) → Finishes out err text report s → Complete told words (Rose fb fa) (Rose out.faults_before out.faults_after) (Rose err.faults_before err.faults_after) s
-  by_text s text report given (written s a b) = by_report s text report given b
+  by_text s text report given (written a b) = by_report s text report given b
   by_text s text report given (broken a b) = excused told words s _ _ _ _ (λ p q r m. q a.rose)
 
   by_line : (s want : Status) (line : List ℕ) (o : Outcome) → Says told words o → want ≡ status_of o → Complains out err line want s → Complete told words (Rose fb fa) (Rose out.faults_before out.faults_after) (Rose err.faults_before err.faults_after) s

@@ -37,7 +37,7 @@ pub data Reports (err : Sunk) (report : List ℕ) : Status → Type 0 where
 
 -- the text was written, and then the report; or the text broke off
 pub data Finishes (out err : Sunk) (text report : List ℕ) : Status → Type 0 where
-  written : (s : Status) → Wrote out text → Reports err report s → Finishes out err text report s
+  written : {s : Status} → Wrote out text → Reports err report s → Finishes out err text report s
   broken : Broke out text → Wrote err [] → Finishes out err text report status.WriteFault
 
 -- a line was written on `err` alone with a status, or broke off
