@@ -1,16 +1,23 @@
-//! Work on syntax objects and frames whose time `bench/syntax.sh` and `bench/scope.sh` take.
+//! Work on syntax objects, frames, cells and core text whose time `bench/syntax.sh`, `bench/scope.sh`,
+//! `bench/values.sh` and `bench/printer.sh` take.
 //!
 //! The words are what to do and how many elements the list has, as `walk 1000`. `build` makes the list
 //! alone; `change` enters and leaves a mark on it 1,000 times; `walk` enters a mark and opens the list
 //! from its first element to its last, each element too. With `fill`, `find`, `ask`, `layer`, `look` and
-//! `recall` the number is that of names or frames, as `scopes` says. The program writes its words.
+//! `recall` the number is that of names or frames, as `scopes` says, with `store` and `read` that of
+//! pairs, as `values` says, and with `lines` and `print` that of lines, as `texts` says. The program
+//! writes its words.
 #![tactic(auto)]
 
 mod scopes;
+mod texts;
+mod values;
 
 ghost use Rattle.std.specs.Prelude.{◌≡◌, ◌<◌};
 
 use crate::scopes::FrameWork;
+use crate::texts::TextWork;
+use crate::values::CellWork;
 use std::alloc::Global;
 use std::marker::Brand;
 use std::process::ExitCode;
@@ -38,6 +45,8 @@ enum ListWork {
 enum Work {
     List(ListWork),
     Frames(FrameWork),
+    Cells(CellWork),
+    Texts(TextWork),
 }
 
 fn work_of(word: &str) -> Option<Work> {
@@ -51,6 +60,10 @@ fn work_of(word: &str) -> Option<Work> {
         "layer" => Some(Work::Frames(FrameWork::Layer)),
         "look" => Some(Work::Frames(FrameWork::Look)),
         "recall" => Some(Work::Frames(FrameWork::Recall)),
+        "store" => Some(Work::Cells(CellWork::Store)),
+        "read" => Some(Work::Cells(CellWork::Read)),
+        "lines" => Some(Work::Texts(TextWork::Lines)),
+        "print" => Some(Work::Texts(TextWork::Print)),
         _ => None,
     }
 }
@@ -123,6 +136,8 @@ fn done(alloc: Global, work: Work, count: u32) -> Result<bool, BareStop> {
             Ok(true)
         }
         Work::Frames(work) => scopes::run(alloc, work, count),
+        Work::Cells(work) => values::run(alloc, work, count),
+        Work::Texts(work) => texts::run(alloc, work, count),
     }
 }
 

@@ -1,0 +1,26 @@
+-- The tests tell what they are named for.
+use Rattle.std.specs.Prelude.{List}
+use Rattle.std.specs.Bool.{Decides}
+use Rattle.sx_base.specs.declared.name.Label.{Label}
+use Rattle.sx_core.specs.Core.{PlainCore}
+use Rattle.sx_core.specs.declared.record.LibRecord.{LibRecord}
+use Rattle.sx_core_laws.specs.Scope.{Closed, closed}
+use Rattle.sx_core_laws.specs.Templates.{Depths}
+use Rattle.sx_core_laws.specs.WellMade.{IsWellMade, is_well_made}
+use Rattle.sx_core_laws.specs.Records.{AreClosed, are_closed, AreBoundOnce, are_bound_once}
+use Rattle.sx_core_laws.specs.Follows.{Follows, follows}
+
+abbrev pub ClosedIsDecided : Type 0
+ClosedIsDecided = (ls : List Label) (c : PlainCore) → Decides (closed ls c) (Closed ls c)
+
+abbrev pub WellMadeIsDecided : Type 0
+WellMadeIsDecided = (given : Depths) (c : PlainCore) → Decides (is_well_made given c) (IsWellMade given c)
+
+abbrev pub RecordsClosedIsDecided : Type 0
+RecordsClosedIsDecided = (rs : List LibRecord) → Decides (are_closed rs) (AreClosed rs)
+
+abbrev pub BoundOnceIsDecided : Type 0
+BoundOnceIsDecided = (rs : List LibRecord) → Decides (are_bound_once rs) (AreBoundOnce rs)
+
+abbrev pub FollowsIsDecided : Type 0
+FollowsIsDecided = (r : LibRecord) (earlier : List LibRecord) → Decides (follows r earlier) (Follows r earlier)

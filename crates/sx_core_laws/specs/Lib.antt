@@ -1,0 +1,10 @@
+pub mod Words
+pub mod Parts
+pub mod Scope
+pub mod Templates
+pub mod WellMade
+pub mod Records
+pub mod Follows
+pub mod Given
+pub mod Decided
+pub mod Examples

@@ -1,0 +1,57 @@
+//! What core code and records of libraries promise to those who take them.
+//!
+//! Core code is *closed* where each label in it lies in the scope of its binder: `(lambda (x) x)` is,
+//! and `(begin (lambda (x) x) x)` is not. It is *well made* where further each label has one binder,
+//! each code its own number, and each template suits the pattern variables round it. The records of
+//! libraries are *bound once* where no label has two binders, and no two variables of level 0 have one
+//! generated name. A record *follows* earlier ones where all that it mentions is its own or theirs.
+//!
+//! The promise: each of these is told by a test, which is true exactly where it holds. The definitions
+//! are about plain core code, so that expansion, evaluation, the entries of a store and the checker of
+//! core text can speak of one and the same thing.
+//!
+//! Here are no calls to make: each function stands for the law that it ensures.
+#![tactic(auto)]
+
+ghost use Rattle.sx_core_laws.specs.Decided.{ClosedIsDecided, WellMadeIsDecided, RecordsClosedIsDecided, BoundOnceIsDecided, FollowsIsDecided};
+ghost use Rattle.sx_core_laws.specs.Given.{ReferencesAreGiven};
+ghost use Rattle.sx_core_laws.specs.Examples.{ClosedExamples, WellMadeExamples, RecordExamples, FollowsExamples};
+
+/// Whether core code is closed under some labels is told by a test.
+pub fn closed_is_decided()
+    ensures { ClosedIsDecided }
+{}
+
+/// Each label that closed core code references or assigns, and that no binder in it binds, is a given
+/// one.
+pub fn references_are_given()
+    ensures { ReferencesAreGiven }
+{}
+
+/// Whether core code is well made under pattern variables of some depths is told by a test.
+pub fn well_made_is_decided()
+    ensures { WellMadeIsDecided }
+{}
+
+/// Whether each line of records is closed under what their lines define is told by a test.
+pub fn records_closed_is_decided()
+    ensures { RecordsClosedIsDecided }
+{}
+
+/// Whether records are bound once is told by a test.
+pub fn bound_once_is_decided()
+    ensures { BoundOnceIsDecided }
+{}
+
+/// Whether a record follows earlier ones is told by a test.
+pub fn follows_is_decided()
+    ensures { FollowsIsDecided }
+{}
+
+/// Small examples, of what each test takes and of what it refuses.
+pub fn examples_are_told()
+    ensures closed { ClosedExamples }
+    ensures well_made { WellMadeExamples }
+    ensures records { RecordExamples }
+    ensures follows { FollowsExamples }
+{}

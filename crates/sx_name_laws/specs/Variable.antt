@@ -1,0 +1,30 @@
+-- The variables that have generated names.
+use Rattle.std.specs.Prelude.{ℕ, ◌<◌, ◌^◌, List, length, All}
+use Rattle.std.specs.Str.{IsUtf8}
+use Rattle.sx_base.specs.declared.library.LibName.{LibName}
+use Rattle.sx_base.specs.declared.library.LibName.TheVariants as library
+use Rattle.sx_names.specs.Generated.{generated_name}
+
+-- a variable, with its number among those of its library
+pub record Variable : Type 0 where
+  pub library : LibName
+  pub symbol : List ℕ
+  pub number : ℕ
+
+-- a part of a library's name isn't empty
+abbrev pub IsPart : List ℕ → Type 0
+IsPart text = IsUtf8 text × (0 < length text)
+
+-- the program, or a library whose name has one or more parts
+abbrev pub IsNamed : LibName → Type 0
+IsNamed library.Core = ⊥
+IsNamed library.Derived = ⊥
+IsNamed library.Prelude = ⊥
+IsNamed library.Program = Unit {0}
+IsNamed (library.User parts) = (0 < length parts) × All IsPart parts
+
+abbrev pub IsVariable : Variable → Type 0
+IsVariable v = IsNamed v.library × (IsUtf8 v.symbol × (v.number < 2 ^ 64))
+
+abbrev pub name_of : Variable → List ℕ
+name_of v = generated_name v.library v.symbol v.number

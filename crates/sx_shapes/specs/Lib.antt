@@ -1,0 +1,4 @@
+pub mod At
+pub mod Lists
+pub mod Forms
+pub mod Written

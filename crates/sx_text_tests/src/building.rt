@@ -1,0 +1,229 @@
+use std::alloc::Global;
+use std::rc::Rc;
+use std::test::Fail;
+use sx_base::datum::Datum;
+use sx_base::items::Items;
+use sx_base::library::LibName;
+use sx_base::name::{CodeNo, Label, Name};
+use sx_base::op::op_named;
+use sx_base::symbol::Symbol;
+use sx_core::code::{Code, Core, CoreNode, Init, Lambda};
+use sx_core::formals::Formals;
+
+/// A step builds one expression, of parts that were built right before it. A variable is known by its
+/// generated name.
+#[derive(Clone, Copy)]
+pub enum Step {
+    /// A datum, by its text.
+    Quote(&'static str),
+    Variable(&'static str),
+    Primitive(&'static str),
+    /// An `if` of the last two, and of the last three.
+    OneArmed,
+    TwoArmed,
+    /// A `set!` of this variable to the last.
+    Set(&'static str),
+    /// A `begin` of so many.
+    Begin(usize),
+    /// A `lambda` with the last as its body. The formals are parted by spaces, and the rest has a dot.
+    Lambda(&'static str),
+    /// A `case-lambda` with the last as the bodies of its cases, whose formals are parted by bars.
+    CaseLambda(&'static str),
+    /// Of these variables, whose values and the body are the last; in order it is a `letrec*`.
+    Letrec(bool, &'static str),
+    /// A call with so many operands.
+    Call(usize),
+}
+
+// The library whose parts are joined by points; with no parts it is the program.
+fn library(alloc: Global, text: &str) -> Result<LibName, Fail> {
+    if text.is_empty() {
+        return Ok(LibName::Program);
+    }
+    let mut parts = Items::new(alloc);
+    for part in text.split(".") {
+        parts.push(Symbol::new(alloc, part)?)?;
+    }
+    Ok(LibName::User(parts))
+}
+
+/// The symbol of a generated name.
+pub fn symbol_of(name: &str) -> Option<&str> {
+    let (_, rest) = name.split_once("/")?;
+    let (symbol, _) = rest.split_once("/")?;
+    Some(symbol)
+}
+
+/// The label of the variable with a generated name.
+pub fn label(alloc: Global, name: &str) -> Result<Label, Fail> {
+    let text = name.strip_prefix("%").ok_or("no variable")?;
+    let (parts, rest) = text.split_once("/").ok_or("no library")?;
+    let (_, number) = rest.split_once("/").ok_or("no number")?;
+    let library = Rc::new(alloc, library(alloc, parts)?)?;
+    Ok(Label(Name {
+        library,
+        number: number.parse::<u64>().ok().ok_or("no number")?,
+    }))
+}
+
+// The variables whose names are parted by spaces.
+fn labels(alloc: Global, names: &str) -> Result<Vec<Label>, Fail> {
+    let mut all = Vec::new(alloc);
+    for name in names.split(" ") {
+        if !name.is_empty() {
+            all.push(label(alloc, name)?)?;
+        }
+    }
+    Ok(all)
+}
+
+fn formals(alloc: Global, names: &str) -> Result<Formals, Fail> {
+    let mut required = Items::new(alloc);
+    let mut rest = None;
+    for name in names.split(" ") {
+        if let Some(name) = name.strip_prefix(".") {
+            rest = Some(label(alloc, name)?);
+        } else if !name.is_empty() {
+            required.push(label(alloc, name)?)?;
+        }
+    }
+    Ok(Formals { required, rest })
+}
+
+// The datum of a text.
+fn datum(alloc: Global, text: &str) -> Result<Datum, Fail> {
+    let file = Symbol::new(alloc, "datum")?;
+    let mut data = Vec::new(alloc);
+    if text.len() < 4_294_967_296 {
+        data = sx_reader::read::read_all(alloc, &file, text.as_bytes())
+            .ok()
+            .ok_or("not read")?;
+    }
+    Ok(data.pop().ok_or("no datum")?)
+}
+
+// The expressions that were built, the last at the end.
+#[derive(Drop)]
+struct Built {
+    alloc: Global,
+    cores: Vec<Core>,
+}
+
+impl Built {
+    fn take(&mut self) -> Result<Core, Fail> {
+        Ok(self.cores.pop().ok_or("too few parts")?)
+    }
+
+    fn take_boxed(&mut self) -> Result<Box<Core>, Fail> {
+        let core = self.take()?;
+        Ok(Box::new(self.alloc, core)?)
+    }
+
+    // The last ones, in order.
+    fn take_all(&mut self, count: usize) -> Result<Vec<Core>, Fail> {
+        let mut parts = Vec::new(self.alloc);
+        for _ in 0..count {
+            parts.push(self.take()?)?;
+        }
+        parts.reverse();
+        Ok(parts)
+    }
+
+    fn one_armed(&mut self) -> Result<CoreNode, Fail> {
+        let then = self.take_boxed()?;
+        let test = self.take_boxed()?;
+        Ok(CoreNode::If(test, then, None))
+    }
+
+    fn two_armed(&mut self) -> Result<CoreNode, Fail> {
+        let other = self.take_boxed()?;
+        let then = self.take_boxed()?;
+        let test = self.take_boxed()?;
+        Ok(CoreNode::If(test, then, Some(other)))
+    }
+
+    fn set(&mut self, name: &str) -> Result<CoreNode, Fail> {
+        let value = self.take_boxed()?;
+        Ok(CoreNode::Set(label(self.alloc, name)?, value))
+    }
+
+    fn call(&mut self, count: usize) -> Result<CoreNode, Fail> {
+        let operands = self.take_all(count)?;
+        let operator = self.take_boxed()?;
+        Ok(CoreNode::App(operator, operands))
+    }
+
+    fn lambda(&mut self, names: &str) -> Result<CoreNode, Fail> {
+        let formals = formals(self.alloc, names)?;
+        let body = self.take()?;
+        let mut cases = Vec::new(self.alloc);
+        cases.push(Lambda { formals, body })?;
+        procedure(self.alloc, cases, true)
+    }
+
+    fn case_lambda(&mut self, names: &str) -> Result<CoreNode, Fail> {
+        let mut all = Vec::new(self.alloc);
+        for names in names.split("|") {
+            all.push(formals(self.alloc, names)?)?;
+        }
+        all.reverse();
+        let mut cases = Vec::new(self.alloc);
+        for formals in all {
+            let body = self.take()?;
+            cases.push(Lambda { formals, body })?;
+        }
+        cases.reverse();
+        procedure(self.alloc, cases, false)
+    }
+
+    fn letrec(&mut self, in_order: bool, names: &str) -> Result<CoreNode, Fail> {
+        let body = self.take_boxed()?;
+        let mut labels = labels(self.alloc, names)?;
+        labels.reverse();
+        let mut inits = Vec::new(self.alloc);
+        for label in labels {
+            let value = self.take()?;
+            inits.push(Init { label, value })?;
+        }
+        inits.reverse();
+        Ok(CoreNode::Letrec(in_order, inits, body))
+    }
+
+    fn node(&mut self, step: Step) -> Result<CoreNode, Fail> {
+        match step {
+            Step::Quote(text) => Ok(CoreNode::Quote(datum(self.alloc, text)?)),
+            Step::Variable(name) => Ok(CoreNode::Ref(label(self.alloc, name)?)),
+            Step::Primitive(name) => Ok(CoreNode::Prim(op_named(name).ok_or("no primitive")?)),
+            Step::OneArmed => self.one_armed(),
+            Step::TwoArmed => self.two_armed(),
+            Step::Set(name) => self.set(name),
+            Step::Begin(count) => Ok(CoreNode::Seq(self.take_all(count)?)),
+            Step::Lambda(names) => self.lambda(names),
+            Step::CaseLambda(names) => self.case_lambda(names),
+            Step::Letrec(in_order, names) => self.letrec(in_order, names),
+            Step::Call(count) => self.call(count),
+        }
+    }
+}
+
+fn procedure(alloc: Global, cases: Vec<Lambda>, plain: bool) -> Result<CoreNode, Fail> {
+    let library = Rc::new(alloc, LibName::Program)?;
+    let number = CodeNo(Name { library, number: 0 });
+    let code = Code {
+        number,
+        cases,
+        plain,
+    };
+    Ok(CoreNode::Lambda(Rc::new(alloc, code)?))
+}
+
+/// The expression that the last step builds.
+pub fn core(alloc: Global, steps: &[Step]) -> Result<Core, Fail> {
+    let cores = Vec::new(alloc);
+    let mut built = Built { alloc, cores };
+    for step in steps {
+        let node = built.node(*step)?;
+        built.cores.push(Core { node })?;
+    }
+    built.take()
+}
