@@ -1,6 +1,3 @@
-pub mod Expansion
-pub mod Waits
-pub mod Program
 pub mod Words
 pub mod Whole
 pub mod Headline

@@ -6,8 +6,8 @@ use Rattle.sx_base.specs.declared.fault.Fault.{Fault}
 use Rattle.sx_base.specs.declared.fault.FaultKind.TheVariants as kind
 use Rattle.sx_outside.specs.Contents.{Paths, at_path, Reading, bytes, longer, absent, read_of}
 use Rattle.sx_reader.specs.Read.{data_of}
-use Rattle.scheme_expand.specs.Expansion.{span_or_start}
-use Rattle.scheme_expand.specs.Program.{program_text}
+use Rattle.sx_base.specs.declared.span.Span.{Span}
+use Rattle.sx_library.specs.Program.{program_text}
 use Rattle.sx_report.specs.Report.{report_text}
 use Rattle.sx_report.specs.declared.report.Told.{Told}
 use Rattle.sx_words.specs.declared.job.Job.{Job}
@@ -23,9 +23,12 @@ pub data Outcome : Type 0 where
 abbrev pub file_limit : ℕ
 file_limit = 4194304
 
+abbrev pub start_of_file : List ℕ → Span
+start_of_file path = record { file = path; from = 0; to = 0 }
+
 -- a fault of a file that was not read, at its start
 abbrev pub at_start : kind.the_data → List ℕ → List (List ℕ) → Fault
-at_start kind path words = record { kind = kind; span = span_or_start path None; words = words }
+at_start kind path words = record { kind = kind; span = start_of_file path; words = words }
 
 -- the text of a source, or its fault
 unfoldable pub source_text : List ℕ → List ℕ → Result (List ℕ) Fault

@@ -1,7 +1,13 @@
+ghost use Rattle.std.specs.Prelude.{◌≡◌, ◌<◌};
+
+use crate::programs::PROGRAMS;
 use crate::status::Status;
 use crate::top::run;
 use std::alloc::Global;
+use std::marker::Brand;
+use std::sync::ledger::{Blank, Ledger};
 use std::test::Fail;
+use sx_base::steps::Steps;
 use sx_outside::{MemFiles, MemSink};
 
 // What a run answered and wrote.
@@ -21,6 +27,22 @@ fn run_over(
     outs: &[(u64, usize)],
     errs: &[(u64, usize)],
 ) -> Result<Outcome, Fail> {
+    run_counted::<Brand>(alloc, file, words, reads, outs, errs, Blank::new(1))
+}
+
+fn run_counted<N: Ledger>(
+    alloc: Global,
+    file: Option<&[u8]>,
+    words: &[&str],
+    reads: &[u64],
+    outs: &[(u64, usize)],
+    errs: &[(u64, usize)],
+    blank: Blank,
+) -> Result<Outcome, Fail>
+    requires name { blank.name ≡ N.name }
+    requires parts { (blank.parts ≡ N.parts) × (0 < N.parts) }
+{
+    let mut nodes = Steps::<N>::open(blank);
     let mut pairs = Vec::new(alloc);
     if let Some(bytes) = file {
         pairs.push((
@@ -37,7 +59,7 @@ fn run_over(
     for word in words {
         texts.push(String::from_str(alloc, word)?)?;
     }
-    let status = run(alloc, &texts, &mut files, &mut out, &mut err);
+    let status = run(alloc, &texts, &mut files, &mut out, &mut err, &mut nodes);
     Ok(Outcome {
         status,
         out: String::from_utf8_lossy(alloc, out.bytes())?,
@@ -48,109 +70,47 @@ fn run_over(
 const USAGE: &str =
     "usage: scheme-expand [--root DIR[:DIR]...] [--cache DIR] [--report] [--write core|xref] PROGRAM | --make N\n";
 
-// A program, its text, or the line of its fault.
-const PROGRAMS: [(&str, &str, &str); 24] = [
-    ("(import (rnrs base))", "(import (rnrs))\n", ""),
-    (
-        "(import (rnrs base)) (define x 1) (+ x 2)",
-        "(import (rnrs))\n(define %/x/0 1)\n(+ %/x/0 2)\n",
-        "",
-    ),
-    (
-        "(import (rnrs))\n(f #t) (define f car) -7 (define a/b #f) ((f cdr) a/b)",
-        "(import (rnrs))\n(%/f/0 #t)\n(define %/f/0 car)\n-7\n(define %/a~2F~b/1 #f)\n((%/f/0 cdr) %/a~2F~b/1)\n",
-        "",
-    ),
-    ("", "", "p.sps:1:1: 10 NotLibrary\n"),
-    ("x (import (rnrs))", "", "p.sps:1:1: 10 NotLibrary\n"),
-    (" (export)", "", "p.sps:1:2: 10 NotLibrary\n"),
-    (
-        "(import (rnrs base)) (+ x 2)",
-        "",
-        "p.sps:1:25: 21 Unbound: x\n",
-    ),
-    ("(import) car", "", "p.sps:1:10: 21 Unbound: car\n"),
-    (
-        "(import (rnrs base)) cons*",
-        "",
-        "p.sps:1:22: 21 Unbound: cons*\n",
-    ),
-    (
-        "(import (rnrs) (rnrs base)) cons*",
-        "(import (rnrs))\ncons*\n",
-        "",
-    ),
-    (
-        "(import (rnrs))\n(define x 1) (define x 2)",
-        "",
-        "p.sps:2:22: 22 Duplicate: x\n",
-    ),
-    (
-        "(import (rnrs)) zork (define list 1)",
-        "",
-        "p.sps:1:30: 22 Duplicate: list\n",
-    ),
-    ("(import (m))", "", "p.sps:1:9: 90 NotBuilt\n"),
-    (
-        "(import (rnrs)) (define x)",
-        "",
-        "p.sps:1:17: 90 NotBuilt\n",
-    ),
-    (
-        "(import (rnrs)) (define (f) 1)",
-        "",
-        "p.sps:1:17: 90 NotBuilt\n",
-    ),
-    (
-        "(import (rnrs)) (if #t 1 2)",
-        "",
-        "p.sps:1:17: 90 NotBuilt\n",
-    ),
-    (
-        "(import (rnrs)) zork (if #t 1 2)",
-        "",
-        "p.sps:1:22: 90 NotBuilt\n",
-    ),
-    ("(import (rnrs)) (list if)", "", "p.sps:1:23: 90 NotBuilt\n"),
-    (
-        "(import (rnrs)) (list (quote a))",
-        "",
-        "p.sps:1:23: 90 NotBuilt\n",
-    ),
-    ("(import (rnrs)) ()", "", "p.sps:1:17: 90 NotBuilt\n"),
-    ("(import (rnrs)) \"s\"", "", "p.sps:1:17: 90 NotBuilt\n"),
-    (
-        "(import (rnrs)) (list . 1)",
-        "",
-        "p.sps:1:17: 90 NotBuilt\n",
-    ),
-    (
-        "(import (rnrs)) (define . x) (define y 1) (define y 2)",
-        "",
-        "p.sps:1:17: 90 NotBuilt\n",
-    ),
-    ("(import (rnrs)) (list 1", "", "p.sps:1:17: 5 Unclosed\n"),
-];
+// What a run over a program is to answer and write.
+fn expected(alloc: Global, answer: &str) -> Result<Outcome, Fail> {
+    let mut out = String::new(alloc);
+    let mut err = String::new(alloc);
+    if answer.starts_with("p.sps:") {
+        err.push_str(answer)?;
+        err.push_str("\n")?;
+        return Ok(Outcome {
+            status: Status::Fault,
+            out,
+            err,
+        });
+    }
+    out.push_str("(import (rnrs))\n")?;
+    if !answer.is_empty() {
+        out.push_str(answer)?;
+        out.push_str("\n")?;
+    }
+    Ok(Outcome {
+        status: Status::Done,
+        out,
+        err,
+    })
+}
+
+// Whether a program gives its text, or the line of its fault, and nothing else.
+fn gives(alloc: Global, source: &str, answer: &str) -> Result<bool, Fail> {
+    let ran = run_over(alloc, Some(source.as_bytes()), &["p.sps"], &[], &[], &[])?;
+    let expected = expected(alloc, answer)?;
+    Ok(
+        ran.status == expected.status
+            && ran.out.as_str() == expected.out.as_str()
+            && ran.err.as_str() == expected.err.as_str(),
+    )
+}
 
 #[test]
-fn a_program_gives_its_text_or_its_first_fault(rt: HostRuntime) -> Result<(), Fail> {
-    for (program, out, err) in PROGRAMS {
-        let ran = run_over(
-            rt.alloc(),
-            Some(program.as_bytes()),
-            &["p.sps"],
-            &[],
-            &[],
-            &[],
-        )?;
-        let status = if err.is_empty() {
-            Status::Done
-        } else {
-            Status::Fault
-        };
-        assert_eq!(rt; ran.out.as_str(), out);
-        assert_eq!(rt; ran.err.as_str(), err);
-        assert_eq!(rt; ran.status, status);
+fn programs_give_their_text_or_their_first_fault(rt: HostRuntime) -> Result<(), Fail> {
+    let alloc = rt.alloc();
+    for (source, answer) in PROGRAMS {
+        assert!(rt; gives(alloc, source, answer)?);
     }
     Ok(())
 }

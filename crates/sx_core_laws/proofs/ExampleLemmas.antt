@@ -15,4 +15,4 @@ unfolding chars digits
 record_examples = record { closed_later = refl; not_closed = refl; bound_once = refl; bound_twice = refl; named_twice = refl }
 
 pub follows_examples : FollowsExamples
-follows_examples = record { first = refl; itself = refl; core = refl; not_own = refl; no_index = refl; not_top = refl; one_index_twice = refl; two_indices = refl; keyword = refl; no_keyword = refl; late_keyword = refl; exported = refl; reexported = refl; given_export = refl; unknown_export = refl; exported_twice = refl; referring = refl; not_referring = refl; referring_twice = refl; not_earlier = refl }
+follows_examples = record { first = refl; itself = refl; core = refl; not_own = refl; no_index = refl; not_top = refl; one_index_twice = refl; two_indices = refl; keyword = refl; no_keyword = refl; late_keyword = refl; exported = refl; reexported = refl; given_export = refl; derived_export = refl; unknown_export = refl; exported_twice = refl; referring = refl; not_referring = refl; referring_twice = refl; not_earlier = refl }

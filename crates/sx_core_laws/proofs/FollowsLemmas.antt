@@ -1,11 +1,12 @@
 -- Whether a record follows earlier ones is told by a test.
-use Rattle.std.proofs.Common.{◌≡◌, ℕ, List, [], ◌++◌, Option, None, Some}
-use Rattle.std.specs.Prelude.{not, nat_lt, map}
+use Rattle.std.proofs.Common.{◌≡◌, ℕ, List, [], ◌++◌, Option, None, Some, refl}
+use Rattle.std.specs.Prelude.{not, nat_lt, map, is_some}
 use Rattle.std.specs.List.{flat_map}
 use Rattle.std.specs.Bool.{Decides}
 use Rattle.std.specs.Cmp.Lexicographic.{pointwise, pointwise_decides}
 use Rattle.std.proofs.lemmas.Bool.Decides.{Decides-and, Decides-or, Decides-not, Decides-like, Decides-ltb}
 use Rattle.sx_base.specs.Named.{Named}
+use Rattle.sx_builtin.specs.Exports.{derived_place}
 use Rattle.sx_base.specs.Same.{same_library, same_library_decides}
 use Rattle.sx_base.specs.declared.library.LibName.{LibName}
 use Rattle.sx_base.specs.declared.library.LibName.TheVariants as library
@@ -26,6 +27,10 @@ use Rattle.sx_core_laws.specs.Decided.{FollowsIsDecided}
 use Rattle.sx_core_laws.proofs.Decisions.{each_decides, among_decides, once_decides, true_decides, false_decides, label_decides, code_decides, text_decides, key_decides, index_decides}
 use Rattle.sx_core_laws.proofs.ScopeLemmas.{given_decides, closed_decides}
 use Rattle.sx_core_laws.proofs.WellMadeLemmas.{well_made_decides}
+
+none_decides : (o : Option ℕ) → Decides (not (is_some o)) (o ≡ None)
+none_decides None = (λ _. refl, λ _. refl)
+none_decides (Some n) = (λ e. absurd (cc), λ e. absurd (cc))
 
 library_among : (ls : List LibName) (l : LibName) → Decides (among same_library ls l) (Among ls l)
 library_among ls l = among_decides same_library same_library_decides ls l
@@ -112,7 +117,9 @@ module _ (r : LibRecord) (earlier : List LibRecord) where
   new_out n = (n.new, (n.no_core, (n.no_prelude, n.exports_once)))
 
   given_is : (l : Label) → Decides (is_given l) (IsGiven l)
-  given_is l = Decides-and (same_library l.0.library library.Core) (nat_lt l.0.number name_count) (same_library_decides l.0.library library.Core) (Decides-ltb l.0.number name_count)
+  given_is l =
+      Decides-and (same_library l.0.library library.Core) _ (same_library_decides l.0.library library.Core)
+      (Decides-and (nat_lt l.0.number name_count) _ (Decides-ltb l.0.number name_count) (none_decides (derived_place l.0.number)))
 
   known_decides : (l : Label) → Decides (is_known r earlier l) (IsKnown r earlier l)
   known_decides l = Decides-or (among same_label (bound_labels r ++ flat_map bound_labels earlier) l) (is_given l) (given_decides (bound_labels r ++ flat_map bound_labels earlier) l) (given_is l)

@@ -14,15 +14,15 @@ use Rattle.sx_core_laws.specs.Given.{ReferencesAreGiven}
 use Rattle.sx_core_laws.proofs.Decisions.{label_decides}
 
 -- all of the first are among the second
-abbrev Within : List Label → List Label → Type 0
+abbrev pub Within : List Label → List Label → Type 0
 Within xs ys = (l : Label) → Among xs l → Among ys l
 
-among_left : (xs ys : List Label) → Within xs (xs ++ ys)
+pub among_left : (xs ys : List Label) → Within xs (xs ++ ys)
 among_left (x ∷ xs) ys l (inl e) = inl e
 among_left (x ∷ xs) ys l (inr a) = inr (among_left xs ys l a)
 among_left [] ys l a = elim a [ ]
 
-among_right : (xs ys : List Label) → Within ys (xs ++ ys)
+pub among_right : (xs ys : List Label) → Within ys (xs ++ ys)
 among_right [] ys l a = a
 among_right (x ∷ xs) ys l a = inr (among_right xs ys l a)
 
@@ -40,7 +40,7 @@ left xs ys B w l a = w l (among_left xs ys l a)
 right : (xs ys B : List Label) → Within (xs ++ ys) B → Within ys B
 right xs ys B w l a = w l (among_right xs ys l a)
 
-joined : (xs ys B : List Label) → Within xs B → Within ys B → Within (xs ++ ys) B
+pub joined : (xs ys B : List Label) → Within xs B → Within ys B → Within (xs ++ ys) B
 joined xs ys B u w l a = by (among_parts xs ys l a) where
   by : Among xs l ⊎ Among ys l → Among B l
   by (inl b) = u l b

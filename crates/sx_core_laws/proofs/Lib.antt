@@ -6,3 +6,4 @@ pub mod RecordLemmas
 pub mod FollowsLemmas
 pub mod ExampleLemmas
 pub mod GivenLemmas
+pub mod FollowingLemmas

@@ -180,6 +180,7 @@ pub record FollowsExamples : Type 0 where
   pub exported : follows defines_z [] ≡ true
   pub reexported : follows (recorded library.Program ((codes "z", z) ∷ []) [] [] []) (defines_z ∷ []) ≡ true
   pub given_export : follows (recorded library.Program ((codes "car", label_of library.Core 300) ∷ []) [] [] []) [] ≡ true
+  pub derived_export : follows (recorded library.Program ((codes "let", label_of library.Core 18) ∷ []) [] [] []) [] ≡ false
   pub unknown_export : follows (recorded library.Program ((codes "z", z) ∷ []) [] [] []) [] ≡ false
   pub exported_twice : follows (recorded library.Program ((codes "z", z) ∷ (codes "z", z) ∷ []) [] [] []) (defines_z ∷ []) ≡ false
   -- the libraries that it mentions

@@ -1,5 +1,5 @@
 -- When a record of a library may stand behind earlier ones.
-use Rattle.std.specs.Prelude.{◌≡◌, ◌⊎◌, ℕ, ◌<◌, nat_lt, nat_eq, Bool, true, false, not, ◌&&◌, ◌||◌, List, [], ◌∷◌, ◌++◌, map, Option, None, Some, if◌then◌else◌}
+use Rattle.std.specs.Prelude.{◌≡◌, ◌⊎◌, ℕ, ◌<◌, nat_lt, nat_eq, Bool, true, false, not, ◌&&◌, ◌||◌, List, [], ◌∷◌, ◌++◌, map, Option, None, Some, is_some, if◌then◌else◌}
 use Rattle.std.specs.List.{flat_map}
 use Rattle.std.specs.Map.{lookup}
 use Rattle.std.specs.Cmp.Lexicographic.{pointwise}
@@ -13,6 +13,7 @@ use Rattle.sx_base.specs.declared.name.Label.{Label}
 use Rattle.sx_base.specs.declared.name.Mark.{Mark}
 use Rattle.sx_tree.specs.SameMarks.{same_marks}
 use Rattle.sx_tree.specs.declared.frame_row.FrameRow.{FrameRow}
+use Rattle.sx_builtin.specs.Exports.{derived_place}
 use Rattle.sx_core.specs.Core.{PlainCore}
 use Rattle.sx_core.specs.Labels.{same_label}
 use Rattle.sx_core.specs.References.{binders, mentions}
@@ -148,12 +149,12 @@ pub record BindsWhatItDefines (r : LibRecord) : Type 0 where
 abbrev pub binds_what_it_defines : LibRecord → Bool
 binds_what_it_defines r = each is_recorded r.bindings && (each (among same_label (defined r)) (tops r) && each (among same_label (tops r)) (defined r))
 
--- the label of a name that this implementation gives
+-- the label of a name that this implementation gives, and that the derived library doesn't define
 abbrev pub IsGiven : Label → Type 0
-IsGiven l = (l.0.library ≡ library.Core) × (l.0.number < name_count)
+IsGiven l = (l.0.library ≡ library.Core) × ((l.0.number < name_count) × (derived_place l.0.number ≡ None))
 
 abbrev pub is_given : Label → Bool
-is_given l = same_library l.0.library library.Core && nat_lt l.0.number name_count
+is_given l = same_library l.0.library library.Core && (nat_lt l.0.number name_count && not (is_some (derived_place l.0.number)))
 
 -- bound in it or in an earlier record, or given
 abbrev pub IsKnown : LibRecord → List LibRecord → Label → Type 0

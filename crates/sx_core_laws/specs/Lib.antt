@@ -6,5 +6,6 @@ pub mod WellMade
 pub mod Records
 pub mod Follows
 pub mod Given
+pub mod Following
 pub mod Decided
 pub mod Examples

@@ -15,6 +15,7 @@
 
 ghost use Rattle.sx_core_laws.specs.Decided.{ClosedIsDecided, WellMadeIsDecided, RecordsClosedIsDecided, BoundOnceIsDecided, FollowsIsDecided};
 ghost use Rattle.sx_core_laws.specs.Given.{ReferencesAreGiven};
+ghost use Rattle.sx_core_laws.specs.Following.{FollowersAreClosed};
 ghost use Rattle.sx_core_laws.specs.Examples.{ClosedExamples, WellMadeExamples, RecordExamples, FollowsExamples};
 
 /// Whether core code is closed under some labels is told by a test.
@@ -46,6 +47,11 @@ pub fn bound_once_is_decided()
 /// Whether a record follows earlier ones is told by a test.
 pub fn follows_is_decided()
     ensures { FollowsIsDecided }
+{}
+
+/// Records of which each follows those before it are closed.
+pub fn followers_are_closed()
+    ensures { FollowersAreClosed }
 {}
 
 /// Small examples, of what each test takes and of what it refuses.

@@ -10,31 +10,6 @@ use sx_base::symbol::Symbol;
 use sx_core::code::{Code, Core, CoreNode, Init, Lambda};
 use sx_core::formals::Formals;
 
-/// A step builds one expression, of parts that were built right before it. A variable is known by its
-/// generated name.
-#[derive(Clone, Copy)]
-pub enum Step {
-    /// A datum, by its text.
-    Quote(&'static str),
-    Variable(&'static str),
-    Primitive(&'static str),
-    /// An `if` of the last two, and of the last three.
-    OneArmed,
-    TwoArmed,
-    /// A `set!` of this variable to the last.
-    Set(&'static str),
-    /// A `begin` of so many.
-    Begin(usize),
-    /// A `lambda` with the last as its body. The formals are parted by spaces, and the rest has a dot.
-    Lambda(&'static str),
-    /// A `case-lambda` with the last as the bodies of its cases, whose formals are parted by bars.
-    CaseLambda(&'static str),
-    /// Of these variables, whose values and the body are the last; in order it is a `letrec*`.
-    Letrec(bool, &'static str),
-    /// A call with so many operands.
-    Call(usize),
-}
-
 // The library whose parts are joined by points; with no parts it is the program.
 fn library(alloc: Global, text: &str) -> Result<LibName, Fail> {
     if text.is_empty() {
@@ -142,6 +117,13 @@ impl Built {
         Ok(CoreNode::If(test, then, Some(other)))
     }
 
+    fn conditional(&mut self, parts: &str) -> Result<CoreNode, Fail> {
+        match parts {
+            "2" => self.one_armed(),
+            _ => self.two_armed(),
+        }
+    }
+
     fn set(&mut self, name: &str) -> Result<CoreNode, Fail> {
         let value = self.take_boxed()?;
         Ok(CoreNode::Set(label(self.alloc, name)?, value))
@@ -189,21 +171,37 @@ impl Built {
         Ok(CoreNode::Letrec(in_order, inits, body))
     }
 
-    fn node(&mut self, step: Step) -> Result<CoreNode, Fail> {
-        match step {
-            Step::Quote(text) => Ok(CoreNode::Quote(datum(self.alloc, text)?)),
-            Step::Variable(name) => Ok(CoreNode::Ref(label(self.alloc, name)?)),
-            Step::Primitive(name) => Ok(CoreNode::Prim(op_named(name).ok_or("no primitive")?)),
-            Step::OneArmed => self.one_armed(),
-            Step::TwoArmed => self.two_armed(),
-            Step::Set(name) => self.set(name),
-            Step::Begin(count) => Ok(CoreNode::Seq(self.take_all(count)?)),
-            Step::Lambda(names) => self.lambda(names),
-            Step::CaseLambda(names) => self.case_lambda(names),
-            Step::Letrec(in_order, names) => self.letrec(in_order, names),
-            Step::Call(count) => self.call(count),
+    // A form of parts that were built last: a number says how many they are, or names are bound.
+    fn form(&mut self, head: &str, rest: &str) -> Result<CoreNode, Fail> {
+        match head {
+            "if" => self.conditional(rest),
+            "set!" => self.set(rest),
+            "begin" => Ok(CoreNode::Seq(self.take_all(count(rest)?)?)),
+            "lambda" => self.lambda(rest),
+            "case-lambda" => self.case_lambda(rest),
+            "letrec" => self.letrec(false, rest),
+            "letrec*" => self.letrec(true, rest),
+            "call" => self.call(count(rest)?),
+            _ => Ok(CoreNode::Prim(op_named(head).ok_or("no primitive")?)),
         }
     }
+
+    fn node(&mut self, step: &str) -> Result<CoreNode, Fail> {
+        if let Some(text) = step.strip_prefix("'") {
+            return Ok(CoreNode::Quote(datum(self.alloc, text)?));
+        }
+        if step.starts_with("%") {
+            return Ok(CoreNode::Ref(label(self.alloc, step)?));
+        }
+        match step.split_once(" ") {
+            Some((head, rest)) => self.form(head, rest),
+            None => self.form(step, ""),
+        }
+    }
+}
+
+fn count(text: &str) -> Result<usize, Fail> {
+    Ok(text.parse::<usize>().ok().ok_or("no number")?)
 }
 
 fn procedure(alloc: Global, cases: Vec<Lambda>, plain: bool) -> Result<CoreNode, Fail> {
@@ -217,12 +215,16 @@ fn procedure(alloc: Global, cases: Vec<Lambda>, plain: bool) -> Result<CoreNode,
     Ok(CoreNode::Lambda(Rc::new(alloc, code)?))
 }
 
-/// The expression that the last step builds.
-pub fn core(alloc: Global, steps: &[Step]) -> Result<Core, Fail> {
+/// The expression that the last step builds. The steps are parted by semicolons, and each builds one
+/// expression, of parts that were built right before it. A datum stands behind a quote; a variable
+/// stands by its generated name, and a primitive by its report name. `if`, `begin` and `call` have the
+/// number of their parts, or operands. `set!`, `lambda` and `letrec` have the names that they assign or
+/// bind; the rest of formals has a dot, and bars part the cases of `case-lambda`.
+pub fn core(alloc: Global, steps: &str) -> Result<Core, Fail> {
     let cores = Vec::new(alloc);
     let mut built = Built { alloc, cores };
-    for step in steps {
-        let node = built.node(*step)?;
+    for step in steps.split("; ") {
+        let node = built.node(step)?;
         built.cores.push(Core { node })?;
     }
     built.take()

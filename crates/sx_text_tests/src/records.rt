@@ -1,4 +1,4 @@
-use crate::building::{Step, core, label, symbol_of};
+use crate::building::{core, label, symbol_of};
 use std::alloc::Global;
 use std::test::Fail;
 use sx_base::fault::Stop;
@@ -11,7 +11,7 @@ use sx_core::record::{LibRecord, Line};
 use sx_core_text::whole::core_text;
 
 /// A line: the variable that it defines, if it does, and the steps of its expression.
-pub type Row<'a> = (Option<&'a str>, &'a [Step]);
+pub type Row<'a> = (Option<&'a str>, &'a str);
 
 // The symbol of a generated name, where two have escapes.
 fn plain(symbol: &str) -> &str {

@@ -1,0 +1,48 @@
+#!/bin/sh
+# How long programs take, for sizes that double: n definitions, each of which calls the one before it, and n
+# forms of ten nested scopes each. Each row has the seconds of the best of three runs, and the ratio to the
+# row before it, which is half as long.
+top=$(cd "$(dirname "$0")/.." && pwd) || exit 1
+folder=$(mktemp -d) || exit 1
+trap 'rm -rf "$folder"' EXIT
+"$top/scheme-expand" "$top/examples/first/p.sps" >/dev/null || exit 1
+program=$top/crates/scheme_expand/out/scheme_expand
+
+definitions() {
+    awk -v n="$1" 'BEGIN {
+        print "(import (rnrs))\n(define (f0 x) x)"
+        for (i = 1; i < n; i++) printf "(define (f%d x) (if (null? x) (f%d x) (cons (quote f%d) (f%d (cdr x)))))\n", i, i - 1, i, i
+    }'
+}
+scopes() {
+    awk -v n="$1" 'BEGIN {
+        print "(import (rnrs))"
+        for (i = 0; i < n; i++) {
+            for (j = 0; j < 10; j++) printf "((lambda (a%d b) ", j
+            printf "(list a0 a9 b)"
+            for (j = 0; j < 10; j++) printf ") %d %d)", i, j
+            print ""
+        }
+    }'
+}
+
+measure() {
+    best=
+    for _ in 1 2 3; do
+        begun=$(date +%s%N)
+        "$program" "$folder/p.sps" >/dev/null || exit 1
+        taken=$(( $(date +%s%N) - begun ))
+        if [ -z "$best" ] || [ "$taken" -lt "$best" ]; then best=$taken; fi
+    done
+    awk -v what="$1" -v count="$2" -v now="$best" -v before="$3" \
+        'BEGIN { printf "%-12s %7d %8.3f s", what, count, now / 1e9; if (before) printf "  x%.2f", now / before; print "" }'
+}
+
+for what in definitions scopes; do
+    last=
+    for count in 1000 2000 4000 8000 16000; do
+        $what "$count" >"$folder/p.sps"
+        measure "$what" "$count" "$last"
+        last=$best
+    done
+done

@@ -1,0 +1,53 @@
+-- An expander: the state of a library's expansion, its frame, the path of its file, and whether a call was refused.
+use Rattle.std.specs.Prelude.{ℕ, Bool, false, List, [], None, Result, refl}
+use Rattle.std.specs.Coded.{Coded, code_by, coded×, coded_ℕ, coded_list, coded_bool}
+use Rattle.sx_base.specs.declared.atom.Atom.TheVariants.{Nil}
+use Rattle.sx_base.specs.declared.fault.Fault.{Fault}
+use Rattle.sx_base.specs.declared.library.LibName.{LibName}
+use Rattle.sx_base.specs.contracts.name.FrameNo as frames
+use Rattle.sx_base.specs.declared.name.FrameNo.{FrameNo}
+use Rattle.sx_base.specs.declared.name.Label.{Label}
+use Rattle.sx_base.specs.declared.span.Span.{Span}
+use Rattle.sx_tree.specs.Tree.{Tree, atom}
+use Rattle.sx_core.specs.Core.{PlainCore}
+use Rattle.sx_core.specs.declared.record.LibRecord.{LibRecord}
+use Rattle.sx_standing.specs.State.{State, state_code, Does}
+use Rattle.sx_standing.specs.Start.{started, first_frame}
+use Rattle.sx_expand.specs.Body.{body}
+use Rattle.sx_expand.specs.Expression.{inside}
+use Rattle.sx_expand.specs.Top.{record_in, top}
+use Rattle.sx_expand.specs.declared.top.TopAt.{TopAt}
+
+pub record Expanding : Type 0 where
+  pub state : State
+  pub frame : FrameNo
+  pub path : List ℕ
+  pub failed : Bool
+
+abbrev pub expanding_code : Coded Expanding
+expanding_code =
+    code_by (State × (FrameNo × (List ℕ × Bool))) (coded× state_code (coded× frames.the_row.coded (coded× (coded_list coded_ℕ) coded_bool)))
+    (λ e. (e.state, (e.frame, (e.path, e.failed)))) (λ p. record { state = p.0; frame = p.1.0; path = p.1.1.0; failed = p.1.1.1 }) (λ _. refl)
+
+-- an expander that is ready for a library
+abbrev pub ready : LibName → List ℕ → List LibRecord → List (List ℕ × Label) → Expanding
+ready library path records imports = record { state = started library records imports; frame = first_frame library; path = path; failed = false }
+
+-- an expression that no form stands round; 602 forms never nest
+abbrev pub expression : Span → ℕ → Tree → Does PlainCore
+expression place level t = (inside 602).form place level 0 t
+
+-- a form that has no span
+abbrev pub nowhere : Tree
+nowhere = atom None Nil
+
+-- the body of a procedure that no form stands round, at a place
+abbrev pub lambda_body : Span → ℕ → List Tree → Does PlainCore
+lambda_body place level forms = body (inside 602) place level 0 nowhere forms
+
+abbrev pub body_of : Expanding → List ℕ → Span → TopAt
+body_of e version place = record { path = e.path; version = version; frame = e.frame; place = place }
+
+-- the record of a library or program with these exports and forms
+abbrev pub library_record : Expanding → List ℕ → Span → List (List ℕ × Tree) → List Tree → Result LibRecord Fault
+library_record e version place exports forms = record_in (top (inside 602) (body_of e version place) exports forms e.state)

@@ -1,0 +1,5 @@
+pub mod Inside
+pub mod Body
+pub mod Expression
+pub mod Top
+pub mod Expanding

@@ -1,0 +1,282 @@
+//! Bodies (R6RS 10 and 11.3).
+
+ghost use Rattle.std.specs.Prelude.{◌≡◌, IfOk, None, false};
+ghost use Rattle.sx_base.specs.Datum as datum;
+ghost use Rattle.sx_base.specs.declared.atom.Atom.TheVariants as atoms;
+ghost use Rattle.sx_base.specs.Act.{GivesAfter};
+ghost use Rattle.sx_expand.specs.Expression.{inside};
+ghost use Rattle.sx_expand.specs.Body.{splice, item, value_of, finish_one, finish_all, finish, body, body_core, with_inits, no_value};
+
+use crate::expression::{expression, procedure, procedure_of_case, sequence_of, stamp_all};
+use crate::inside::{MOST_ROUND, deeper};
+use std::alloc::Global;
+use std::sync::ledger::Ledger;
+use sx_base::atom::Atom;
+use sx_base::datum::{Datum, Node};
+use sx_base::fault::{FaultKind, Stop};
+use sx_base::items::Items;
+use sx_base::memory::Memory;
+use sx_base::name::CodeNo;
+use sx_base::span::Span;
+use sx_base::steps::Steps;
+use sx_core::code::{Core, CoreNode, Init};
+use sx_core::record::Line;
+use sx_heads::items::item_plan;
+use sx_heads::kept::KeptHeads;
+use sx_heads::taken::{BodyAt, BodyKind, Taken, Waiting, Waits};
+use sx_standing::expansion::Expansion;
+use sx_syntax::syn::Syn;
+
+fn falsehood() -> Datum
+    ensures { result ≡ datum.atom None (atoms.Bool false) }
+{
+    Datum {
+        span: None,
+        node: Node::Atom(Atom::Bool(false)),
+    }
+}
+
+/// The value of a variable that is defined without one.
+fn no_value(alloc: Global) -> Result<Core, Memory>
+    ensures { IfOk result (λ c. c ≡ no_value) }
+{
+    let test = Core {
+        node: CoreNode::Quote(falsehood()),
+    };
+    let then = Core {
+        node: CoreNode::Quote(falsehood()),
+    };
+    let test = Box::new(alloc, test)?;
+    let then = Box::new(alloc, then)?;
+    Ok(Core {
+        node: CoreNode::If(test, then, None),
+    })
+}
+
+#[tactic(auto, using(crate::proofs::Bodies::no_inits, crate::proofs::Bodies::some_inits))]
+fn with_inits(alloc: Global, inits: Vec<Init>, value: Core) -> Result<Core, Memory>
+    ensures { IfOk result (λ c. c ≡ with_inits inits.items value) }
+{
+    if inits.is_empty() {
+        return Ok(value);
+    }
+    let value = Box::new(alloc, value)?;
+    Ok(Core {
+        node: CoreNode::Letrec(true, inits, value),
+    })
+}
+
+/// A body with definitions is a `letrec*`.
+fn body_core(alloc: Global, lines: Vec<Line>) -> Result<Core, Memory>
+    ensures { IfOk result (λ c. c ≡ body_core lines.items) }
+{
+    let mut inits = Vec::new(alloc);
+    let mut values = Vec::new(alloc);
+    let mut lines = lines;
+    lines.reverse();
+    while let Some(line) = lines.pop() {
+        match line {
+            Line::Define(label, value) => inits.push(Init { label, value })?,
+            Line::Expr(value) => values.push(value)?,
+        }
+    }
+    with_inits(alloc, inits, sequence_of(values))
+}
+
+/// Forms of a body, in order.
+#[cycle(item)]
+pub(crate) fn splice<N: Ledger>(
+    state: &mut Expansion,
+    at: &BodyAt,
+    depth: u16,
+    taken: &mut Taken,
+    forms: &[Syn],
+    nodes: &mut Steps<N>,
+    room: u16,
+) -> Result<(), Stop>
+    ensures { GivesAfter (λ _. taken.new) result state.new (splice (inside room) at.now depth taken.old forms.now state.old) }
+{
+    for form in forms {
+        item(state, at, depth, taken, form, nodes, room)?;
+    }
+    Ok(())
+}
+
+#[cycle(item)]
+#[tactic(auto, using(crate::proofs::Steps::item_step, crate::proofs::Steps::item_too_deep))]
+fn item<N: Ledger>(
+    state: &mut Expansion,
+    at: &BodyAt,
+    depth: u16,
+    taken: &mut Taken,
+    form: &Syn,
+    nodes: &mut Steps<N>,
+    room: u16,
+) -> Result<(), Stop>
+    ensures { GivesAfter (λ _. taken.new) result state.new ((inside room).item at.now depth taken.old form.now state.old) }
+{
+    if room == 0 {
+        return Err(state.fault_form(FaultKind::TooDeep, form, &at.place));
+    }
+    item_at(state, at, depth, taken, form, nodes, room - 1)
+}
+
+#[cycle(item)]
+#[tactic(auto, unfolding(crate::specs::Body::item))]
+fn item_at<N: Ledger>(
+    state: &mut Expansion,
+    at: &BodyAt,
+    depth: u16,
+    taken: &mut Taken,
+    form: &Syn,
+    nodes: &mut Steps<N>,
+    room: u16,
+) -> Result<(), Stop>
+    ensures { GivesAfter (λ _. taken.new) result state.new (item (inside room) at.now depth taken.old form.now state.old) }
+{
+    if depth > MOST_ROUND {
+        return Err(state.fault_form(FaultKind::TooDeep, form, &at.place));
+    }
+    match item_plan(state, at, depth, taken, form)? {
+        None => Ok(()),
+        Some(forms) => splice(
+            state,
+            at,
+            deeper(depth),
+            taken,
+            forms.as_slice(),
+            nodes,
+            room,
+        ),
+    }
+}
+
+#[cycle(form)]
+fn value_of<N: Ledger>(
+    state: &mut Expansion,
+    value: &Option<Syn>,
+    place: &Span,
+    level: u32,
+    depth: u16,
+    nodes: &mut Steps<N>,
+    room: u16,
+) -> Result<Core, Stop>
+    ensures { GivesAfter (λ c. c) result state.new (value_of (inside room) place.now level depth value.now state.old) }
+{
+    match value {
+        None => Ok(no_value(state.alloc())?),
+        Some(value) => expression(state, value, place, level, depth, nodes, room),
+    }
+}
+
+#[cycle(form)]
+#[tactic(auto, unfolding(crate::specs::Body::finish_as))]
+fn finish_one<N: Ledger>(
+    state: &mut Expansion,
+    waiting: &Waiting,
+    level: u32,
+    nodes: &mut Steps<N>,
+    room: u16,
+) -> Result<Line, Stop>
+    ensures { GivesAfter (λ c. c) result state.new (finish_one (inside room) level waiting.now state.old) }
+{
+    let place = &waiting.place;
+    let depth = waiting.depth;
+    match &waiting.what {
+        Waits::Variable(label, value) => {
+            let value = value_of(state, value, place, level, deeper(depth), nodes, room)?;
+            Ok(Line::Define(label.share()?, value))
+        }
+        Waits::Procedure(label, form, ids, forms) => {
+            let number = CodeNo(state.fresh()?);
+            let case = procedure(
+                state,
+                form,
+                ids,
+                forms.as_slice(),
+                place,
+                level,
+                deeper(depth),
+                nodes,
+                room,
+            )?;
+            let value = procedure_of_case(state.alloc(), number, case)?;
+            Ok(Line::Define(label.share()?, value))
+        }
+        Waits::Expression(form) => {
+            let value = expression(state, form, place, level, depth, nodes, room)?;
+            Ok(Line::Expr(value))
+        }
+    }
+}
+
+/// The second pass.
+#[cycle(form)]
+pub(crate) fn finish_all<N: Ledger>(
+    state: &mut Expansion,
+    waiting: &[Waiting],
+    level: u32,
+    nodes: &mut Steps<N>,
+    room: u16,
+) -> Result<Vec<Line>, Stop>
+    ensures { GivesAfter (λ v. v.items) result state.new (finish_all (inside room) level waiting.now state.old) }
+{
+    let mut lines = Vec::new(state.alloc());
+    for one in waiting {
+        let line = finish_one(state, one, level, nodes, room)?;
+        lines.push(line)?;
+    }
+    Ok(lines)
+}
+
+#[cycle(form)]
+#[tactic(auto, unfolding(crate::specs::Body::finish))]
+fn finish<N: Ledger>(
+    state: &mut Expansion,
+    form: &Syn,
+    taken: &Taken,
+    place: &Span,
+    level: u32,
+    nodes: &mut Steps<N>,
+    room: u16,
+) -> Result<Core, Stop>
+    ensures { GivesAfter (λ c. c) result state.new (finish (inside room) place.now level form.now taken.now state.old) }
+{
+    if !taken.has_expression {
+        return Err(state.fault_form(FaultKind::NoExpression, form, place));
+    }
+    let lines = finish_all(state, taken.waiting.as_slice(), level, nodes, room)?;
+    Ok(body_core(state.alloc(), lines)?)
+}
+
+/// The body of a procedure or `letrec`, which is `form`.
+#[cycle(form)]
+#[tactic(auto, unfolding(crate::specs::Body::body))]
+pub fn body<N: Ledger>(
+    state: &mut Expansion,
+    form: &Syn,
+    forms: &[Syn],
+    place: &Span,
+    level: u32,
+    depth: u16,
+    nodes: &mut Steps<N>,
+    room: u16,
+) -> Result<Core, Stop>
+    ensures { GivesAfter (λ c. c) result state.new (body (inside room) place.now level depth form.now forms.now state.old) }
+{
+    let frame = state.fresh_frame()?;
+    let forms = stamp_all(state.alloc(), &frame, forms, nodes)?;
+    let at = BodyAt {
+        frame,
+        place: place.share()?,
+        level,
+        kind: BodyKind::Lambda,
+    };
+    let mut taken = Taken {
+        waiting: Items::new(state.alloc()),
+        kept: KeptHeads::new(state.alloc()),
+        has_expression: false,
+    };
+    splice(state, &at, depth, &mut taken, forms.as_slice(), nodes, room)?;
+    finish(state, form, &taken, place, level, nodes, room)
+}

@@ -1,0 +1,187 @@
+//! An expander: what has the state of one library's expansion.
+
+ghost use Rattle.std.specs.Prelude.{◌≡◌, IfOk, OnOk, OnErr, true, false, Ok};
+ghost use Rattle.sx_base.specs.Act.{GivesAfter};
+ghost use Rattle.sx_base.specs.Gives.{Gives};
+ghost use Rattle.sx_standing.specs.Start.{records_at};
+ghost use Rattle.sx_expand.specs.Expanding.{ready, expression, lambda_body, library_record};
+
+use crate::body::body;
+use crate::expression::expression;
+use crate::inside::ROOM;
+use crate::top::{TopAt, top};
+use std::alloc::Global;
+use std::marker::Model;
+use std::sync::ledger::Ledger;
+use sx_base::atom::Atom;
+use sx_base::fault::Stop;
+use sx_base::items::Items;
+use sx_base::library::LibName;
+use sx_base::memory::Memory;
+use sx_base::name::{FrameNo, Label};
+use sx_base::span::Span;
+use sx_base::steps::Steps;
+use sx_base::symbol::Symbol;
+use sx_core::code::Core;
+use sx_core::record::LibRecord;
+use sx_standing::expansion::Expansion;
+use sx_syntax::syn::Syn;
+
+/// The state of one library's expansion, and whether a call was refused. After a refusal it is of no use.
+#[derive(Drop)]
+pub struct Expander {
+    state: Expansion,
+    /// The frame of imports and definitions.
+    frame: FrameNo,
+    /// The path of the library's file.
+    path: Symbol,
+    failed: bool,
+}
+
+impl Model for Expander {
+    ghost use Rattle.sx_expand.specs.Expanding.{Expanding, expanding_code};
+
+    ghost Value = { Expanding };
+
+    ghost coded = { expanding_code };
+
+    ghost view = { λ e. record { state = e.state; frame = e.frame; path = e.path; failed = e.failed } };
+}
+
+impl Expander {
+    /// An expander for a library. The records before it stand among the earlier ones at the places chosen;
+    /// the imports are names with their labels. Records that bind one label twice, or a label or frame of
+    /// this library, are refused as want of memory is.
+    pub fn new(
+        alloc: Global,
+        name: LibName,
+        path: Symbol,
+        earlier: &[LibRecord],
+        chosen: &[usize],
+        imports: &[(Symbol, Label)],
+    ) -> Result<Expander, Stop>
+        ensures { Gives (λ e. e) result (Ok (ready name path (records_at earlier.now chosen.now) imports.now)) }
+    {
+        match begun(alloc, name, path, earlier, chosen, imports) {
+            Ok(expander) => Ok(expander),
+            Err(memory) => Err(Stop::from(memory)),
+        }
+    }
+
+    /// Whether a call was refused. It takes no memory.
+    pub fn failed(&self) -> bool
+        ensures { result ≡ self.now.failed }
+    {
+        self.failed
+    }
+
+    /// What an expression expands to. A form without a span stands at the place.
+    pub fn expression<N: Ledger>(
+        &mut self,
+        form: &Syn,
+        place: &Span,
+        level: u32,
+        nodes: &mut Steps<N>,
+    ) -> Result<Core, Stop>
+        requires { self.old.failed ≡ false }
+        ensures given { GivesAfter (λ c. c) result self.new.state (expression place.now level form.now self.old.state) }
+        ensures ok { OnOk result (self.new.failed ≡ false) }
+        ensures err { OnErr result (self.new.failed ≡ true) }
+    {
+        match expression(&mut self.state, form, place, level, 0, nodes, ROOM) {
+            Ok(core) => Ok(core),
+            Err(stop) => {
+                self.failed = true;
+                Err(stop)
+            }
+        }
+    }
+
+    /// What the body of a procedure at a place expands to.
+    pub fn body<N: Ledger>(
+        &mut self,
+        forms: &[Syn],
+        place: &Span,
+        level: u32,
+        nodes: &mut Steps<N>,
+    ) -> Result<Core, Stop>
+        requires { self.old.failed ≡ false }
+        ensures given { GivesAfter (λ c. c) result self.new.state (lambda_body place.now level forms.now self.old.state) }
+        ensures ok { OnOk result (self.new.failed ≡ false) }
+        ensures err { OnErr result (self.new.failed ≡ true) }
+    {
+        match lambda_body(&mut self.state, forms, place, level, nodes) {
+            Ok(core) => Ok(core),
+            Err(stop) => {
+                self.failed = true;
+                Err(stop)
+            }
+        }
+    }
+
+    /// The record of a library or program with this body. The exports are external names, each with the
+    /// identifier that it stands for.
+    pub fn top<N: Ledger>(
+        self,
+        forms: &[Syn],
+        place: &Span,
+        exports: &[(Symbol, Syn)],
+        version: Items<u64>,
+        nodes: &mut Steps<N>,
+    ) -> Result<LibRecord, Stop>
+        requires { self.failed ≡ false }
+        ensures { Gives (λ r. r) result (library_record self version place.now exports.now forms.now) }
+    {
+        let mut state = self.state;
+        match body_of(self.path, version, self.frame, place) {
+            Ok(at) => top(&mut state, at, exports, forms, nodes),
+            Err(memory) => Err(Stop::from(memory)),
+        }
+    }
+}
+
+#[tactic(auto, unfolding(sx_standing::specs::Start::started))]
+fn begun(
+    alloc: Global,
+    name: LibName,
+    path: Symbol,
+    earlier: &[LibRecord],
+    chosen: &[usize],
+    imports: &[(Symbol, Label)],
+) -> Result<Expander, Memory>
+    ensures { IfOk result (λ e. e ≡ ready name path (records_at earlier.now chosen.now) imports.now) }
+{
+    let state = Expansion::start(alloc, name, earlier, chosen, imports)?;
+    let frame = state.first_frame()?;
+    Ok(Expander {
+        state,
+        frame,
+        path,
+        failed: false,
+    })
+}
+
+fn body_of(path: Symbol, version: Items<u64>, frame: FrameNo, place: &Span) -> Result<TopAt, Memory>
+    ensures { IfOk result (λ at. at ≡ record { path = path; version = version; frame = frame; place = place.now }) }
+{
+    let place = place.share()?;
+    Ok(TopAt {
+        path,
+        version,
+        frame,
+        place,
+    })
+}
+
+fn lambda_body<N: Ledger>(
+    state: &mut Expansion,
+    forms: &[Syn],
+    place: &Span,
+    level: u32,
+    nodes: &mut Steps<N>,
+) -> Result<Core, Stop>
+    ensures { GivesAfter (λ c. c) result state.new (lambda_body place.now level forms.now state.old) }
+{
+    let nowhere = Syn::atom(state.alloc(), Atom::Nil)?;
+    body(state, &nowhere, forms, place, level, 0, nodes, ROOM)
+}

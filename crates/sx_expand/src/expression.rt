@@ -1,0 +1,573 @@
+//! Expressions (R6RS 10 and 11).
+
+ghost use Rattle.std.specs.Prelude.{◌≡◌, ◌∷◌, [], IfOk, map, true};
+ghost use Rattle.sx_base.specs.Act.{GivesAfter};
+ghost use Rattle.sx_core.specs.Core.{procedure};
+ghost use Rattle.sx_core.specs.CoreView.{cases};
+ghost use Rattle.sx_tree.specs.Changes.{stamp};
+ghost use Rattle.sx_expand.specs.Body.{sequence_of};
+ghost use Rattle.sx_expand.specs.Expression.{inside, form_at, perform, in_order, lambda, case_lambda, all_cases, lambda_case, letrec_form, all_inits, one_init, application, conditional, alternate, set, in_sequence};
+
+use crate::body::body;
+use crate::inside::{MOST_ROUND, deeper};
+use std::alloc::Global;
+use std::rc::Rc;
+use std::sync::ledger::Ledger;
+use sx_base::fault::{FaultKind, Stop};
+use sx_base::items::Items;
+use sx_base::memory::Memory;
+use sx_base::name::{CodeNo, FrameNo, Label};
+use sx_base::span::Span;
+use sx_base::steps::Steps;
+use sx_core::code::{Code, Core, CoreNode, Init, Lambda};
+use sx_heads::plan::{Plan, plan_of};
+use sx_shapes::shape::{BindingSpec, FormalIds, LambdaCase};
+use sx_standing::binders::BoundSpec;
+use sx_standing::expansion::Expansion;
+use sx_syntax::syn::Syn;
+
+/// A sequence of one is that one.
+#[tactic(auto, using(crate::proofs::Bodies::only_one, crate::proofs::Bodies::not_one))]
+pub(crate) fn sequence_of(parts: Vec<Core>) -> Core
+    ensures { result ≡ sequence_of parts.items }
+{
+    let mut parts = parts;
+    if parts.len() == 1 {
+        if let Some(only) = parts.pop() {
+            return only;
+        }
+    }
+    Core {
+        node: CoreNode::Seq(parts),
+    }
+}
+
+/// A procedure of one case.
+pub(crate) fn procedure_of_case(alloc: Global, number: CodeNo, case: Lambda) -> Result<Core, Memory>
+    ensures { IfOk result (λ c. c ≡ procedure number (cases (case ∷ [])) true) }
+{
+    let mut cases = Vec::new(alloc);
+    cases.push(case)?;
+    let code = Rc::new(
+        alloc,
+        Code {
+            number,
+            cases,
+            plain: true,
+        },
+    )?;
+    Ok(Core {
+        node: CoreNode::Lambda(code),
+    })
+}
+
+/// The forms, each stamped with a frame.
+pub(crate) fn stamp_all<N: Ledger>(
+    alloc: Global,
+    frame: &FrameNo,
+    forms: &[Syn],
+    nodes: &mut Steps<N>,
+) -> Result<Items<Syn>, Memory>
+    ensures { IfOk result (λ xs. xs ≡ map (stamp frame.now) forms.now) }
+{
+    let mut all = Items::new(alloc);
+    for form in forms {
+        let frame = frame.share()?;
+        let form = form.stamp(alloc, frame, nodes)?;
+        all.push(form)?;
+    }
+    Ok(all)
+}
+
+/// A form with so much room for the forms in it.
+#[cycle(form)]
+#[tactic(auto, using(crate::proofs::Steps::form_step, crate::proofs::Steps::form_too_deep))]
+pub fn expression<N: Ledger>(
+    state: &mut Expansion,
+    form: &Syn,
+    place: &Span,
+    level: u32,
+    depth: u16,
+    nodes: &mut Steps<N>,
+    room: u16,
+) -> Result<Core, Stop>
+    ensures { GivesAfter (λ c. c) result state.new ((inside room).form place.now level depth form.now state.old) }
+{
+    if room == 0 {
+        return Err(state.fault_form(FaultKind::TooDeep, form, place));
+    }
+    form_at(state, form, place, level, depth, nodes, room - 1)
+}
+
+#[cycle(form)]
+#[tactic(auto, unfolding(crate::specs::Expression::form_at))]
+fn form_at<N: Ledger>(
+    state: &mut Expansion,
+    form: &Syn,
+    place: &Span,
+    level: u32,
+    depth: u16,
+    nodes: &mut Steps<N>,
+    room: u16,
+) -> Result<Core, Stop>
+    ensures { GivesAfter (λ c. c) result state.new (form_at (inside room) place.now level depth form.now state.old) }
+{
+    if depth > MOST_ROUND {
+        return Err(state.fault_form(FaultKind::TooDeep, form, place));
+    }
+    let plan = plan_of(state, form, place, level)?;
+    perform(state, form, plan, place, level, depth, nodes, room)
+}
+
+#[cycle(form)]
+#[tactic(auto, unfolding(crate::specs::Expression::perform))]
+fn perform<N: Ledger>(
+    state: &mut Expansion,
+    form: &Syn,
+    plan: Plan,
+    place: &Span,
+    level: u32,
+    depth: u16,
+    nodes: &mut Steps<N>,
+    room: u16,
+) -> Result<Core, Stop>
+    ensures { GivesAfter (λ c. c) result state.new (perform (inside room) place.now level depth form.now plan state.old) }
+{
+    let inner = deeper(depth);
+    match plan {
+        Plan::Done(core) => Ok(core),
+        Plan::Call(operator, operands) => {
+            application(
+                state,
+                &operator,
+                operands.as_slice(),
+                place,
+                level,
+                inner,
+                nodes,
+                room,
+            )
+        }
+        Plan::Conditional(test, consequent, other) => {
+            conditional(
+                state,
+                &test,
+                &consequent,
+                &other,
+                place,
+                level,
+                inner,
+                nodes,
+                room,
+            )
+        }
+        Plan::Assignment(label, value) => set(
+            state, label, &value, place, level, inner, nodes, room,
+        ),
+        Plan::Sequence(forms) => in_sequence(
+            state,
+            forms.as_slice(),
+            place,
+            level,
+            inner,
+            nodes,
+            room,
+        ),
+        Plan::Lambda(ids, forms) => lambda(
+            state,
+            form,
+            &ids,
+            forms.as_slice(),
+            place,
+            level,
+            inner,
+            nodes,
+            room,
+        ),
+        Plan::CaseLambda(cases) => case_lambda(
+            state,
+            form,
+            cases.as_slice(),
+            place,
+            level,
+            inner,
+            nodes,
+            room,
+        ),
+        Plan::Letrec(star, specs, forms) => letrec_form(
+            state,
+            form,
+            star,
+            specs.as_slice(),
+            forms.as_slice(),
+            place,
+            level,
+            inner,
+            nodes,
+            room,
+        ),
+    }
+}
+
+/// The operator and the operands, from left to right.
+#[cycle(form)]
+#[tactic(auto, unfolding(crate::specs::Expression::application))]
+fn application<N: Ledger>(
+    state: &mut Expansion,
+    operator: &Syn,
+    operands: &[Syn],
+    place: &Span,
+    level: u32,
+    depth: u16,
+    nodes: &mut Steps<N>,
+    room: u16,
+) -> Result<Core, Stop>
+    ensures { GivesAfter (λ c. c) result state.new (application (inside room) place.now level depth operator.now operands.now state.old) }
+{
+    let operator = expression(state, operator, place, level, depth, nodes, room)?;
+    let operands = in_order(state, operands, place, level, depth, nodes, room)?;
+    let operator = Box::new(state.alloc(), operator)?;
+    Ok(Core {
+        node: CoreNode::App(operator, operands),
+    })
+}
+
+#[cycle(form)]
+#[tactic(auto, unfolding(crate::specs::Expression::conditional))]
+fn conditional<N: Ledger>(
+    state: &mut Expansion,
+    test: &Syn,
+    consequent: &Syn,
+    other: &Option<Syn>,
+    place: &Span,
+    level: u32,
+    depth: u16,
+    nodes: &mut Steps<N>,
+    room: u16,
+) -> Result<Core, Stop>
+    ensures { GivesAfter (λ c. c) result state.new (conditional (inside room) place.now level depth test.now consequent.now other.now state.old) }
+{
+    let test = expression(state, test, place, level, depth, nodes, room)?;
+    let consequent = expression(state, consequent, place, level, depth, nodes, room)?;
+    alternate(
+        state, test, consequent, other, place, level, depth, nodes, room,
+    )
+}
+
+#[cycle(form)]
+fn alternate<N: Ledger>(
+    state: &mut Expansion,
+    test: Core,
+    consequent: Core,
+    other: &Option<Syn>,
+    place: &Span,
+    level: u32,
+    depth: u16,
+    nodes: &mut Steps<N>,
+    room: u16,
+) -> Result<Core, Stop>
+    ensures { GivesAfter (λ c. c) result state.new (alternate (inside room) place.now level depth test consequent other.now state.old) }
+{
+    let test = Box::new(state.alloc(), test)?;
+    let consequent = Box::new(state.alloc(), consequent)?;
+    match other {
+        None => Ok(Core {
+            node: CoreNode::If(test, consequent, None),
+        }),
+        Some(other) => {
+            let other = expression(state, other, place, level, depth, nodes, room)?;
+            let other = Box::new(state.alloc(), other)?;
+            Ok(Core {
+                node: CoreNode::If(test, consequent, Some(other)),
+            })
+        }
+    }
+}
+
+#[cycle(form)]
+#[tactic(auto, unfolding(crate::specs::Expression::set))]
+fn set<N: Ledger>(
+    state: &mut Expansion,
+    label: Label,
+    value: &Syn,
+    place: &Span,
+    level: u32,
+    depth: u16,
+    nodes: &mut Steps<N>,
+    room: u16,
+) -> Result<Core, Stop>
+    ensures { GivesAfter (λ c. c) result state.new (set (inside room) place.now level depth label value.now state.old) }
+{
+    let value = expression(state, value, place, level, depth, nodes, room)?;
+    let value = Box::new(state.alloc(), value)?;
+    Ok(Core {
+        node: CoreNode::Set(label, value),
+    })
+}
+
+#[cycle(form)]
+#[tactic(auto, unfolding(crate::specs::Expression::in_sequence))]
+fn in_sequence<N: Ledger>(
+    state: &mut Expansion,
+    forms: &[Syn],
+    place: &Span,
+    level: u32,
+    depth: u16,
+    nodes: &mut Steps<N>,
+    room: u16,
+) -> Result<Core, Stop>
+    ensures { GivesAfter (λ c. c) result state.new (in_sequence (inside room) place.now level depth forms.now state.old) }
+{
+    let parts = in_order(state, forms, place, level, depth, nodes, room)?;
+    Ok(sequence_of(parts))
+}
+
+#[cycle(form)]
+fn in_order<N: Ledger>(
+    state: &mut Expansion,
+    forms: &[Syn],
+    place: &Span,
+    level: u32,
+    depth: u16,
+    nodes: &mut Steps<N>,
+    room: u16,
+) -> Result<Vec<Core>, Stop>
+    ensures { GivesAfter (λ c. c.items) result state.new (in_order (inside room) place.now level depth forms.now state.old) }
+{
+    let mut done = Vec::new(state.alloc());
+    for form in forms {
+        let core = expression(state, form, place, level, depth, nodes, room)?;
+        done.push(core)?;
+    }
+    Ok(done)
+}
+
+#[cycle(form)]
+#[tactic(auto, unfolding(crate::specs::Expression::lambda))]
+fn lambda<N: Ledger>(
+    state: &mut Expansion,
+    form: &Syn,
+    ids: &FormalIds,
+    forms: &[Syn],
+    place: &Span,
+    level: u32,
+    depth: u16,
+    nodes: &mut Steps<N>,
+    room: u16,
+) -> Result<Core, Stop>
+    ensures { GivesAfter (λ c. c) result state.new (lambda (inside room) place.now level depth form.now ids.now forms.now state.old) }
+{
+    let number = CodeNo(state.fresh()?);
+    let case = lambda_case(state, form, ids, forms, place, level, depth, nodes, room)?;
+    Ok(procedure_of_case(state.alloc(), number, case)?)
+}
+
+#[cycle(form)]
+#[tactic(auto, unfolding(crate::specs::Expression::case_lambda))]
+fn case_lambda<N: Ledger>(
+    state: &mut Expansion,
+    form: &Syn,
+    cases: &[LambdaCase],
+    place: &Span,
+    level: u32,
+    depth: u16,
+    nodes: &mut Steps<N>,
+    room: u16,
+) -> Result<Core, Stop>
+    ensures { GivesAfter (λ c. c) result state.new (case_lambda (inside room) place.now level depth form.now cases.now state.old) }
+{
+    let number = CodeNo(state.fresh()?);
+    let cases = all_cases(state, form, cases, place, level, depth, nodes, room)?;
+    let code = Rc::new(
+        state.alloc(),
+        Code {
+            number,
+            cases,
+            plain: false,
+        },
+    )?;
+    Ok(Core {
+        node: CoreNode::Lambda(code),
+    })
+}
+
+#[cycle(form)]
+fn all_cases<N: Ledger>(
+    state: &mut Expansion,
+    form: &Syn,
+    cases: &[LambdaCase],
+    place: &Span,
+    level: u32,
+    depth: u16,
+    nodes: &mut Steps<N>,
+    room: u16,
+) -> Result<Vec<Lambda>, Stop>
+    ensures { GivesAfter (λ c. c.items) result state.new (all_cases (inside room) place.now level depth form.now cases.now state.old) }
+{
+    let mut done = Vec::new(state.alloc());
+    for case in cases {
+        let one = lambda_case(
+            state,
+            form,
+            &case.formals,
+            case.body.as_slice(),
+            place,
+            level,
+            depth,
+            nodes,
+            room,
+        )?;
+        done.push(one)?;
+    }
+    Ok(done)
+}
+
+/// A case of a procedure: its formals have a frame, and so has its body.
+#[cycle(form)]
+#[tactic(auto, unfolding(crate::specs::Expression::lambda_case))]
+pub fn lambda_case<N: Ledger>(
+    state: &mut Expansion,
+    form: &Syn,
+    ids: &FormalIds,
+    forms: &[Syn],
+    place: &Span,
+    level: u32,
+    depth: u16,
+    nodes: &mut Steps<N>,
+    room: u16,
+) -> Result<Lambda, Stop>
+    ensures { GivesAfter (λ c. c) result state.new (lambda_case (inside room) place.now level depth form.now ids.now forms.now state.old) }
+{
+    let frame = state.fresh_frame()?;
+    let formals = state.bind_formals(&frame, place, level, ids)?;
+    let forms = stamp_all(state.alloc(), &frame, forms, nodes)?;
+    let body = body(
+        state,
+        form,
+        forms.as_slice(),
+        place,
+        level,
+        depth,
+        nodes,
+        room,
+    )?;
+    Ok(Lambda { formals, body })
+}
+
+/// As `lambda_case`, of a procedure that a definition binds.
+#[cycle(form)]
+#[tactic(auto, using(crate::proofs::Steps::procedure_step, crate::proofs::Steps::procedure_too_deep))]
+pub fn procedure<N: Ledger>(
+    state: &mut Expansion,
+    form: &Syn,
+    ids: &FormalIds,
+    forms: &[Syn],
+    place: &Span,
+    level: u32,
+    depth: u16,
+    nodes: &mut Steps<N>,
+    room: u16,
+) -> Result<Lambda, Stop>
+    ensures { GivesAfter (λ c. c) result state.new ((inside room).procedure place.now level depth form.now ids.now forms.now state.old) }
+{
+    if room == 0 {
+        return Err(state.fault_form(FaultKind::TooDeep, form, place));
+    }
+    lambda_case(
+        state,
+        form,
+        ids,
+        forms,
+        place,
+        level,
+        depth,
+        nodes,
+        room - 1,
+    )
+}
+
+#[cycle(form)]
+#[tactic(auto, unfolding(crate::specs::Expression::letrec_form))]
+fn letrec_form<N: Ledger>(
+    state: &mut Expansion,
+    form: &Syn,
+    star: bool,
+    specs: &[BindingSpec],
+    forms: &[Syn],
+    place: &Span,
+    level: u32,
+    depth: u16,
+    nodes: &mut Steps<N>,
+    room: u16,
+) -> Result<Core, Stop>
+    ensures { GivesAfter (λ c. c) result state.new (letrec_form (inside room) place.now level depth form.now star specs.now forms.now state.old) }
+{
+    let frame = state.fresh_frame()?;
+    let bound = state.bind_specs(&frame, place, level, specs)?;
+    let inits = all_inits(
+        state,
+        &frame,
+        bound.as_slice(),
+        place,
+        level,
+        depth,
+        nodes,
+        room,
+    )?;
+    let forms = stamp_all(state.alloc(), &frame, forms, nodes)?;
+    let body = body(
+        state,
+        form,
+        forms.as_slice(),
+        place,
+        level,
+        depth,
+        nodes,
+        room,
+    )?;
+    let body = Box::new(state.alloc(), body)?;
+    Ok(Core {
+        node: CoreNode::Letrec(star, inits, body),
+    })
+}
+
+#[cycle(form)]
+fn all_inits<N: Ledger>(
+    state: &mut Expansion,
+    frame: &FrameNo,
+    bound: &[BoundSpec],
+    place: &Span,
+    level: u32,
+    depth: u16,
+    nodes: &mut Steps<N>,
+    room: u16,
+) -> Result<Vec<Init>, Stop>
+    ensures { GivesAfter (λ c. c.items) result state.new (all_inits (inside room) place.now level depth frame.now bound.now state.old) }
+{
+    let mut done = Vec::new(state.alloc());
+    for one in bound {
+        let init = one_init(state, frame, one, place, level, depth, nodes, room)?;
+        done.push(init)?;
+    }
+    Ok(done)
+}
+
+#[cycle(form)]
+#[tactic(auto, unfolding(crate::specs::Expression::one_init))]
+fn one_init<N: Ledger>(
+    state: &mut Expansion,
+    frame: &FrameNo,
+    bound: &BoundSpec,
+    place: &Span,
+    level: u32,
+    depth: u16,
+    nodes: &mut Steps<N>,
+    room: u16,
+) -> Result<Init, Stop>
+    ensures { GivesAfter (λ i. i) result state.new (one_init (inside room) place.now level depth frame.now bound.now state.old) }
+{
+    let form = bound.init.stamp(state.alloc(), frame.share()?, nodes)?;
+    let value = expression(state, &form, place, level, depth, nodes, room)?;
+    let label = bound.label.share()?;
+    Ok(Init { label, value })
+}

@@ -1,0 +1,282 @@
+//! The body of a library or program (R6RS 7.1 and 8), and the record that comes of it.
+
+ghost use Rattle.std.specs.Prelude.{◌≡◌, [], IfOk, OnOk};
+ghost use Rattle.sx_base.specs.Act.{GivesAfter};
+ghost use Rattle.sx_base.specs.Gives.{Gives};
+ghost use Rattle.sx_expand.specs.Expression.{inside};
+ghost use Rattle.sx_expand.specs.Top.{export, all_exports, exports, has_library, with_label_of, with_labels_of, code_of, with_lines_of, refs_of, record_of, record_in, kind_of, body_at, first_pass, finished, top};
+
+use crate::body::{finish_all, splice};
+use crate::expression::stamp_all;
+use crate::inside::ROOM;
+use std::alloc::Global;
+use std::sync::ledger::Ledger;
+use sx_base::fault::{FaultKind, Stop};
+use sx_base::items::Items;
+use sx_base::library::LibName;
+use sx_base::memory::Memory;
+use sx_base::name::{FrameNo, Label};
+use sx_base::span::Span;
+use sx_base::steps::Steps;
+use sx_base::symbol::Symbol;
+use sx_core::code::Core;
+use sx_core::record::{LibRecord, Line};
+use sx_core::references::references;
+use sx_heads::kept::KeptHeads;
+use sx_heads::taken::{BodyAt, BodyKind, Taken};
+use sx_standing::expansion::Expansion;
+use sx_syntax::syn::Syn;
+
+/// What a body of a library or program has besides its forms.
+#[derive(Drop)]
+pub struct TopAt {
+    /// The path of the file.
+    pub path: Symbol,
+    pub version: Items<u64>,
+    /// The frame of imports and definitions.
+    pub frame: FrameNo,
+    /// Where a form without a span stands.
+    pub place: Span,
+}
+
+/// The label that an export stands for, with its external name.
+#[tactic(auto, unfolding(crate::specs::Top::export))]
+fn export<N: Ledger>(
+    state: &mut Expansion,
+    at: &TopAt,
+    external: &Symbol,
+    id: &Syn,
+    nodes: &mut Steps<N>,
+) -> Result<(Symbol, Label), Stop>
+    ensures { GivesAfter (λ e. e) result state.new (export at.now (external.now, id.now) state.old) }
+{
+    let id = id.stamp(state.alloc(), at.frame.share()?, nodes)?;
+    match state.stands(&id)? {
+        None => Err(state.fault_word(FaultKind::ExportUnbound, &id, &id, &at.place)),
+        Some(label) => Ok((external.share()?, label)),
+    }
+}
+
+fn all_exports<N: Ledger>(
+    state: &mut Expansion,
+    at: &TopAt,
+    list: &[(Symbol, Syn)],
+    nodes: &mut Steps<N>,
+) -> Result<Items<(Symbol, Label)>, Stop>
+    ensures { GivesAfter (λ es. es) result state.new (all_exports at.now list.now state.old) }
+{
+    let mut done = Items::new(state.alloc());
+    for (external, id) in list {
+        let one = export(state, at, external, id, nodes)?;
+        done.push(one)?;
+    }
+    Ok(done)
+}
+
+/// The exports, which are looked for between the two passes.
+#[tactic(auto, unfolding(crate::specs::Top::exports))]
+fn exports<N: Ledger>(
+    state: &mut Expansion,
+    at: &TopAt,
+    list: &[(Symbol, Syn)],
+    nodes: &mut Steps<N>,
+) -> Result<Items<(Symbol, Label)>, Stop>
+    ensures { GivesAfter (λ es. es) result state.new (exports at.now list.now state.old) }
+{
+    let done = all_exports(state, at, list, nodes)?;
+    state.export_labels(done.as_slice())?;
+    Ok(done)
+}
+
+fn share_symbols(alloc: Global, symbols: &[Symbol]) -> Result<Items<Symbol>, Memory>
+    ensures { IfOk result (λ xs. xs ≡ symbols.now) }
+{
+    let mut all = Items::new(alloc);
+    for symbol in symbols {
+        let symbol = symbol.share()?;
+        all.push(symbol)?;
+    }
+    Ok(all)
+}
+
+fn share_library(alloc: Global, library: &LibName) -> Result<LibName, Memory>
+    ensures { IfOk result (λ l. l ≡ library.now) }
+{
+    match library {
+        LibName::Core => Ok(LibName::Core),
+        LibName::Derived => Ok(LibName::Derived),
+        LibName::Prelude => Ok(LibName::Prelude),
+        LibName::Program => Ok(LibName::Program),
+        LibName::User(parts) => {
+            let parts = share_symbols(alloc, parts.as_slice())?;
+            Ok(LibName::User(parts))
+        }
+    }
+}
+
+fn has_library(libraries: &[LibName], library: &LibName) -> bool
+    ensures { result ≡ has_library libraries.now library.now }
+{
+    for other in libraries {
+        if *library == *other {
+            return true;
+        }
+    }
+    false
+}
+
+fn add_label(
+    alloc: Global,
+    own: &LibName,
+    done: &mut Items<LibName>,
+    label: &Label,
+) -> Result<(), Memory>
+    ensures { OnOk result (done.new ≡ with_label_of own.now done.old label.now) }
+{
+    if *label.0.library == *own {
+        return Ok(());
+    }
+    if has_library(done.as_slice(), &label.0.library) {
+        return Ok(());
+    }
+    let library = share_library(alloc, &label.0.library)?;
+    done.push(library)
+}
+
+fn add_labels(
+    alloc: Global,
+    own: &LibName,
+    done: &mut Items<LibName>,
+    labels: &[Label],
+) -> Result<(), Memory>
+    ensures { OnOk result (done.new ≡ with_labels_of own.now done.old labels.now) }
+{
+    for label in labels {
+        add_label(alloc, own, done, label)?;
+    }
+    Ok(())
+}
+
+fn code_of(line: &Line) -> &Core
+    ensures { result.now ≡ code_of line.now }
+{
+    match line {
+        Line::Define(_, core) => core,
+        Line::Expr(core) => core,
+    }
+}
+
+/// The other libraries whose variables the lines mention, each once in order of first place.
+fn refs_of(alloc: Global, own: &LibName, lines: &[Line]) -> Result<Items<LibName>, Memory>
+    ensures { IfOk result (λ ks. ks ≡ refs_of own.now lines.now) }
+{
+    let mut done = Items::new(alloc);
+    for line in lines {
+        let labels = references(alloc, code_of(line))?;
+        add_labels(alloc, own, &mut done, labels.as_slice())?;
+    }
+    Ok(done)
+}
+
+fn record_of(
+    state: &mut Expansion,
+    at: TopAt,
+    exports: Items<(Symbol, Label)>,
+    lines: Vec<Line>,
+) -> Result<LibRecord, Memory>
+    ensures { IfOk result (λ r. r ≡ record_of at exports lines.items state.old) }
+{
+    let alloc = state.alloc();
+    let name = share_library(alloc, state.library())?;
+    let refs = refs_of(alloc, &name, lines.as_slice())?;
+    let frames = state.own_rows()?;
+    let bindings = state.own_bindings()?;
+    Ok(LibRecord {
+        path: at.path,
+        name,
+        version: at.version,
+        exports,
+        bindings,
+        frames,
+        run: Items::from_vec(lines),
+        refs,
+    })
+}
+
+fn kind_of(library: &LibName) -> BodyKind
+    ensures { result ≡ kind_of library.now }
+{
+    match library {
+        LibName::Core => BodyKind::Library,
+        LibName::Derived => BodyKind::Library,
+        LibName::Prelude => BodyKind::Library,
+        LibName::Program => BodyKind::Program,
+        LibName::User(_) => BodyKind::Library,
+    }
+}
+
+/// What comes after the first pass.
+#[tactic(auto, unfolding(crate::specs::Top::finished))]
+fn finished<N: Ledger>(
+    state: &mut Expansion,
+    at: TopAt,
+    list: &[(Symbol, Syn)],
+    taken: &Taken,
+    nodes: &mut Steps<N>,
+) -> Result<LibRecord, Stop>
+    ensures { Gives (λ r. r) result (record_in (finished (inside 602) at list.now taken.now state.old)) }
+{
+    let exports = exports(state, &at, list, nodes)?;
+    let lines = finish_all(state, taken.waiting.as_slice(), 0, nodes, ROOM)?;
+    Ok(record_of(state, at, exports, lines)?)
+}
+
+fn body_at(state: &Expansion, at: &TopAt) -> Result<BodyAt, Memory>
+    ensures { IfOk result (λ b. b ≡ body_at at.now state.now.library) }
+{
+    let frame = at.frame.share()?;
+    let place = at.place.share()?;
+    let kind = kind_of(state.library());
+    Ok(BodyAt {
+        frame,
+        place,
+        level: 0,
+        kind,
+    })
+}
+
+/// The first pass over the body of a library or program.
+#[tactic(auto, unfolding(crate::specs::Top::first_pass))]
+fn first_pass<N: Ledger>(
+    state: &mut Expansion,
+    at: &TopAt,
+    forms: &[Syn],
+    nodes: &mut Steps<N>,
+) -> Result<Taken, Stop>
+    ensures { GivesAfter (λ t. t) result state.new (first_pass (inside 602) at.now forms.now state.old) }
+{
+    let forms = stamp_all(state.alloc(), &at.frame, forms, nodes)?;
+    let body = body_at(state, at)?;
+    let mut taken = Taken {
+        waiting: Items::new(state.alloc()),
+        kept: KeptHeads::new(state.alloc()),
+        has_expression: false,
+    };
+    splice(state, &body, 0, &mut taken, forms.as_slice(), nodes, ROOM)?;
+    Ok(taken)
+}
+
+/// The body of a library or program: its record. Nothing is known of the state that is left.
+#[tactic(auto, unfolding(crate::specs::Top::top))]
+pub fn top<N: Ledger>(
+    state: &mut Expansion,
+    at: TopAt,
+    list: &[(Symbol, Syn)],
+    forms: &[Syn],
+    nodes: &mut Steps<N>,
+) -> Result<LibRecord, Stop>
+    ensures { Gives (λ r. r) result (record_in (top (inside 602) at list.now forms.now state.old)) }
+{
+    let taken = first_pass(state, &at, forms, nodes)?;
+    finished(state, at, list, &taken, nodes)
+}

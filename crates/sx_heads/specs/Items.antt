@@ -1,0 +1,158 @@
+-- Forms of a body (R6RS 10 and 11.3), in the first of two passes: what each adds to what was taken before it.
+use Rattle.std.specs.Prelude.{ℕ, Bool, true, false, ◌&&◌, not, List, [], ◌∷◌, ◌++◌, Option, None, Some, Result, Ok, Err, if◌then◌else◌}
+use Rattle.sx_base.specs.Act.{after, give}
+use Rattle.sx_base.specs.declared.fault.Fault.{Fault}
+use Rattle.sx_base.specs.declared.fault.FaultKind.TheVariants as kind
+use Rattle.sx_base.specs.declared.name.Label.{Label}
+use Rattle.sx_tree.specs.Tree.{Tree, atom, leaf, pair, vector}
+use Rattle.sx_scope.specs.Stands.{stands, symbol_of}
+use Rattle.sx_core.specs.Labels.{same_label}
+use Rattle.sx_core.specs.declared.core_form.CoreForm.{CoreForm}
+use Rattle.sx_shapes.specs.Lists.{is_leaf}
+use Rattle.sx_shapes.specs.Forms.{shape}
+use Rattle.sx_shapes.specs.declared.shape.Shape.{Shape}
+use Rattle.sx_shapes.specs.declared.shape.Shape.TheVariants as shapes
+use Rattle.sx_standing.specs.State.{State, Does, fault_form, fault_word}
+use Rattle.sx_standing.specs.Standing.{standing_of, label_standing, is_keyword_standing, role_of}
+use Rattle.sx_standing.specs.Binders.{bind_variable}
+use Rattle.sx_heads.specs.Kept.{heads_of, with_head}
+use Rattle.sx_standing.specs.declared.standing.Standing.{Standing}
+use Rattle.sx_standing.specs.declared.standing.Standing.TheVariants as standing
+use Rattle.sx_standing.specs.declared.standing.Role.{Role}
+use Rattle.sx_standing.specs.declared.standing.Role.TheVariants as role
+use Rattle.sx_heads.specs.declared.taken.BodyAt.{BodyAt}
+use Rattle.sx_heads.specs.declared.taken.BodyKind.{BodyKind}
+use Rattle.sx_heads.specs.declared.taken.BodyKind.TheVariants as body_kind
+use Rattle.sx_heads.specs.declared.taken.KeptHead.{KeptHead}
+use Rattle.sx_heads.specs.declared.taken.Taken.{Taken}
+use Rattle.sx_heads.specs.declared.taken.Waiting.{Waiting}
+use Rattle.sx_heads.specs.declared.taken.Waits.{Waits}
+use Rattle.sx_heads.specs.declared.taken.Waits.TheVariants as waits
+
+-- no form was taken
+abbrev pub begun : Taken
+begun = record { waiting = []; kept = []; has_expression = false }
+
+abbrev pub waiting_at : BodyAt → ℕ → Waits → Waiting
+waiting_at at depth what = record { place = at.place; depth = depth; what = what }
+
+-- an expression waits for the second pass
+abbrev pub wait : BodyAt → ℕ → Taken → Tree → Does Taken
+wait at depth done t = give (record { waiting = done.waiting ++ waiting_at at depth (waits.Expression t) ∷ []; kept = done.kept; has_expression = true })
+
+-- a head is kept with the label that it stands for now
+abbrev pub kept_head : State → Tree → KeptHead
+kept_head s id = record { symbol = symbol_of id; leaf = id; label = stands s.frames id }
+
+unfoldable pub keep : Taken → Tree → Does Taken
+keep done id s = Ok (record { waiting = done.waiting; kept = with_head done.kept (kept_head s id); has_expression = done.has_expression }, s)
+
+abbrev pub same_standing : Option Label → Option Label → Bool
+same_standing None None = true
+same_standing None (Some m) = false
+same_standing (Some l) None = false
+same_standing (Some l) (Some m) = same_label l m
+
+abbrev pub is_keyword_label : State → Option Label → Bool
+is_keyword_label s None = false
+is_keyword_label s (Some l) = is_keyword_standing (label_standing s l)
+
+-- whether a head stood for a keyword and stands for another label now
+unfoldable pub is_changed : State → KeptHead → Bool
+is_changed s k = if is_keyword_label s k.label then not (same_standing (stands s.frames k.leaf) k.label) else false
+
+abbrev pub any_changed : State → List KeptHead → Bool
+any_changed s [] = false
+any_changed s (k ∷ ks) = if is_changed s k then true else any_changed s ks
+
+-- a program mixes definitions and expressions; elsewhere definitions come first
+abbrev pub is_mixed : BodyKind → Bool
+is_mixed body_kind.Lambda = false
+is_mixed body_kind.Library = false
+is_mixed body_kind.Program = true
+
+abbrev pub is_top : BodyKind → Bool
+is_top body_kind.Lambda = false
+is_top body_kind.Library = true
+is_top body_kind.Program = true
+
+abbrev pub with_waiting : BodyAt → ℕ → Taken → Waits → Taken
+with_waiting at depth done what = record { waiting = done.waiting ++ waiting_at at depth what ∷ []; kept = done.kept; has_expression = done.has_expression }
+
+-- a definition must not change what a head before it stands for; only heads of its symbol can be changed
+unfoldable pub settle : BodyAt → Taken → Tree → Label → Does Label
+settle at done id l s = if any_changed s (heads_of (symbol_of id) done.kept) then fault_word kind.LateDefinition id id at.place s else Ok (l, s)
+
+unfoldable pub define : BodyAt → Taken → Tree → Tree → Does Label
+define at done t id s =
+    if done.has_expression && not (is_mixed at.kind) then fault_form kind.DefinitionPlace t at.place s
+    else after (bind_variable at.frame at.place at.level (is_top at.kind) id s) (settle at done id)
+
+unfoldable pub define_item : BodyAt → ℕ → Taken → Tree → Shape → Does Taken
+define_item at depth done t (shapes.Define id value) s = after (define at done t id s) (λ l. give (with_waiting at depth done (waits.Variable l value)))
+define_item at depth done t (shapes.DefineProcedure id ids forms) s = after (define at done t id s) (λ l. give (with_waiting at depth done (waits.Procedure l t ids forms)))
+define_item at depth done t x s = fault_form kind.BadForm t at.place s
+
+-- the target of an assignment is kept, too
+abbrev pub set_item : BodyAt → ℕ → Taken → Tree → Result Shape Fault → Does Taken
+set_item at depth done t (Ok (shapes.Set id value)) s = after (keep done id s) (λ kept. wait at depth kept t)
+set_item at depth done t (Ok x) s = wait at depth done t s
+set_item at depth done t (Err e) s = wait at depth done t s
+
+-- What comes of a form: what was taken with it, and for a `begin` its forms, which are forms of the body.
+abbrev pub Taking : Type 0
+Taking = Does (Taken × Option (List Tree))
+
+abbrev pub alone : Does Taken → Taking
+alone m s = after (m s) (λ done. give (done, None))
+
+unfoldable pub begin_item : BodyAt → Taken → Tree → Shape → Taking
+begin_item at done t (shapes.Begin forms) s = Ok ((done, Some forms), s)
+begin_item at done t x s = fault_form kind.BadForm t at.place s
+
+abbrev pub with_shape : Result Shape Fault → (Shape → Taking) → Taking
+with_shape (Err e) k s = Err e
+with_shape (Ok x) k s = k x s
+
+abbrev pub item_by : BodyAt → ℕ → Taken → Tree → CoreForm → Role → Taking
+item_by at depth done t f role.Expression = alone (wait at depth done t)
+item_by at depth done t f role.Assignment = alone (set_item at depth done t (shape f t at.place))
+item_by at depth done t f role.Sequence = with_shape (shape f t at.place) (begin_item at done t)
+item_by at depth done t f role.Definition = with_shape (shape f t at.place) (λ x. alone (define_item at depth done t x))
+item_by at depth done t f role.Keywords = fault_form kind.NotBuilt t at.place
+item_by at depth done t f role.Record = fault_form kind.NotBuilt t at.place
+item_by at depth done t f role.RecordValue = alone (wait at depth done t)
+item_by at depth done t f role.Auxiliary = alone (wait at depth done t)
+
+unfoldable pub core_item : BodyAt → ℕ → Taken → Tree → CoreForm → Taking
+core_item at depth done t f = item_by at depth done t f (role_of f)
+
+abbrev pub headed_item : BodyAt → ℕ → Taken → Tree → Standing → Taking
+headed_item at depth done t standing.Nothing = alone (wait at depth done t)
+headed_item at depth done t (standing.Variable v) = alone (wait at depth done t)
+headed_item at depth done t standing.PatternVariable = alone (wait at depth done t)
+headed_item at depth done t (standing.Primitive op) = alone (wait at depth done t)
+headed_item at depth done t (standing.Core f) = core_item at depth done t f
+headed_item at depth done t standing.Keyword = fault_form kind.NotBuilt t at.place
+
+unfoldable pub list_item : BodyAt → ℕ → Taken → Tree → Tree → Taking
+list_item at depth done t head s =
+    if is_leaf head then after (keep done head s) (λ kept s'. headed_item at depth kept t (standing_of s' head) s')
+    else alone (wait at depth done t) s
+
+abbrev pub leaf_by : BodyAt → ℕ → Taken → Tree → Standing → Does Taken
+leaf_by at depth done t standing.Nothing = wait at depth done t
+leaf_by at depth done t (standing.Variable v) = wait at depth done t
+leaf_by at depth done t standing.PatternVariable = wait at depth done t
+leaf_by at depth done t (standing.Primitive op) = wait at depth done t
+leaf_by at depth done t (standing.Core f) = wait at depth done t
+leaf_by at depth done t standing.Keyword = fault_form kind.NotBuilt t at.place
+
+unfoldable pub leaf_item : BodyAt → ℕ → Taken → Tree → Does Taken
+leaf_item at depth done t s = after (keep done t s) (λ kept s'. leaf_by at depth kept t (standing_of s' t) s')
+
+abbrev pub item_plan : BodyAt → ℕ → Taken → Tree → Taking
+item_plan at depth done (atom s a) = alone (wait at depth done (atom s a))
+item_plan at depth done (leaf s x c) = alone (leaf_item at depth done (leaf s x c))
+item_plan at depth done (pair s a d) = list_item at depth done (pair s a d) a
+item_plan at depth done (vector s d) = alone (wait at depth done (vector s d))

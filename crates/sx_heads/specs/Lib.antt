@@ -1,0 +1,4 @@
+pub mod Kept
+pub mod Plan
+pub mod Items
+pub mod KeptLaws

@@ -1,0 +1,147 @@
+-- What is to be done with a form: what its head stands for decides (R6RS 10 and 11). Nothing in it is expanded yet.
+use Rattle.std.specs.Prelude.{ℕ, ◌+◌, Bool, true, false, nat_eq, List, [], ◌∷◌, ◌++◌, Option, None, Some, Result, Ok, Err, if◌then◌else◌}
+use Rattle.sx_base.specs.Act.{after, give}
+use Rattle.sx_base.specs.declared.fault.Fault.{Fault}
+use Rattle.sx_base.specs.declared.fault.FaultKind.TheVariants as kind
+use Rattle.sx_base.specs.declared.name.Label.{Label}
+use Rattle.sx_base.specs.declared.span.Span.{Span}
+use Rattle.sx_tree.specs.Tree.{Tree, atom, leaf, pair, vector}
+use Rattle.sx_tree.specs.Leaves.{strip}
+use Rattle.sx_core.specs.Core.{PlainCore, quoted, variable, primitive}
+use Rattle.sx_core.specs.Labels.{has_label}
+use Rattle.sx_core.specs.declared.core_form.CoreForm.{CoreForm}
+use Rattle.sx_core.specs.declared.core_form.CoreForm.TheVariants as core_forms
+use Rattle.sx_shapes.specs.Lists.{is_leaf, is_nil_atom, proper_elements}
+use Rattle.sx_shapes.specs.Forms.{shape}
+use Rattle.sx_shapes.specs.declared.shape.Shape.{Shape}
+use Rattle.sx_shapes.specs.declared.shape.Shape.TheVariants as shapes
+use Rattle.sx_standing.specs.State.{Does, fault_form, fault_word}
+use Rattle.sx_standing.specs.Own.{mark_assigned}
+use Rattle.sx_standing.specs.Standing.{standing_of, role_of}
+use Rattle.sx_standing.specs.declared.standing.Standing.{Standing}
+use Rattle.sx_standing.specs.declared.standing.Standing.TheVariants as standing
+use Rattle.sx_standing.specs.declared.standing.Variable.{Variable}
+use Rattle.sx_standing.specs.declared.standing.Role.{Role}
+use Rattle.sx_standing.specs.declared.standing.Role.TheVariants as role
+use Rattle.sx_heads.specs.declared.plan.Plan.{Plan}
+use Rattle.sx_heads.specs.declared.plan.Plan.TheVariants as plans
+
+abbrev pub done : PlainCore → Does Plan
+done c = give (plans.Done c)
+
+-- References. A variable is in scope at its own level; a variable of another library at every level, if that defines it
+-- at its top level and doesn't assign it.
+
+unfoldable pub variable_at : Span → ℕ → Tree → Variable → Does Plan
+variable_at place level id v s =
+    if v.own then (if nat_eq v.level level then done (variable v.label) s else fault_word kind.OutOfContext id id place s)
+    else if v.top then (if v.assigned then fault_word kind.AssignedElsewhere id id place s else done (variable v.label) s)
+    else fault_word kind.OutOfContext id id place s
+
+abbrev pub refer : Span → ℕ → Tree → Standing → Does Plan
+refer place level id standing.Nothing = fault_word kind.Unbound id id place
+refer place level id (standing.Variable v) = variable_at place level id v
+refer place level id standing.PatternVariable = fault_word kind.KeywordMisuse id id place
+refer place level id (standing.Primitive op) = done (primitive op)
+refer place level id (standing.Core f) = fault_word kind.KeywordMisuse id id place
+refer place level id standing.Keyword = fault_form kind.NotBuilt id place
+
+unfoldable pub reference : Span → ℕ → Tree → Does Plan
+reference place level id s = refer place level id (standing_of s id) s
+
+-- a constant stands for itself; the empty list is no expression
+abbrev pub constant : Span → Tree → Bool → Does Plan
+constant place t is_nil s = if is_nil then fault_form kind.BadForm t place s else done (quoted (strip t)) s
+
+-- Assignments. The target is looked at before the value.
+
+unfoldable pub target_variable : Span → ℕ → Tree → Tree → Variable → Does Label
+target_variable place level t id v s =
+    if v.own then (if nat_eq v.level level then (if has_label s.exports v.label then fault_word kind.AssignedExport id t place s else mark_assigned v.label s)
+    else fault_word kind.OutOfContext id id place s)
+    else if v.top then (if has_label s.exports v.label then fault_word kind.AssignedExport id t place s else fault_word kind.AssignedImport id t place s)
+    else fault_word kind.OutOfContext id id place s
+
+abbrev pub target_by : Span → ℕ → Tree → Tree → Standing → Does Label
+target_by place level t id standing.Nothing = fault_word kind.Unbound id t place
+target_by place level t id (standing.Variable v) = target_variable place level t id v
+target_by place level t id standing.PatternVariable = fault_word kind.KeywordMisuse id id place
+target_by place level t id (standing.Primitive op) = fault_word kind.AssignedImport id t place
+target_by place level t id (standing.Core f) = fault_word kind.KeywordMisuse id t place
+target_by place level t id standing.Keyword = fault_word kind.KeywordMisuse id t place
+
+unfoldable pub target : Span → ℕ → Tree → Tree → Does Label
+target place level t id s = target_by place level t id (standing_of s id) s
+
+abbrev pub assign_to : Tree → Label → Does Plan
+assign_to value l = give (plans.Assignment l value)
+
+unfoldable pub assign : Span → ℕ → Tree → Tree → Tree → Does Plan
+assign place level t id value s = after (target place level t id s) (assign_to value)
+
+abbrev pub call_of : Span → Tree → Tree → Option (List Tree) → Does Plan
+call_of place t operator None = fault_form kind.BadForm t place
+call_of place t operator (Some operands) = give (plans.Call operator operands)
+
+-- the operator and the rest, which must be a list
+unfoldable pub application : Span → Tree → Tree → Tree → Does Plan
+application place t operator rest = call_of place t operator (proper_elements rest)
+
+abbrev pub in_sequence : Span → Tree → List Tree → Does Plan
+in_sequence place t [] = fault_form kind.NoExpression t place
+in_sequence place t (x ∷ xs) = give (plans.Sequence (x ∷ xs))
+
+abbrev pub is_star : CoreForm → Bool
+is_star core_forms.LetrecStar = true
+is_star _ = false
+
+-- by the shape of a core form
+unfoldable pub shape_plan : Span → ℕ → Tree → CoreForm → Shape → Does Plan
+shape_plan place level t f (shapes.Quote datum) = done (quoted (strip datum))
+shape_plan place level t f (shapes.Lambda ids forms) = give (plans.Lambda ids forms)
+shape_plan place level t f (shapes.CaseLambda cs) = give (plans.CaseLambda cs)
+shape_plan place level t f (shapes.If test consequent other) = give (plans.Conditional test consequent other)
+shape_plan place level t f (shapes.Set id value) = assign place level t id value
+shape_plan place level t f (shapes.Begin forms) = in_sequence place t forms
+shape_plan place level t f (shapes.Letrec bs forms) = give (plans.Letrec (is_star f) bs forms)
+shape_plan place level t f (shapes.Define id value) = fault_form kind.DefinitionPlace t place
+shape_plan place level t f (shapes.DefineProcedure id ids forms) = fault_form kind.DefinitionPlace t place
+shape_plan place level t f (shapes.DefineSyntax id value) = fault_form kind.NotBuilt t place
+shape_plan place level t f (shapes.LetSyntax bs forms) = fault_form kind.NotBuilt t place
+shape_plan place level t f (shapes.Operand operand) = fault_form kind.NotBuilt t place
+shape_plan place level t f (shapes.SyntaxCase subject literals clauses) = fault_form kind.NotBuilt t place
+
+abbrev pub with_shape : Span → ℕ → Tree → CoreForm → Result Shape Fault → Does Plan
+with_shape place level t f (Err e) s = Err e
+with_shape place level t f (Ok x) s = shape_plan place level t f x s
+
+abbrev pub by_role : Span → ℕ → Tree → Tree → CoreForm → Role → Does Plan
+by_role place level t head f role.Expression = with_shape place level t f (shape f t place)
+by_role place level t head f role.Assignment = with_shape place level t f (shape f t place)
+by_role place level t head f role.Sequence = with_shape place level t f (shape f t place)
+by_role place level t head f role.Definition = with_shape place level t f (shape f t place)
+by_role place level t head f role.Keywords = with_shape place level t f (shape f t place)
+by_role place level t head f role.Record = fault_form kind.NotBuilt t place
+by_role place level t head f role.RecordValue = fault_form kind.NotBuilt t place
+by_role place level t head f role.Auxiliary = fault_word kind.KeywordMisuse head head place
+
+unfoldable pub keyword_plan : Span → ℕ → Tree → Tree → CoreForm → Does Plan
+keyword_plan place level t head f = by_role place level t head f (role_of f)
+
+abbrev pub by_head : Span → ℕ → Tree → Tree → Tree → Standing → Does Plan
+by_head place level t head rest standing.Nothing = application place t head rest
+by_head place level t head rest (standing.Variable v) = application place t head rest
+by_head place level t head rest standing.PatternVariable = application place t head rest
+by_head place level t head rest (standing.Primitive op) = application place t head rest
+by_head place level t head rest (standing.Core f) = keyword_plan place level t head f
+by_head place level t head rest standing.Keyword = fault_form kind.NotBuilt t place
+
+-- a list with one or more elements
+unfoldable pub list_plan : Span → ℕ → Tree → Tree → Tree → Does Plan
+list_plan place level t head rest s = if is_leaf head then by_head place level t head rest (standing_of s head) s else application place t head rest s
+
+abbrev pub plan_of : Span → ℕ → Tree → Does Plan
+plan_of place level (atom s a) = constant place (atom s a) (is_nil_atom a)
+plan_of place level (leaf s x c) = reference place level (leaf s x c)
+plan_of place level (pair s a d) = list_plan place level (pair s a d) a d
+plan_of place level (vector s d) = fault_form kind.BadForm (vector s d) place

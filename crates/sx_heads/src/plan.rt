@@ -1,0 +1,354 @@
+//! What is to be done with a form.
+
+ghost use Rattle.std.specs.Prelude.{◌≡◌, ◌∷◌, []};
+ghost use Rattle.sx_base.specs.Act.{GivesAfter, give};
+ghost use Rattle.sx_core.specs.Core.{variable, quoted};
+ghost use Rattle.sx_core.specs.CoreView.{seen};
+ghost use Rattle.sx_shapes.specs.Forms.{shape};
+ghost use Rattle.sx_shapes.specs.Lists.{is_nil_atom};
+ghost use Rattle.sx_tree.specs.Leaves.{strip};
+ghost use Rattle.sx_heads.specs.declared.plan.Plan.TheVariants as plans;
+ghost use Rattle.sx_heads.specs.Plan.{done, plan_of, list_plan, by_head, keyword_plan, with_shape, shape_plan, application, in_sequence, assign, is_star, reference, refer, variable_at, constant, target, target_by, target_variable};
+
+use sx_base::atom::Atom;
+use sx_base::fault::{FaultKind, Stop};
+use sx_base::items::Items;
+use sx_base::name::Label;
+use sx_base::span::Span;
+use sx_core::code::{Core, CoreNode};
+use sx_core::core_form::CoreForm;
+use sx_shapes::forms::shape;
+use sx_shapes::lists::{is_id, is_nil_atom, proper};
+use sx_shapes::shape::{BindingSpec, FormalIds, LambdaCase, Shape};
+use sx_standing::expansion::Expansion;
+use sx_standing::standing::{Role, Standing, Variable, role_of};
+use sx_syntax::syn::{Opened, Syn};
+
+/// What is to be done with a form.
+#[derive(Drop)]
+pub enum Plan {
+    /// It is core code already.
+    Done(Core),
+    /// The operator and the operands.
+    Call(Syn, Items<Syn>),
+    /// The test, the consequent and the alternate.
+    Conditional(Syn, Syn, Option<Syn>),
+    Assignment(Label, Syn),
+    /// One or more expressions.
+    Sequence(Items<Syn>),
+    Lambda(FormalIds, Items<Syn>),
+    CaseLambda(Items<LambdaCase>),
+    /// Of `letrec*` where the flag is true.
+    Letrec(bool, Items<BindingSpec>, Items<Syn>),
+}
+
+/// Whether it is `letrec*`.
+fn is_star(form: CoreForm) -> bool
+    ensures { result ≡ is_star form }
+{
+    matches!(form, CoreForm::LetrecStar)
+}
+
+fn done(state: &Expansion, node: CoreNode) -> Result<Plan, Stop>
+    ensures { GivesAfter (λ p. p) result state.now (done (seen node) state.now) }
+{
+    Ok(Plan::Done(Core { node }))
+}
+
+fn quotation(state: &Expansion, datum: &Syn) -> Result<Plan, Stop>
+    ensures { GivesAfter (λ p. p) result state.now (done (quoted (strip datum.now)) state.now) }
+{
+    let datum = datum.strip(state.alloc())?;
+    done(state, CoreNode::Quote(datum))
+}
+
+fn constant(state: &Expansion, form: &Syn, atom: &Atom, place: &Span) -> Result<Plan, Stop>
+    ensures { GivesAfter (λ p. p) result state.now (constant place.now form.now (is_nil_atom atom.now) state.now) }
+{
+    if is_nil_atom(atom) {
+        return Err(state.fault_form(FaultKind::BadForm, form, place));
+    }
+    quotation(state, form)
+}
+
+fn mention(state: &Expansion, label: &Label) -> Result<Plan, Stop>
+    ensures { GivesAfter (λ p. p) result state.now (done (variable label.now) state.now) }
+{
+    let label = label.share()?;
+    done(state, CoreNode::Ref(label))
+}
+
+#[tactic(auto, unfolding(crate::specs::Plan::variable_at))]
+fn variable_at(
+    state: &Expansion,
+    id: &Syn,
+    variable: &Variable,
+    place: &Span,
+    level: u32,
+) -> Result<Plan, Stop>
+    ensures { GivesAfter (λ p. p) result state.now (variable_at place.now level id.now variable.now state.now) }
+{
+    if variable.own {
+        if variable.level == level {
+            return mention(state, &variable.label);
+        }
+        return Err(state.fault_word(FaultKind::OutOfContext, id, id, place));
+    }
+    if variable.top {
+        if variable.assigned {
+            return Err(state.fault_word(FaultKind::AssignedElsewhere, id, id, place));
+        }
+        return mention(state, &variable.label);
+    }
+    Err(state.fault_word(FaultKind::OutOfContext, id, id, place))
+}
+
+fn refer(
+    state: &Expansion,
+    id: &Syn,
+    standing: &Standing,
+    place: &Span,
+    level: u32,
+) -> Result<Plan, Stop>
+    ensures { GivesAfter (λ p. p) result state.now (refer place.now level id.now standing.now state.now) }
+{
+    match standing {
+        Standing::Nothing => Err(state.fault_word(FaultKind::Unbound, id, id, place)),
+        Standing::Variable(variable) => variable_at(state, id, variable, place, level),
+        Standing::PatternVariable => Err(state.fault_word(FaultKind::KeywordMisuse, id, id, place)),
+        Standing::Primitive(op) => done(state, CoreNode::Prim(*op)),
+        Standing::Core(_) => Err(state.fault_word(FaultKind::KeywordMisuse, id, id, place)),
+        Standing::Keyword => Err(state.fault_form(FaultKind::NotBuilt, id, place)),
+    }
+}
+
+#[tactic(auto, unfolding(crate::specs::Plan::reference))]
+fn reference(state: &mut Expansion, id: &Syn, place: &Span, level: u32) -> Result<Plan, Stop>
+    ensures { GivesAfter (λ p. p) result state.new (reference place.now level id.now state.old) }
+{
+    let standing = state.standing(id)?;
+    refer(state, id, &standing, place, level)
+}
+
+#[tactic(auto, unfolding(crate::specs::Plan::target_variable))]
+fn target_variable(
+    state: &mut Expansion,
+    form: &Syn,
+    id: &Syn,
+    variable: &Variable,
+    place: &Span,
+    level: u32,
+) -> Result<Label, Stop>
+    ensures { GivesAfter (λ l. l) result state.new (target_variable place.now level form.now id.now variable.now state.old) }
+{
+    if variable.own {
+        if variable.level != level {
+            return Err(state.fault_word(FaultKind::OutOfContext, id, id, place));
+        }
+        if state.has_export(&variable.label) {
+            return Err(state.fault_word(FaultKind::AssignedExport, id, form, place));
+        }
+        return state.mark_assigned(&variable.label);
+    }
+    if !variable.top {
+        return Err(state.fault_word(FaultKind::OutOfContext, id, id, place));
+    }
+    if state.has_export(&variable.label) {
+        return Err(state.fault_word(FaultKind::AssignedExport, id, form, place));
+    }
+    Err(state.fault_word(FaultKind::AssignedImport, id, form, place))
+}
+
+fn target_by(
+    state: &mut Expansion,
+    form: &Syn,
+    id: &Syn,
+    standing: &Standing,
+    place: &Span,
+    level: u32,
+) -> Result<Label, Stop>
+    ensures { GivesAfter (λ l. l) result state.new (target_by place.now level form.now id.now standing.now state.old) }
+{
+    match standing {
+        Standing::Nothing => Err(state.fault_word(FaultKind::Unbound, id, form, place)),
+        Standing::Variable(variable) => target_variable(state, form, id, variable, place, level),
+        Standing::PatternVariable => Err(state.fault_word(FaultKind::KeywordMisuse, id, id, place)),
+        Standing::Primitive(_) => Err(state.fault_word(FaultKind::AssignedImport, id, form, place)),
+        Standing::Core(_) => Err(state.fault_word(FaultKind::KeywordMisuse, id, form, place)),
+        Standing::Keyword => Err(state.fault_word(FaultKind::KeywordMisuse, id, form, place)),
+    }
+}
+
+#[tactic(auto, unfolding(crate::specs::Plan::target))]
+fn target(
+    state: &mut Expansion,
+    form: &Syn,
+    id: &Syn,
+    place: &Span,
+    level: u32,
+) -> Result<Label, Stop>
+    ensures { GivesAfter (λ l. l) result state.new (target place.now level form.now id.now state.old) }
+{
+    let standing = state.standing(id)?;
+    target_by(state, form, id, &standing, place, level)
+}
+
+#[tactic(auto, unfolding(crate::specs::Plan::assign))]
+fn assign(
+    state: &mut Expansion,
+    form: &Syn,
+    id: &Syn,
+    value: Syn,
+    place: &Span,
+    level: u32,
+) -> Result<Plan, Stop>
+    ensures { GivesAfter (λ p. p) result state.new (assign place.now level form.now id.now value state.old) }
+{
+    let label = target(state, form, id, place, level)?;
+    Ok(Plan::Assignment(label, value))
+}
+
+#[tactic(auto, unfolding(crate::specs::Plan::application))]
+fn application(
+    state: &Expansion,
+    form: &Syn,
+    head: &Syn,
+    rest: &Syn,
+    place: &Span,
+) -> Result<Plan, Stop>
+    ensures { GivesAfter (λ p. p) result state.now (application place.now form.now head.now rest.now state.now) }
+{
+    match proper(state.alloc(), rest)? {
+        Some(operands) => Ok(Plan::Call(head.share()?, operands)),
+        None => Err(state.fault_form(FaultKind::BadForm, form, place)),
+    }
+}
+
+fn in_sequence(state: &Expansion, form: &Syn, forms: Items<Syn>, place: &Span) -> Result<Plan, Stop>
+    ensures { GivesAfter (λ p. p) result state.now (in_sequence place.now form.now forms state.now) }
+{
+    if forms.as_slice().is_empty() {
+        return Err(state.fault_form(FaultKind::NoExpression, form, place));
+    }
+    Ok(Plan::Sequence(forms))
+}
+
+#[tactic(auto, unfolding(crate::specs::Plan::shape_plan))]
+fn shape_plan(
+    state: &mut Expansion,
+    form: &Syn,
+    which: CoreForm,
+    shape: Shape,
+    place: &Span,
+    level: u32,
+) -> Result<Plan, Stop>
+    ensures { GivesAfter (λ p. p) result state.new (shape_plan place.now level form.now which shape state.old) }
+{
+    match shape {
+        Shape::Quote(datum) => quotation(state, &datum),
+        Shape::Lambda(ids, forms) => Ok(Plan::Lambda(ids, forms)),
+        Shape::CaseLambda(cases) => Ok(Plan::CaseLambda(cases)),
+        Shape::If(test, consequent, other) => Ok(Plan::Conditional(test, consequent, other)),
+        Shape::Set(id, value) => assign(state, form, &id, value, place, level),
+        Shape::Begin(forms) => in_sequence(state, form, forms, place),
+        Shape::Letrec(specs, forms) => Ok(Plan::Letrec(is_star(which), specs, forms)),
+        Shape::Define(_, _) => Err(state.fault_form(FaultKind::DefinitionPlace, form, place)),
+        Shape::DefineProcedure(_, _, _) => Err(state.fault_form(
+            FaultKind::DefinitionPlace,
+            form,
+            place,
+        )),
+        Shape::DefineSyntax(_, _) => Err(state.fault_form(FaultKind::NotBuilt, form, place)),
+        Shape::LetSyntax(_, _) => Err(state.fault_form(FaultKind::NotBuilt, form, place)),
+        Shape::Operand(_) => Err(state.fault_form(FaultKind::NotBuilt, form, place)),
+        Shape::SyntaxCase(_, _, _) => Err(state.fault_form(FaultKind::NotBuilt, form, place)),
+    }
+}
+
+fn shaped_plan(
+    state: &mut Expansion,
+    form: &Syn,
+    which: CoreForm,
+    place: &Span,
+    level: u32,
+) -> Result<Plan, Stop>
+    ensures { GivesAfter (λ p. p) result state.new (with_shape place.now level form.now which (shape which form.now place.now) state.old) }
+{
+    let shape = shape(state.alloc(), form, which, place)?;
+    shape_plan(state, form, which, shape, place, level)
+}
+
+#[tactic(auto, unfolding(crate::specs::Plan::keyword_plan))]
+fn keyword_plan(
+    state: &mut Expansion,
+    form: &Syn,
+    head: &Syn,
+    which: CoreForm,
+    place: &Span,
+    level: u32,
+) -> Result<Plan, Stop>
+    ensures { GivesAfter (λ p. p) result state.new (keyword_plan place.now level form.now head.now which state.old) }
+{
+    match role_of(which) {
+        Role::Expression => shaped_plan(state, form, which, place, level),
+        Role::Assignment => shaped_plan(state, form, which, place, level),
+        Role::Sequence => shaped_plan(state, form, which, place, level),
+        Role::Definition => shaped_plan(state, form, which, place, level),
+        Role::Keywords => shaped_plan(state, form, which, place, level),
+        Role::Record => Err(state.fault_form(FaultKind::NotBuilt, form, place)),
+        Role::RecordValue => Err(state.fault_form(FaultKind::NotBuilt, form, place)),
+        Role::Auxiliary => Err(state.fault_word(FaultKind::KeywordMisuse, head, head, place)),
+    }
+}
+
+fn by_head(
+    state: &mut Expansion,
+    form: &Syn,
+    head: &Syn,
+    rest: &Syn,
+    standing: &Standing,
+    place: &Span,
+    level: u32,
+) -> Result<Plan, Stop>
+    ensures { GivesAfter (λ p. p) result state.new (by_head place.now level form.now head.now rest.now standing.now state.old) }
+{
+    match standing {
+        Standing::Nothing => application(state, form, head, rest, place),
+        Standing::Variable(_) => application(state, form, head, rest, place),
+        Standing::PatternVariable => application(state, form, head, rest, place),
+        Standing::Primitive(_) => application(state, form, head, rest, place),
+        Standing::Core(which) => keyword_plan(state, form, head, *which, place, level),
+        Standing::Keyword => Err(state.fault_form(FaultKind::NotBuilt, form, place)),
+    }
+}
+
+#[tactic(auto, unfolding(crate::specs::Plan::list_plan))]
+fn list_plan(
+    state: &mut Expansion,
+    form: &Syn,
+    head: &Syn,
+    rest: &Syn,
+    place: &Span,
+    level: u32,
+) -> Result<Plan, Stop>
+    ensures { GivesAfter (λ p. p) result state.new (list_plan place.now level form.now head.now rest.now state.old) }
+{
+    if !is_id(state.alloc(), head)? {
+        return application(state, form, head, rest, place);
+    }
+    let standing = state.standing(head)?;
+    by_head(state, form, head, rest, &standing, place, level)
+}
+
+/// What is to be done with a form.
+#[tactic(auto, using(crate::proofs::Levels::plan_leaf, crate::proofs::Levels::plan_atom, crate::proofs::Levels::plan_pair, crate::proofs::Levels::plan_vector))]
+pub fn plan_of(state: &mut Expansion, form: &Syn, place: &Span, level: u32) -> Result<Plan, Stop>
+    ensures { GivesAfter (λ p. p) result state.new (plan_of place.now level form.now state.old) }
+{
+    match form.open(state.alloc())? {
+        Opened::Symbol(_) => reference(state, form, place, level),
+        Opened::Atom(atom) => constant(state, form, &atom, place),
+        Opened::Pair(head, rest) => list_plan(state, form, &head, &rest, place, level),
+        Opened::Vector(_) => Err(state.fault_form(FaultKind::BadForm, form, place)),
+    }
+}

@@ -1,0 +1,64 @@
+//! What the first pass over a body leaves for the second.
+
+use crate::kept::KeptHeads;
+use sx_base::items::Items;
+use sx_base::name::{FrameNo, Label};
+use sx_base::span::Span;
+use sx_base::symbol::Symbol;
+use sx_shapes::shape::FormalIds;
+use sx_syntax::syn::Syn;
+
+/// What has the body.
+#[derive(Clone, Copy, PartialEq, Eq)]
+pub enum BodyKind {
+    /// A procedure, or a `letrec`.
+    Lambda,
+    Library,
+    Program,
+}
+
+/// Where the forms of a body stand.
+#[derive(Drop)]
+pub struct BodyAt {
+    /// The frame that the definitions bind in.
+    pub frame: FrameNo,
+    /// Where a form without a span stands.
+    pub place: Span,
+    pub level: u32,
+    pub kind: BodyKind,
+}
+
+/// What waits.
+#[derive(Drop)]
+pub enum Waits {
+    /// A variable, and the form of its value where there is one.
+    Variable(Label, Option<Syn>),
+    /// A procedure: its variable, its whole definition, its formals and the forms of its body.
+    Procedure(Label, Syn, FormalIds, Items<Syn>),
+    Expression(Syn),
+}
+
+/// What waits, with the place and the depth of its form.
+#[derive(Drop)]
+pub struct Waiting {
+    pub place: Span,
+    pub depth: u16,
+    pub what: Waits,
+}
+
+/// An identifier that was the head of a form of the body, or such a form itself, or the target of an
+/// assignment, with its symbol and with the label that it stood for then.
+#[derive(Drop)]
+pub struct KeptHead {
+    pub symbol: Symbol,
+    pub leaf: Syn,
+    pub label: Option<Label>,
+}
+
+/// What was taken of a body so far.
+#[derive(Drop)]
+pub struct Taken {
+    pub waiting: Items<Waiting>,
+    pub kept: KeptHeads,
+    pub has_expression: bool,
+}

@@ -1,0 +1,7 @@
+use Rattle.std.proofs.Common.{◌≡◌, [], drop}
+use Rattle.sx_import.specs.Turns.{turns}
+use Rattle.sx_library.specs.Imports.{import_into}
+use Rattle.sx_library.proofs.imports.import_all.Given as goal
+
+abbrev pub invariant-loop-import : goal.invariant-loop-import
+invariant-loop-import l = turns import_into l.names (drop l.import-index l.imports) ≡ turns import_into [] l.imports

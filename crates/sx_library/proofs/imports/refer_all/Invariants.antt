@@ -1,0 +1,7 @@
+use Rattle.std.proofs.Common.{◌≡◌, drop}
+use Rattle.sx_import.specs.Turns.{turns}
+use Rattle.sx_library.specs.Imports.{refer}
+use Rattle.sx_library.proofs.imports.refer_all.Given as goal
+
+abbrev pub invariant-loop-import : goal.invariant-loop-import
+invariant-loop-import l = turns refer tt (drop l.import-index l.imports) ≡ turns refer tt l.imports

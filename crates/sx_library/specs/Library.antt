@@ -1,0 +1,50 @@
+-- The record of a library or a program, from its form (R6RS 7.1 and 8).
+use Rattle.std.specs.Prelude.{ℕ, List, [], ◌∷◌, ◌++◌, map, Option, None, Some, Result, Ok, Err}
+use Rattle.sx_base.specs.Datum.{PlainDatum, span_of}
+use Rattle.sx_base.specs.Gives.{◌>>=◌}
+use Rattle.sx_base.specs.declared.fault.Bare.{Bare}
+use Rattle.sx_base.specs.declared.fault.Fault.{Fault}
+use Rattle.sx_base.specs.declared.span.Span.{Span}
+use Rattle.sx_tree.specs.Context.{blank}
+use Rattle.sx_tree.specs.Measures.{within}
+use Rattle.sx_tree.specs.Tree.{Tree, leaf}
+use Rattle.sx_tree.specs.Leaves.{tree_of}
+use Rattle.sx_core.specs.declared.record.LibRecord.{LibRecord}
+use Rattle.sx_import.specs.declared.set.NameAt.{NameAt}
+use Rattle.sx_forms.specs.declared.form.LibraryForm.{LibraryForm}
+use Rattle.sx_expand.specs.Expanding.{ready, library_record}
+use Rattle.sx_library.specs.Imports.{form_names}
+
+-- ---- what stands in the file, as syntax trees
+
+abbrev pub span_or : Span → Option Span → Span
+span_or place None = place
+span_or place (Some span) = span
+
+abbrev pub at_datum : Span → PlainDatum → Bare → Fault
+at_datum place d bare = record { kind = bare.kind; span = span_or place (span_of d); words = bare.words }
+
+abbrev pub placed : Span → PlainDatum → Result Tree Bare → Result Tree Fault
+placed place d (Ok t) = Ok t
+placed place d (Err bare) = Err (at_datum place d bare)
+
+-- a datum as a tree, whose symbols are leaves without marks and stamps; one that passes a limit is at fault
+abbrev pub tree_at : Span → PlainDatum → Result Tree Fault
+tree_at place d = placed place d (within (tree_of blank d))
+
+abbrev pub trees_at : Span → List Tree → List PlainDatum → Result (List Tree) Fault
+trees_at place done [] = Ok done
+trees_at place done (d ∷ ds) = tree_at place d >>= (λ t. trees_at place (done ++ t ∷ []) ds)
+
+-- an exported identifier, with its external name
+abbrev pub export_tree : List ℕ × NameAt → List ℕ × Tree
+export_tree e = (e.0, leaf (Some e.1.span) e.1.name blank)
+
+-- ---- the record
+
+-- the names that the form imports, then its body, after these records
+unfoldable pub expand_library : List LibRecord → List ℕ → LibraryForm → List PlainDatum → Result LibRecord Fault
+expand_library records path form body =
+    form_names form.imports >>= (λ names.
+    trees_at form.name_span [] body >>= (λ forms.
+    library_record (ready form.name path records names) form.version form.name_span (map export_tree form.exports) forms))

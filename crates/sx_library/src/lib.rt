@@ -1,0 +1,19 @@
+//! Libraries and programs: from their forms to their records.
+//!
+//! A library or a program imports names (R6RS 7.1), and its body is expanded where these names stand for
+//! what they stand for in the libraries that export them:
+//!
+//! ```text
+//! (import (only (rnrs base) define +))    define and + are imported
+//! (define x 1)                            the body defines a variable x
+//! (+ x 2)                                 and calls +
+//! ```
+//!
+//! The promise: each call gives exactly what its definition gives, or its first fault with its place; only
+//! want of memory is free. First each library that a form imports must be there in a version that fits,
+//! then each name, and then the body is expanded.
+#![tactic(auto)]
+
+pub mod imports;
+pub mod library;
+pub mod program;

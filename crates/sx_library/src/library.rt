@@ -1,0 +1,118 @@
+//! The record of a library or a program.
+
+ghost use Rattle.std.specs.Prelude.{◌≡◌, [], IfOk, map};
+ghost use Rattle.sx_base.specs.Gives.{Gives, StopsWith};
+ghost use Rattle.sx_standing.specs.Start.{records_at};
+ghost use Rattle.sx_library.specs.Library.{at_datum, tree_at, trees_at, export_tree, expand_library};
+
+use crate::imports::form_names;
+use std::alloc::Global;
+use std::sync::ledger::Ledger;
+use sx_base::datum::Datum;
+use sx_base::fault::{Bare, BareStop, Fault, Stop};
+use sx_base::items::Items;
+use sx_base::memory::Memory;
+use sx_base::span::Span;
+use sx_base::steps::Steps;
+use sx_base::symbol::Symbol;
+use sx_core::record::LibRecord;
+use sx_expand::expander::Expander;
+use sx_forms::form::LibraryForm;
+use sx_import::names::rows;
+use sx_import::set::NameAt;
+use sx_import::table::Table;
+use sx_syntax::syn::Syn;
+use sx_tree::marks::Marks;
+
+/// The record of a library or a program, from its form and the data of its body. The records before it
+/// stand among `records` at the places `chosen`. First each library that it imports must fit, then each
+/// name, and then the body is expanded.
+#[tactic(auto, unfolding(crate::specs::Library::expand_library))]
+pub fn expand_library<N: Ledger>(
+    alloc: Global,
+    records: &[LibRecord],
+    chosen: &[usize],
+    path: &Symbol,
+    form: LibraryForm,
+    body: &[Datum],
+    nodes: &mut Steps<N>,
+) -> Result<LibRecord, Stop>
+    ensures { Gives (λ r. r) result (expand_library (records_at records.now chosen.now) path.now form body.now) }
+{
+    let LibraryForm {
+        name,
+        name_span: place,
+        version,
+        exports,
+        imports,
+    } = form;
+    let names = form_names(alloc, imports.as_slice())?;
+    let forms = trees_at(alloc, &place, body)?;
+    let names = rows(alloc, &names)?;
+    let exports = export_trees(alloc, &exports)?;
+    let path = path.share()?;
+    let expander = Expander::new(alloc, name, path, records, chosen, names.as_slice())?;
+    expander.top(forms.as_slice(), &place, exports.as_slice(), version, nodes)
+}
+
+// The data of a body as syntax trees.
+fn trees_at(alloc: Global, place: &Span, body: &[Datum]) -> Result<Items<Syn>, Stop>
+    ensures { Gives (λ ts. ts) result (trees_at place.now [] body.now) }
+{
+    let mut trees = Items::new(alloc);
+    for datum in body {
+        let tree = tree_at(alloc, place, datum)?;
+        trees.push(tree)?;
+    }
+    Ok(trees)
+}
+
+fn tree_at(alloc: Global, place: &Span, datum: &Datum) -> Result<Syn, Stop>
+    ensures { Gives (λ t. t) result (tree_at place.now datum.now) }
+{
+    match Syn::of_datum(alloc, datum) {
+        Ok(tree) => Ok(tree),
+        Err(BareStop::Fault(bare)) => Err(at_datum(place, datum, bare)),
+        Err(BareStop::Memory) => Err(Stop::Memory),
+    }
+}
+
+fn at_datum(place: &Span, datum: &Datum, bare: Bare) -> Stop
+    ensures { StopsWith result (at_datum place.now datum.now bare) }
+{
+    let span = match datum.span() {
+        Some(span) => span.share(),
+        None => place.share(),
+    };
+    match span {
+        Ok(span) => Stop::Fault(Fault {
+            kind: bare.kind,
+            span,
+            words: bare.words,
+        }),
+        Err(memory) => Stop::from(memory),
+    }
+}
+
+// The exported identifiers, each with its external name.
+fn export_trees(alloc: Global, exports: &Table<NameAt>) -> Result<Items<(Symbol, Syn)>, Memory>
+    ensures { IfOk result (λ es. es ≡ map export_tree exports.now) }
+{
+    let mut trees = Items::new(alloc);
+    for place in 0..exports.size() {
+        let Some((external, internal)) = exports.at(place) else {
+            return Err(Memory);
+        };
+        let tree = export_leaf(alloc, internal)?;
+        trees.push((external.share()?, tree))?;
+    }
+    Ok(trees)
+}
+
+fn export_leaf(alloc: Global, internal: &NameAt) -> Result<Syn, Memory>
+    ensures { IfOk result (λ t. t ≡ (export_tree ([], internal.now)).1) }
+{
+    let span = internal.span.share()?;
+    let marks = Marks::new(alloc);
+    Syn::whole_leaf(alloc, Some(span), &internal.name, marks, Vec::new(alloc))
+}

@@ -1,0 +1,48 @@
+-- What a library itself binds and exports.
+use Rattle.std.specs.Prelude.{ℕ, zero, suc, Bool, List, [], ◌∷◌, ◌++◌, Option, None, Some, Ok}
+use Rattle.sx_base.specs.declared.name.Label.{Label}
+use Rattle.sx_core.specs.Bindings.{bound_to}
+use Rattle.sx_core.specs.Labels.{has_label, with_label}
+use Rattle.sx_core.specs.declared.binding.Binding.{Binding}
+use Rattle.sx_core.specs.declared.binding.Binding.TheVariants as binding
+use Rattle.sx_standing.specs.State.{State, Does}
+
+abbrev pub labels_with : List Label → List (List ℕ × Label) → List Label
+labels_with done [] = done
+labels_with done (e ∷ es) = labels_with (with_label done e.1) es
+
+-- the labels that the library exports, each with its external name
+abbrev pub export_labels : List (List ℕ × Label) → Does (Unit {0})
+export_labels es s = Ok (tt, record s { exports = labels_with [] es })
+
+-- an assignment to a variable of the library
+abbrev pub mark_assigned : Label → Does Label
+mark_assigned l s = Ok (l, record s { assigned = with_label s.assigned l })
+
+-- a variable of the library is assigned where an assignment of the library has it as target
+abbrev pub with_assigned : Bool → Binding → Binding
+with_assigned a (binding.Variable v) = binding.Variable (record v { assigned = a })
+with_assigned a (binding.PatternVariable level depth) = binding.PatternVariable level depth
+with_assigned a (binding.Macro level expression) = binding.Macro level expression
+with_assigned a (binding.Core f) = binding.Core f
+with_assigned a (binding.Primitive op) = binding.Primitive op
+
+abbrev pub row_at : Bool → Label → Option Binding → List (Label × Binding)
+row_at a l None = []
+row_at a l (Some b) = (l, with_assigned a b) ∷ []
+
+abbrev pub own_label : State → ℕ → Label
+own_label s n = record { 0 = record { library = s.names.library; number = n } }
+
+-- what the library's name of this number is bound to, if it is a label
+abbrev pub own_row : State → ℕ → List (Label × Binding)
+own_row s n = row_at (has_label s.assigned (own_label s n)) (own_label s n) (bound_to s.bindings (own_label s n))
+
+-- what the library's names below this number are bound to, rising by number
+abbrev pub own_below : State → ℕ → List (Label × Binding)
+own_below s zero = []
+own_below s (suc n) = own_below s n ++ own_row s n
+
+-- what the library's labels are bound to
+unfoldable pub own_bindings : State → List (Label × Binding)
+own_bindings s = own_below s s.names.number

@@ -1,0 +1,63 @@
+-- The state that the expansion of a library begins with (R6RS 7.1).
+use Rattle.std.specs.Prelude.{ℕ, List, [], ◌∷◌, ◌++◌, Option, None, Some, map, slice_get}
+use Rattle.sx_base.specs.Named.{Named}
+use Rattle.sx_base.specs.declared.library.LibName.{LibName}
+use Rattle.sx_base.specs.declared.name.FrameNo.{FrameNo}
+use Rattle.sx_base.specs.declared.name.Label.{Label}
+use Rattle.sx_tree.specs.declared.frame_row.FrameRow.{FrameRow}
+use Rattle.sx_frames.specs.Scope.{adopted}
+use Rattle.sx_core.specs.declared.binding.Binding.{Binding}
+use Rattle.sx_core.specs.declared.record.LibRecord.{LibRecord}
+use Rattle.sx_standing.specs.State.{State}
+
+abbrev pub or_skip : Option LibRecord → List LibRecord → List LibRecord
+or_skip None rs = rs
+or_skip (Some r) rs = r ∷ rs
+
+-- the records at these places
+abbrev pub records_at : List LibRecord → List ℕ → List LibRecord
+records_at rs [] = []
+records_at rs (i ∷ is) = or_skip (slice_get rs i) (records_at rs is)
+
+abbrev pub bindings_in : Option LibRecord → List (Label × Binding)
+bindings_in None = []
+bindings_in (Some r) = r.bindings
+
+abbrev pub rows_in_record : Option LibRecord → List FrameRow
+rows_in_record None = []
+rows_in_record (Some r) = r.frames
+
+abbrev pub bindings_of : List LibRecord → List (Label × Binding)
+bindings_of [] = []
+bindings_of (r ∷ rs) = r.bindings ++ bindings_of rs
+
+abbrev pub rows_of : List LibRecord → List FrameRow
+rows_of [] = []
+rows_of (r ∷ rs) = r.frames ++ rows_of rs
+
+-- the first name of a library is that of its frame, which holds imports and definitions
+abbrev pub first_name : LibName → Named
+first_name library = record { library = library; number = 0 }
+
+abbrev pub second_name : LibName → Named
+second_name library = record { library = library; number = 1 }
+
+abbrev pub first_frame : LibName → FrameNo
+first_frame library = record { 0 = first_name library }
+
+-- an imported name stands for its label, under no marks
+abbrev pub import_row : FrameNo → List ℕ × Label → FrameRow
+import_row frame n = record { frame = frame; symbol = n.0; marks = []; label = n.1 }
+
+-- what the records before it bind, and the names that it imports; at most 1,000,000 keywords are used
+unfoldable pub started : LibName → List LibRecord → List (List ℕ × Label) → State
+started library records imports = record {
+  library = library;
+  names = second_name library;
+  frames = adopted [] (rows_of records ++ map (import_row (first_frame library)) imports);
+  bindings = bindings_of records;
+  exports = [];
+  assigned = [];
+  uses_left = 1000000;
+  index = 0;
+}

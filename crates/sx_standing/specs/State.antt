@@ -1,0 +1,82 @@
+-- The state of a library's expansion.
+use Rattle.std.specs.Prelude.{ℕ, ◌+◌, ◌<◌, ◌≡◌, List, [], ◌∷◌, Ok, refl}
+use Rattle.std.specs.Coded.{Coded, code_by, coded×, coded_ℕ, coded_list}
+use Rattle.sx_base.specs.Act.{Act, fail}
+use Rattle.sx_base.specs.Named.{Named, named_code}
+use Rattle.sx_base.specs.contracts.library.LibName as libraries
+use Rattle.sx_base.specs.contracts.name.Label as labels
+use Rattle.sx_base.specs.declared.library.LibName.{LibName}
+use Rattle.sx_base.specs.declared.fault.FaultKind.TheVariants as kind
+use Rattle.sx_base.specs.declared.name.Label.{Label}
+use Rattle.sx_base.specs.declared.name.FrameNo.{FrameNo}
+use Rattle.sx_base.specs.declared.span.Span.{Span}
+use Rattle.sx_tree.specs.Tree.{Tree}
+use Rattle.sx_frames.specs.Scope.{Scope, scope_code}
+use Rattle.sx_scope.specs.Stands.{symbol_of}
+use Rattle.sx_core.specs.Bindings.{bindings_code}
+use Rattle.sx_core.specs.declared.binding.Binding.{Binding}
+use Rattle.sx_shapes.specs.At.{fault_at}
+
+-- the library; the next name; what symbols stand for in each frame; what labels are bound to; the labels that the library exports and
+-- the variables that it assigns; how many uses of keywords are left; how many variables were bound at level 0
+pub record State : Type 0 where
+  pub library : LibName
+  pub names : Named
+  pub frames : Scope
+  pub bindings : List (Label × Binding)
+  pub exports : List Label
+  pub assigned : List Label
+  pub uses_left : ℕ
+  pub index : ℕ
+
+-- a code of states, by that of their fields
+abbrev pub Fields : Type 0
+Fields = LibName × (Named × (Scope × (List (Label × Binding) × (List Label × (List Label × (ℕ × ℕ))))))
+
+abbrev pub fields_of : State → Fields
+fields_of s = (s.library, (s.names, (s.frames, (s.bindings, (s.exports, (s.assigned, (s.uses_left, s.index)))))))
+
+abbrev pub of_fields : Fields → State
+of_fields f = record {
+  library = f.0;
+  names = f.1.0;
+  frames = f.1.1.0;
+  bindings = f.1.1.1.0;
+  exports = f.1.1.1.1.0;
+  assigned = f.1.1.1.1.1.0;
+  uses_left = f.1.1.1.1.1.1.0;
+  index = f.1.1.1.1.1.1.1;
+}
+
+abbrev pub labels_code : Coded (List Label)
+labels_code = coded_list labels.the_row.coded
+
+abbrev pub state_code : Coded State
+state_code = code_by Fields
+    (coded× libraries.the_row.coded (coded× named_code (coded× scope_code (coded× bindings_code (coded× labels_code (coded× labels_code (coded× coded_ℕ coded_ℕ)))))))
+    fields_of of_fields (λ _. refl)
+
+abbrev pub Does : Type 0 → Type 0
+Does A = Act State A
+
+-- a name of the library was made if it is below the next one
+abbrev pub IsMade : Named → Named → Type 0
+IsMade next n = n.library ≡ next.library → n.number < next.number
+
+abbrev pub AreMade : Named → List (Label × Binding) → Type 0
+AreMade next [] = Unit {0}
+AreMade next (b ∷ bs) = IsMade next b.0.0 × AreMade next bs
+
+-- the next name of the library, which never comes again
+unfoldable pub fresh : Does Named
+fresh s = Ok (s.names, record s { names = record { library = s.names.library; number = s.names.number + 1 } })
+
+unfoldable pub fresh_frame : Does FrameNo
+fresh_frame s = Ok (record { 0 = s.names }, record s { names = record { library = s.names.library; number = s.names.number + 1 } })
+
+-- a fault at a form, or at one of its identifiers with the identifier's symbol as word
+abbrev pub fault_form : {A : Type 0} → kind.the_data → Tree → Span → Does A
+fault_form kind form place = fail (fault_at kind form place [])
+
+abbrev pub fault_word : {A : Type 0} → kind.the_data → Tree → Tree → Span → Does A
+fault_word kind id form place = fail (fault_at kind form place (symbol_of id ∷ []))

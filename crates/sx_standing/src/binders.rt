@@ -1,0 +1,228 @@
+//! Binding identifiers in frames.
+
+ghost use Rattle.std.specs.Prelude.{◌≡◌, ◌∷◌, ◌++◌, [], IfOk, OnErr, None};
+ghost use Rattle.sx_base.specs.Act.{GivesAfter};
+ghost use Rattle.sx_core.specs.Bindings.{bound_to};
+ghost use Rattle.sx_standing.specs.State.{IsMade};
+ghost use Rattle.sx_standing.specs.Binders.{bind_variable, bind_as, put_row, put_variable, StopsAt, bind_all, bind_rest, bind_spec, bind_specs, bind_formals, variable_for, index_at, next_index};
+
+use crate::expansion::{Expansion, symbol_in};
+use sx_base::fault::{Bare, BareStop, Fault, FaultKind, Stop};
+use sx_base::items::Items;
+use sx_base::memory::Memory;
+use sx_base::name::{FrameNo, Label, Name};
+use sx_base::span::Span;
+use sx_core::binding::{Binding, VarInfo};
+use sx_core::formals::Formals;
+use sx_shapes::at::place_of;
+use sx_shapes::lists::is_id;
+use sx_shapes::shape::{BindingSpec, FormalIds};
+use sx_syntax::syn::Syn;
+
+/// A variable of a `letrec`, with the form of its value.
+#[derive(Drop)]
+pub struct BoundSpec {
+    pub label: Label,
+    pub init: Syn,
+}
+
+/// The number among the variables of level 0.
+fn index_at(level: u32, index: u64) -> Option<u64>
+    ensures { result ≡ index_at level index }
+{
+    if level == 0 { Some(index) } else { None }
+}
+
+/// The number of the next variable of level 0, after one of this level.
+fn next_index(level: u32, index: u64) -> Result<u64, Memory>
+    ensures { IfOk result (λ n. n ≡ next_index level index) }
+{
+    if level != 0 {
+        return Ok(index);
+    }
+    match index.checked_add(1) {
+        Some(next) => Ok(next),
+        None => Err(Memory),
+    }
+}
+
+impl Expansion {
+    fn variable_for(&self, id: &Syn, level: u32, top: bool) -> Result<VarInfo, Memory>
+        ensures { IfOk result (λ v. v ≡ variable_for id.now level top self.now.index) }
+    {
+        let symbol = symbol_in(self.alloc, id)?;
+        Ok(VarInfo {
+            symbol,
+            index: index_at(level, self.index),
+            level,
+            top,
+            assigned: false,
+        })
+    }
+
+    #[tactic(auto, using(crate::proofs::Rows::stops_at_row))]
+    fn bind_row(
+        &mut self,
+        frame: &FrameNo,
+        id: &Syn,
+        label: &Label,
+        place: &Span,
+    ) -> Result<(), Stop>
+        ensures { GivesAfter (λ _. tt) result self.new (put_row id.now place.now frame.now label.now self.old) }
+    {
+        match self.frames.bind(frame.share()?, id, label.share()?) {
+            Ok(()) => Ok(()),
+            Err(stop) => Err(stopped_at(stop, id, place)),
+        }
+    }
+
+    #[tactic(auto, using(crate::proofs::Made::made_with))]
+    fn add_binding(&mut self, label: Label, info: VarInfo) -> Result<(), Stop>
+        requires new { bound_to self.old.bindings label ≡ None }
+        requires made { IsMade self.old.names label.0 }
+        ensures { GivesAfter (λ _. tt) result self.new (put_variable label info self.old) }
+    {
+        let next = next_index(info.level, self.index)?;
+        self.bindings.add(label, Binding::Variable(info))?;
+        self.index = next;
+        Ok(())
+    }
+
+    fn bind_as(
+        &mut self,
+        frame: &FrameNo,
+        id: &Syn,
+        place: &Span,
+        level: u32,
+        top: bool,
+        name: Name,
+    ) -> Result<Label, Stop>
+        requires new { bound_to self.old.bindings (record { 0 = name }) ≡ None }
+        requires made { IsMade self.old.names name }
+        ensures { GivesAfter (λ l. l) result self.new (bind_as frame.now id.now place.now level top name self.old) }
+    {
+        let label = Label(name);
+        let info = self.variable_for(id, level, top)?;
+        self.bind_row(frame, id, &label, place)?;
+        let bound = label.share()?;
+        self.add_binding(bound, info)?;
+        Ok(label)
+    }
+
+    /// Binds an identifier in a frame to a new variable.
+    #[tactic(auto, unfolding(crate::specs::Binders::bind_variable))]
+    pub fn bind_variable(
+        &mut self,
+        frame: &FrameNo,
+        place: &Span,
+        level: u32,
+        top: bool,
+        id: &Syn,
+    ) -> Result<Label, Stop>
+        ensures { GivesAfter (λ l. l) result self.new (bind_variable frame.now place.now level top id.now self.old) }
+    {
+        if !is_id(self.alloc, id)? {
+            return Err(self.fault_form(FaultKind::BadForm, id, place));
+        }
+        let name = self.fresh()?;
+        self.bind_as(frame, id, place, level, top, name)
+    }
+
+    /// Binds identifiers in order.
+    pub fn bind_all(
+        &mut self,
+        frame: &FrameNo,
+        place: &Span,
+        level: u32,
+        ids: &[Syn],
+    ) -> Result<Items<Label>, Stop>
+        ensures { GivesAfter (λ ls. ls) result self.new (bind_all frame.now place.now level ids.now self.old) }
+    {
+        let mut labels = Items::new(self.alloc);
+        for id in ids {
+            let label = self.bind_variable(frame, place, level, false, id)?;
+            labels.push(label)?;
+        }
+        Ok(labels)
+    }
+
+    #[tactic(auto, unfolding(crate::specs::Binders::bind_spec))]
+    fn bind_spec(
+        &mut self,
+        frame: &FrameNo,
+        place: &Span,
+        level: u32,
+        spec: &BindingSpec,
+    ) -> Result<BoundSpec, Stop>
+        ensures { GivesAfter (λ b. b) result self.new (bind_spec frame.now place.now level spec.now self.old) }
+    {
+        let label = self.bind_variable(frame, place, level, false, &spec.id)?;
+        let init = spec.init.share()?;
+        Ok(BoundSpec { label, init })
+    }
+
+    /// Binds the variables of a `letrec` in order.
+    pub fn bind_specs(
+        &mut self,
+        frame: &FrameNo,
+        place: &Span,
+        level: u32,
+        specs: &[BindingSpec],
+    ) -> Result<Items<BoundSpec>, Stop>
+        ensures { GivesAfter (λ bs. bs) result self.new (bind_specs frame.now place.now level specs.now self.old) }
+    {
+        let mut done = Items::new(self.alloc);
+        for spec in specs {
+            let one = self.bind_spec(frame, place, level, spec)?;
+            done.push(one)?;
+        }
+        Ok(done)
+    }
+
+    fn bind_rest(
+        &mut self,
+        frame: &FrameNo,
+        place: &Span,
+        level: u32,
+        id: &Option<Syn>,
+    ) -> Result<Option<Label>, Stop>
+        ensures { GivesAfter (λ l. l) result self.new (bind_rest frame.now place.now level id.now self.old) }
+    {
+        match id {
+            None => Ok(None),
+            Some(id) => {
+                let label = self.bind_variable(frame, place, level, false, id)?;
+                Ok(Some(label))
+            }
+        }
+    }
+
+    /// Binds the formals of a procedure, from left to right.
+    #[tactic(auto, unfolding(crate::specs::Binders::bind_formals))]
+    pub fn bind_formals(
+        &mut self,
+        frame: &FrameNo,
+        place: &Span,
+        level: u32,
+        ids: &FormalIds,
+    ) -> Result<Formals, Stop>
+        ensures { GivesAfter (λ f. f) result self.new (bind_formals frame.now place.now level ids.now self.old) }
+    {
+        let required = self.bind_all(frame, place, level, ids.required.as_slice())?;
+        let rest = self.bind_rest(frame, place, level, &ids.rest)?;
+        Ok(Formals { required, rest })
+    }
+}
+
+/// A fault of a form, at its place.
+fn stopped_at(stop: BareStop, form: &Syn, place: &Span) -> Stop
+    ensures { StopsAt result stop form.now place.now }
+{
+    match stop {
+        BareStop::Memory => Stop::Memory,
+        BareStop::Fault(Bare { kind, words }) => match place_of(form, place) {
+            Ok(span) => Stop::Fault(Fault { kind, span, words }),
+            Err(memory) => Stop::from(memory),
+        },
+    }
+}

@@ -1,0 +1,127 @@
+//! What a library itself binds and exports.
+
+ghost use Rattle.std.specs.Prelude.{◌≡◌, ◌++◌, IfOk, OnOk};
+ghost use Rattle.sx_base.specs.Act.{GivesAfter};
+ghost use Rattle.sx_frames.specs.Listed.{rows_in};
+ghost use Rattle.sx_core.specs.Labels.{has_label};
+ghost use Rattle.sx_standing.specs.Own.{export_labels, mark_assigned, labels_with, with_assigned, own_row, own_bindings};
+
+use crate::expansion::Expansion;
+use std::rc::Rc;
+use sx_base::fault::Stop;
+use sx_base::items::Items;
+use sx_base::library::LibName;
+use sx_base::memory::Memory;
+use sx_base::name::{Label, Name};
+use sx_base::symbol::Symbol;
+use sx_core::binding::{Binding, VarInfo};
+use sx_core::labels::Labels;
+use sx_tree::frame_row::FrameRow;
+
+fn add_labels(labels: &mut Labels, exports: &[(Symbol, Label)]) -> Result<(), Memory>
+    ensures { OnOk result (labels.new ≡ labels_with labels.old exports.now) }
+{
+    for (_, label) in exports {
+        labels.add(label)?;
+    }
+    Ok(())
+}
+
+fn with_assigned(assigned: bool, binding: &Binding) -> Result<Binding, Memory>
+    ensures { IfOk result (λ b. b ≡ with_assigned assigned binding.now) }
+{
+    match binding {
+        Binding::Variable(info) => Ok(Binding::Variable(VarInfo {
+            symbol: info.symbol.share()?,
+            index: info.index,
+            level: info.level,
+            top: info.top,
+            assigned,
+        })),
+        Binding::PatternVariable { level: _, depth: _ } => binding.share(),
+        Binding::Macro {
+            level: _,
+            expression: _,
+        } => binding.share(),
+        Binding::Core(_) => binding.share(),
+        Binding::Primitive(_) => binding.share(),
+    }
+}
+
+impl Expansion {
+    /// The library that is expanded.
+    pub fn library(&self) -> &LibName
+        ensures { result.now ≡ self.now.library }
+    {
+        &self.library
+    }
+
+    /// Takes the labels that the library exports, each with its external name.
+    pub fn export_labels(&mut self, exports: &[(Symbol, Label)]) -> Result<(), Stop>
+        ensures { GivesAfter (λ _. tt) result self.new (export_labels exports.now self.old) }
+    {
+        let mut labels = Labels::new(self.alloc);
+        add_labels(&mut labels, exports)?;
+        self.exports = labels;
+        Ok(())
+    }
+
+    /// Whether the library exports the label. It takes no memory.
+    pub fn has_export(&self, label: &Label) -> bool
+        ensures { result ≡ has_label self.now.exports label.now }
+    {
+        self.exports.has(label)
+    }
+
+    /// Takes a variable as assigned.
+    pub fn mark_assigned(&mut self, label: &Label) -> Result<Label, Stop>
+        ensures { GivesAfter (λ l. l) result self.new (mark_assigned label.now self.old) }
+    {
+        let given = label.share()?;
+        self.assigned.add(label)?;
+        Ok(given)
+    }
+
+    fn add_own_row(
+        &self,
+        library: &Rc<LibName>,
+        number: u64,
+        rows: &mut Items<(Label, Binding)>,
+    ) -> Result<(), Memory>
+        requires { library.now.value ≡ self.now.names.library }
+        ensures { OnOk result (rows.new ≡ rows.old ++ own_row self.now number) }
+    {
+        let label = Label(Name {
+            library: library.clone()?,
+            number,
+        });
+        match self.bindings.get(&label) {
+            None => Ok(()),
+            Some(binding) => {
+                let binding = with_assigned(self.assigned.has(&label), binding)?;
+                rows.push((label, binding))
+            }
+        }
+    }
+
+    /// What the library's labels are bound to, rising by number. It takes one name more.
+    #[tactic(auto, unfolding(crate::specs::Own::own_bindings), using(crate::proofs::Made::made_later))]
+    pub fn own_bindings(&mut self) -> Result<Items<(Label, Binding)>, Memory>
+        ensures { IfOk result (λ rows. rows ≡ own_bindings self.old) }
+    {
+        let next = self.names.next()?;
+        let mut rows = Items::new(self.alloc);
+        for number in 0..next.number {
+            self.add_own_row(&next.library, number, &mut rows)?;
+        }
+        Ok(rows)
+    }
+
+    /// The rows of the library's frames, by frame and then in the order of binding.
+    pub fn own_rows(&self) -> Result<Items<FrameRow>, Memory>
+        ensures { IfOk result (λ rows. rows ≡ rows_in self.now.library self.now.frames) }
+    {
+        let rows = self.frames.rows(&self.library)?;
+        Ok(Items::from_vec(rows))
+    }
+}
