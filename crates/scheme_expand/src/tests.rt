@@ -5,6 +5,7 @@ use crate::status::Status;
 use crate::top::run;
 use std::alloc::Global;
 use std::marker::Brand;
+use std::process::Abort;
 use std::sync::ledger::{Blank, Ledger};
 use std::test::Fail;
 use sx_base::steps::Steps;
@@ -106,13 +107,16 @@ fn gives(alloc: Global, source: &str, answer: &str) -> Result<bool, Fail> {
     )
 }
 
-#[test]
-fn programs_give_their_text_or_their_first_fault(rt: HostRuntime) -> Result<(), Fail> {
-    let alloc = rt.alloc();
-    for (source, answer) in PROGRAMS {
-        assert!(rt; gives(alloc, source, answer)?);
+fn check_programs(rt: &impl Abort, alloc: Global, programs: &[(&str, &str)]) -> Result<(), Fail> {
+    for (source, answer) in programs {
+        assert!(rt; gives(alloc, source, answer)?, "{source}");
     }
     Ok(())
+}
+
+#[test]
+fn programs_give_their_text_or_their_first_fault(rt: HostRuntime) -> Result<(), Fail> {
+    check_programs(&rt, rt.alloc(), &PROGRAMS)
 }
 
 // Words, and whether the program is expanded: else they are refused. The map of identifiers and libraries
@@ -134,20 +138,27 @@ const WORDS: [(&[&str], bool); 14] = [
     (&["--make", "2"], false),
 ];
 
-#[test]
-fn words_are_taken_or_refused_with_the_usage_line(rt: HostRuntime) -> Result<(), Fail> {
-    for (words, taken) in WORDS {
-        let ran = run_over(rt.alloc(), EMPTY_PROGRAM, words, &[], &[], &[])?;
-        let (status, out, err) = if taken {
-            (Status::Done, "(import (rnrs))\n", "")
-        } else {
-            (Status::Usage, "", USAGE)
-        };
-        assert_eq!(rt; ran.status, status, "{words:?}");
-        assert_eq!(rt; ran.out.as_str(), out);
-        assert_eq!(rt; ran.err.as_str(), err);
+// Whether the words are taken, or refused with the usage line and nothing else.
+fn are_taken(alloc: Global, words: &[&str], taken: bool) -> Result<bool, Fail> {
+    let ran = run_over(alloc, EMPTY_PROGRAM, words, &[], &[], &[])?;
+    let (status, out, err) = if taken {
+        (Status::Done, "(import (rnrs))\n", "")
+    } else {
+        (Status::Usage, "", USAGE)
+    };
+    Ok(ran.status == status && ran.out.as_str() == out && ran.err.as_str() == err)
+}
+
+fn check_words(rt: &impl Abort, alloc: Global, rows: &[(&[&str], bool)]) -> Result<(), Fail> {
+    for (words, taken) in rows {
+        assert!(rt; are_taken(alloc, words, *taken)?, "{words:?}");
     }
     Ok(())
+}
+
+#[test]
+fn words_are_taken_or_refused_with_the_usage_line(rt: HostRuntime) -> Result<(), Fail> {
+    check_words(&rt, rt.alloc(), &WORDS)
 }
 
 // A file, the calls of the outside that fail, and what a run over it answers and writes.
@@ -212,23 +223,23 @@ const FAILURES: [Case; 5] = [
     },
 ];
 
-#[test]
-fn failures_of_the_outside_end_a_run_as_they_should(rt: HostRuntime) -> Result<(), Fail> {
-    let alloc = rt.alloc();
-    for case in FAILURES {
-        let ran = run_over(
-            alloc,
-            case.file,
-            &["p.sps"],
-            case.reads,
-            case.outs,
-            case.errs,
-        )?;
-        assert_eq!(rt; ran.out.as_str(), case.out);
-        assert_eq!(rt; ran.err.as_str(), case.err);
-        assert_eq!(rt; ran.status, case.status);
+// Whether a run over the case answers and writes what it should.
+fn ends_so(alloc: Global, case: &Case) -> Result<bool, Fail> {
+    let words = ["p.sps"];
+    let ran = run_over(alloc, case.file, &words, case.reads, case.outs, case.errs)?;
+    Ok(ran.status == case.status && ran.out.as_str() == case.out && ran.err.as_str() == case.err)
+}
+
+fn check_failures(rt: &impl Abort, alloc: Global, cases: &[Case]) -> Result<(), Fail> {
+    for case in cases {
+        assert!(rt; ends_so(alloc, case)?);
     }
     Ok(())
+}
+
+#[test]
+fn failures_of_the_outside_end_a_run_as_they_should(rt: HostRuntime) -> Result<(), Fail> {
+    check_failures(&rt, rt.alloc(), &FAILURES)
 }
 
 #[test]

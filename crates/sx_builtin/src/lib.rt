@@ -22,5 +22,3 @@ pub mod exports;
 pub mod laws;
 pub mod library;
 pub mod prelude;
-#[cfg(test)]
-mod tests;

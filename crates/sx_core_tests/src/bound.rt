@@ -43,16 +43,62 @@ fn is_bound(
     }
 }
 
+/// A number, a form, and whether the label of that number can be bound to it, or is.
+type Row = (u64, CoreForm, bool);
+
+fn bind_as(bindings: &mut Bindings, library: &Rc<LibName>, rows: &[Row]) -> Result<bool, Memory> {
+    for (number, form, expected) in rows {
+        if bind(bindings, library, *number, *form)? != *expected {
+            return Ok(false);
+        }
+    }
+    Ok(true)
+}
+
+fn are_bound(bindings: &Bindings, library: &Rc<LibName>, rows: &[Row]) -> Result<bool, Memory> {
+    for (number, form, expected) in rows {
+        if is_bound(bindings, library, *number, *form)? != *expected {
+            return Ok(false);
+        }
+    }
+    Ok(true)
+}
+
+fn hold_in(
+    alloc: Global,
+    bindings: &mut Bindings,
+    bound: &[Row],
+    asked: &[Row],
+) -> Result<bool, Memory> {
+    let library = Rc::new(alloc, LibName::Program)?;
+    if !bind_as(bindings, &library, bound)? {
+        return Ok(false);
+    }
+    are_bound(bindings, &library, asked)
+}
+
+/// Whether labels can be bound so, one behind the other, and are bound so then.
+fn hold(alloc: Global, bound: &[Row], asked: &[Row]) -> Result<bool, Memory> {
+    let mut bindings = Bindings::new(alloc);
+    hold_in(alloc, &mut bindings, bound, asked)
+}
+
 #[test]
 fn labels_are_bound_once(rt: HostRuntime) -> Result<(), Fail> {
-    let alloc = rt.alloc();
-    let library = Rc::new(alloc, LibName::Program)?;
-    let mut bindings = Bindings::new(alloc);
-    assert!(rt; bind(&mut bindings, &library, 1, CoreForm::If)?);
-    assert!(rt; bind(&mut bindings, &library, 2, CoreForm::Set)?);
-    assert!(rt; !bind(&mut bindings, &library, 1, CoreForm::Quote)?);
-    assert!(rt; is_bound(&bindings, &library, 1, CoreForm::If)?);
-    assert!(rt; is_bound(&bindings, &library, 2, CoreForm::Set)?);
-    assert!(rt; !is_bound(&bindings, &library, 3, CoreForm::Set)?);
+    assert!(rt;
+        hold(
+            rt.alloc(),
+            &[
+                (1, CoreForm::If, true),
+                (2, CoreForm::Set, true),
+                (1, CoreForm::Quote, false)
+            ],
+            &[
+                (1, CoreForm::If, true),
+                (2, CoreForm::Set, true),
+                (3, CoreForm::Set, false)
+            ],
+        )?
+    );
     Ok(())
 }

@@ -39,21 +39,29 @@ fn assignment(alloc: Global, library: &Rc<LibName>) -> Result<Core, Memory> {
     Ok(Core { node })
 }
 
-/// `(lambda (v8) (set! v7 (v8 v9 v8)))`
-fn procedure(alloc: Global, library: &Rc<LibName>) -> Result<Core, Memory> {
+fn formals(alloc: Global, library: &Rc<LibName>) -> Result<Formals, Memory> {
     let mut required = Items::new(alloc);
     required.push(Label(name(library, 8)?))?;
-    let formals = Formals {
+    Ok(Formals {
         required,
         rest: None,
-    };
+    })
+}
+
+fn cases(alloc: Global, library: &Rc<LibName>) -> Result<Vec<Lambda>, Memory> {
+    let formals = formals(alloc, library)?;
     let body = assignment(alloc, library)?;
     let mut cases = Vec::new(alloc);
     cases.push(Lambda { formals, body })?;
+    Ok(cases)
+}
+
+/// `(lambda (v8) (set! v7 (v8 v9 v8)))`
+fn procedure(alloc: Global, library: &Rc<LibName>) -> Result<Core, Memory> {
     let number = CodeNo(name(library, 0)?);
     let code = Code {
         number,
-        cases,
+        cases: cases(alloc, library)?,
         plain: true,
     };
     let node = CoreNode::Lambda(Rc::new(alloc, code)?);
@@ -66,14 +74,19 @@ fn constant() -> Core {
     Core { node }
 }
 
-/// `(letrec ((v9 #f)) (lambda (v8) (set! v7 (v8 v9 v8))))`
-fn bound(alloc: Global, library: &Rc<LibName>) -> Result<Core, Memory> {
+fn inits(alloc: Global, library: &Rc<LibName>) -> Result<Vec<Init>, Memory> {
     let label = Label(name(library, 9)?);
     let mut inits = Vec::new(alloc);
     inits.push(Init {
         label,
         value: constant(),
     })?;
+    Ok(inits)
+}
+
+/// `(letrec ((v9 #f)) (lambda (v8) (set! v7 (v8 v9 v8))))`
+fn bound(alloc: Global, library: &Rc<LibName>) -> Result<Core, Memory> {
+    let inits = inits(alloc, library)?;
     let body = Box::new(alloc, procedure(alloc, library)?)?;
     let node = CoreNode::Letrec(false, inits, body);
     Ok(Core { node })
@@ -88,15 +101,18 @@ fn are_numbered(labels: &[Label], numbers: &[u64]) -> bool {
     labels.len() == numbers.len()
 }
 
+/// Whether the references of an expression have these numbers.
+fn refer(alloc: Global, core: &Core, numbers: &[u64]) -> Result<bool, Memory> {
+    let free = references(alloc, core)?;
+    Ok(are_numbered(free.as_slice(), numbers))
+}
+
 #[test]
 fn references_are_those_that_nothing_binds(rt: HostRuntime) -> Result<(), Fail> {
     let alloc = rt.alloc();
     let library = Rc::new(alloc, LibName::Program)?;
-    let free = references(alloc, &assignment(alloc, &library)?)?;
-    assert!(rt; are_numbered(free.as_slice(), &[7, 8, 9]));
-    let free = references(alloc, &procedure(alloc, &library)?)?;
-    assert!(rt; are_numbered(free.as_slice(), &[7, 9]));
-    let free = references(alloc, &bound(alloc, &library)?)?;
-    assert!(rt; are_numbered(free.as_slice(), &[7]));
+    assert!(rt; refer(alloc, &assignment(alloc, &library)?, &[7, 8, 9])?);
+    assert!(rt; refer(alloc, &procedure(alloc, &library)?, &[7, 9])?);
+    assert!(rt; refer(alloc, &bound(alloc, &library)?, &[7])?);
     Ok(())
 }

@@ -47,6 +47,3 @@ pub fn read_source(
     spellings_are_read_by_the_grammar();
     read_deep(alloc, file, bytes, nesting)
 }
-
-#[cfg(test)]
-mod tests;

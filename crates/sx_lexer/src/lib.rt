@@ -25,7 +25,5 @@ mod gap;
 pub mod laws;
 pub mod start;
 mod strings;
-#[cfg(test)]
-mod tests;
 pub mod token;
 pub mod tokens;

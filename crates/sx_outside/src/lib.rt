@@ -46,6 +46,3 @@ pub use host::{HostFiles, HostSink, HostStore};
 pub use sink::{MemSink, PutFailed, Sink};
 pub use store::{MemStore, Store, StoreAnswer};
 pub use torn::TornStore;
-
-#[cfg(test)]
-mod tests;

@@ -22,5 +22,3 @@
 #![tactic(auto)]
 
 pub mod lines;
-#[cfg(test)]
-mod tests;

@@ -1,4 +1,5 @@
 use std::alloc::Global;
+use std::process::Abort;
 use std::test::Fail;
 use sx_base::items::Items;
 use sx_base::library::LibName;
@@ -13,21 +14,27 @@ fn library(alloc: Global, name: &str) -> Result<LibName, Memory> {
     Ok(LibName::User(parts))
 }
 
+fn libraries(alloc: Global, names: &[&str]) -> Result<Items<LibName>, Memory> {
+    let mut libraries = Items::new(alloc);
+    for name in names {
+        libraries.push(library(alloc, name)?)?;
+    }
+    Ok(libraries)
+}
+
 // The record of a library with its references.
 fn record(alloc: Global, name: LibName, refs: &[&str]) -> Result<LibRecord, Memory> {
-    let mut names = Items::new(alloc);
-    for other in refs {
-        names.push(library(alloc, other)?)?;
-    }
+    let path = Symbol::new(alloc, "f")?;
+    let refs = libraries(alloc, refs)?;
     Ok(LibRecord {
-        path: Symbol::new(alloc, "f")?,
+        path,
         name,
         version: Items::new(alloc),
         exports: Items::new(alloc),
         bindings: Items::new(alloc),
         frames: Items::new(alloc),
         run: Items::new(alloc),
-        refs: names,
+        refs,
     })
 }
 
@@ -73,17 +80,35 @@ const ROWS: [Row; 12] = [
     (&[("a", &["a"]), ("b", &[])], &["a", "a"], &[0]),
 ];
 
-#[test]
-fn plans_have_what_chains_of_references_reach(rt: HostRuntime) -> Result<(), Fail> {
-    let alloc = rt.alloc();
-    for (libraries, refs, expected) in ROWS {
-        let mut records = Vec::new(alloc);
-        for (name, others) in libraries {
-            records.push(record(alloc, library(alloc, name)?, others)?)?;
-        }
-        let program = record(alloc, LibName::Program, refs)?;
-        let plan = run_plan(alloc, records.as_slice(), &program)?;
-        assert_eq!(rt; plan.as_slice(), expected);
+fn records(
+    alloc: Global,
+    libraries: &[(&'static str, &'static [&'static str])],
+) -> Result<Vec<LibRecord>, Memory> {
+    let mut records = Vec::new(alloc);
+    for (name, others) in libraries {
+        records.push(record(alloc, library(alloc, name)?, others)?)?;
+    }
+    Ok(records)
+}
+
+fn plan_of(alloc: Global, records: &[LibRecord], refs: &[&str]) -> Result<Vec<usize>, Memory> {
+    let program = record(alloc, LibName::Program, refs)?;
+    run_plan(alloc, records, &program)
+}
+
+fn plan(alloc: Global, row: &Row) -> Result<Vec<usize>, Memory> {
+    let records = records(alloc, row.0)?;
+    plan_of(alloc, records.as_slice(), row.1)
+}
+
+fn check(rt: &impl Abort, alloc: Global, rows: &[Row]) -> Result<(), Fail> {
+    for row in rows {
+        assert_eq!(rt; plan(alloc, row)?.as_slice(), row.2);
     }
     Ok(())
+}
+
+#[test]
+fn plans_have_what_chains_of_references_reach(rt: HostRuntime) -> Result<(), Fail> {
+    check(&rt, rt.alloc(), &ROWS)
 }

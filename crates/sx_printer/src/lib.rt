@@ -21,5 +21,3 @@ pub mod datum_text;
 pub mod escapes;
 pub mod strings;
 pub mod symbols;
-#[cfg(test)]
-mod tests;

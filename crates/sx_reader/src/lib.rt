@@ -12,5 +12,3 @@
 #![tactic(auto)]
 
 pub mod read;
-#[cfg(test)]
-mod tests;

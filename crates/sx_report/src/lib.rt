@@ -19,5 +19,3 @@
 
 pub mod name;
 pub mod report;
-#[cfg(test)]
-mod tests;

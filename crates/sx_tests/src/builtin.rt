@@ -1,3 +1,5 @@
+use std::alloc::Global;
+use std::process::Abort;
 use std::test::Fail;
 use sx_base::datum::Datum;
 use sx_base::op::{Op, op_text};
@@ -20,36 +22,67 @@ fn is_named(name: &Symbol, number: Option<u16>) -> bool {
     }
 }
 
+// The data of a source.
+fn data(alloc: Global, file: &str, source: &[u8]) -> Result<Vec<Datum>, Fail> {
+    let file = Symbol::new(alloc, file)?;
+    if source.len() >= 4_294_967_296 {
+        return Err(Fail::new("too long"));
+    }
+    match read_all(alloc, &file, source) {
+        Ok(data) => Ok(data),
+        Err(_) => Err(Fail::new("no data")),
+    }
+}
+
+fn defines(definition: &Datum, number: Option<u16>) -> bool {
+    match defined(definition) {
+        Some(name) => is_named(name, number),
+        None => false,
+    }
+}
+
+// Whether definitions define these names in order, and no more.
+fn define_all(definitions: &[Datum], numbers: &[Option<u16>]) -> bool {
+    for (definition, number) in definitions.iter().zip(numbers) {
+        if !defines(definition, *number) {
+            return false;
+        }
+    }
+    definitions.len() == numbers.len()
+}
+
+fn is_derived(alloc: Global) -> Result<bool, Fail> {
+    let definitions = data(alloc, "(derived)", derived_source())?;
+    Ok(define_all(definitions.as_slice(), &DERIVED))
+}
+
 #[test]
 fn the_derived_library_defines_its_names_in_order(rt: HostRuntime) -> Result<(), Fail> {
-    let alloc = rt.alloc();
-    let file = Symbol::new(alloc, "(derived)")?;
-    let source = derived_source();
-    if source.len() >= 4_294_967_296 {
-        return Ok(());
+    assert!(rt; is_derived(rt.alloc())?);
+    Ok(())
+}
+
+// How many data the text of a procedure has.
+fn count(alloc: Global, number: u16) -> Result<usize, Fail> {
+    match prelude_source(Op(number)) {
+        Some(source) => Ok(data(alloc, "(prelude)", source)?.len()),
+        None => Ok(0),
     }
-    let definitions = read_all(alloc, &file, source).ok().ok_or("no data")?;
-    assert_eq!(rt; definitions.len(), DERIVED.len());
-    for (definition, number) in definitions.iter().zip(&DERIVED) {
-        let name = defined(definition).ok_or("no definition")?;
-        assert!(rt; is_named(name, *number));
+}
+
+fn check(rt: &impl Abort, alloc: Global, numbers: &[u16]) -> Result<(), Fail> {
+    for number in numbers {
+        assert_eq!(rt; count(alloc, *number)?, 1, "{number}");
     }
     Ok(())
 }
 
 // The procedures that are given in Scheme, by their numbers.
-const PRELUDE: [u16; 10] = [133, 110, 192, 193, 194, 198, 191, 202, 196, 197];
-
 #[test]
 fn each_prelude_text_is_one_datum(rt: HostRuntime) -> Result<(), Fail> {
-    let alloc = rt.alloc();
-    let file = Symbol::new(alloc, "(prelude)")?;
-    for number in PRELUDE {
-        let source = prelude_source(Op(number)).ok_or("no text")?;
-        if source.len() < 4_294_967_296 {
-            let data = read_all(alloc, &file, source).ok().ok_or("no data")?;
-            assert_eq!(rt; data.len(), 1);
-        }
-    }
-    Ok(())
+    check(
+        &rt,
+        rt.alloc(),
+        &[133, 110, 192, 193, 194, 198, 191, 202, 196, 197],
+    )
 }

@@ -9,6 +9,7 @@ use sx_base::op::op_named;
 use sx_base::symbol::Symbol;
 use sx_core::code::{Code, Core, CoreNode, Init, Lambda};
 use sx_core::formals::Formals;
+use sx_reader::read::read_all;
 
 // The library whose parts are joined by points; with no parts it is the program.
 fn library(alloc: Global, text: &str) -> Result<LibName, Fail> {
@@ -34,11 +35,9 @@ pub fn label(alloc: Global, name: &str) -> Result<Label, Fail> {
     let text = name.strip_prefix("%").ok_or("no variable")?;
     let (parts, rest) = text.split_once("/").ok_or("no library")?;
     let (_, number) = rest.split_once("/").ok_or("no number")?;
+    let number = number.parse::<u64>().ok().ok_or("no number")?;
     let library = Rc::new(alloc, library(alloc, parts)?)?;
-    Ok(Label(Name {
-        library,
-        number: number.parse::<u64>().ok().ok_or("no number")?,
-    }))
+    Ok(Label(Name { library, number }))
 }
 
 // The variables whose names are parted by spaces.
@@ -52,29 +51,47 @@ fn labels(alloc: Global, names: &str) -> Result<Vec<Label>, Fail> {
     Ok(all)
 }
 
-fn formals(alloc: Global, names: &str) -> Result<Formals, Fail> {
-    let mut required = Items::new(alloc);
-    let mut rest = None;
-    for name in names.split(" ") {
-        if let Some(name) = name.strip_prefix(".") {
-            rest = Some(label(alloc, name)?);
-        } else if !name.is_empty() {
-            required.push(label(alloc, name)?)?;
-        }
+fn add_formal(alloc: Global, formals: &mut Formals, name: &str) -> Result<(), Fail> {
+    if let Some(name) = name.strip_prefix(".") {
+        formals.rest = Some(label(alloc, name)?);
+        return Ok(());
     }
-    Ok(Formals { required, rest })
+    if !name.is_empty() {
+        formals.required.push(label(alloc, name)?)?;
+    }
+    Ok(())
+}
+
+fn formals(alloc: Global, names: &str) -> Result<Formals, Fail> {
+    let mut formals = Formals {
+        required: Items::new(alloc),
+        rest: None,
+    };
+    for name in names.split(" ") {
+        add_formal(alloc, &mut formals, name)?;
+    }
+    Ok(formals)
+}
+
+// The formals of cases, parted by bars.
+fn all_formals(alloc: Global, names: &str) -> Result<Vec<Formals>, Fail> {
+    let mut all = Vec::new(alloc);
+    for names in names.split("|") {
+        all.push(formals(alloc, names)?)?;
+    }
+    Ok(all)
 }
 
 // The datum of a text.
 fn datum(alloc: Global, text: &str) -> Result<Datum, Fail> {
     let file = Symbol::new(alloc, "datum")?;
-    let mut data = Vec::new(alloc);
-    if text.len() < 4_294_967_296 {
-        data = sx_reader::read::read_all(alloc, &file, text.as_bytes())
-            .ok()
-            .ok_or("not read")?;
+    if text.len() >= 4_294_967_296 {
+        return Err(Fail::new("too long"));
     }
-    Ok(data.pop().ok_or("no datum")?)
+    match read_all(alloc, &file, text.as_bytes()) {
+        Ok(mut data) => Ok(data.pop().ok_or("no datum")?),
+        Err(_) => Err(Fail::new("not read")),
+    }
 }
 
 // The expressions that were built, the last at the end.
@@ -143,11 +160,9 @@ impl Built {
         procedure(self.alloc, cases, true)
     }
 
-    fn case_lambda(&mut self, names: &str) -> Result<CoreNode, Fail> {
-        let mut all = Vec::new(self.alloc);
-        for names in names.split("|") {
-            all.push(formals(self.alloc, names)?)?;
-        }
+    // The cases of formals, whose bodies were built last, in order.
+    fn take_cases(&mut self, all: Vec<Formals>) -> Result<Vec<Lambda>, Fail> {
+        let mut all = all;
         all.reverse();
         let mut cases = Vec::new(self.alloc);
         for formals in all {
@@ -155,12 +170,18 @@ impl Built {
             cases.push(Lambda { formals, body })?;
         }
         cases.reverse();
+        Ok(cases)
+    }
+
+    fn case_lambda(&mut self, names: &str) -> Result<CoreNode, Fail> {
+        let all = all_formals(self.alloc, names)?;
+        let cases = self.take_cases(all)?;
         procedure(self.alloc, cases, false)
     }
 
-    fn letrec(&mut self, in_order: bool, names: &str) -> Result<CoreNode, Fail> {
-        let body = self.take_boxed()?;
-        let mut labels = labels(self.alloc, names)?;
+    // The values of labels, which were built last, in order.
+    fn take_inits(&mut self, labels: Vec<Label>) -> Result<Vec<Init>, Fail> {
+        let mut labels = labels;
         labels.reverse();
         let mut inits = Vec::new(self.alloc);
         for label in labels {
@@ -168,6 +189,13 @@ impl Built {
             inits.push(Init { label, value })?;
         }
         inits.reverse();
+        Ok(inits)
+    }
+
+    fn letrec(&mut self, in_order: bool, names: &str) -> Result<CoreNode, Fail> {
+        let body = self.take_boxed()?;
+        let labels = labels(self.alloc, names)?;
+        let inits = self.take_inits(labels)?;
         Ok(CoreNode::Letrec(in_order, inits, body))
     }
 
@@ -198,6 +226,12 @@ impl Built {
             None => self.form(step, ""),
         }
     }
+
+    fn step(&mut self, step: &str) -> Result<(), Fail> {
+        let node = self.node(step)?;
+        self.cores.push(Core { node })?;
+        Ok(())
+    }
 }
 
 fn count(text: &str) -> Result<usize, Fail> {
@@ -224,8 +258,7 @@ pub fn core(alloc: Global, steps: &str) -> Result<Core, Fail> {
     let cores = Vec::new(alloc);
     let mut built = Built { alloc, cores };
     for step in steps.split("; ") {
-        let node = built.node(step)?;
-        built.cores.push(Core { node })?;
+        built.step(step)?;
     }
     built.take()
 }

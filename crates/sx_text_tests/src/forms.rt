@@ -1,10 +1,11 @@
 use crate::records::{record, written};
 use std::alloc::Global;
+use std::process::Abort;
 use std::test::Fail;
 use sx_base::span::Span;
 use sx_base::symbol::Symbol;
 use sx_core::code::{Core, CoreNode};
-use sx_core::record::Line;
+use sx_core::record::{LibRecord, Line};
 use sx_core::template::{Template, TemplateNode};
 
 const NAMES: &str =
@@ -91,16 +92,32 @@ const FORMS: [(&str, &str); 53] = [
     ("(quote #(#vu8(1) #t))", "'#(#vu8(1) #t)"),
 ];
 
-#[test]
-fn each_form_and_constant_has_its_text(rt: HostRuntime) -> Result<(), Fail> {
-    let alloc = rt.alloc();
-    for (text, steps) in FORMS {
-        let program = record(alloc, NAMES, &[(None, steps)])?;
-        let out = written(alloc, &[], &[], &program)?.ok().ok_or("a fault")?;
-        let line = out.as_str().strip_prefix("(import (rnrs))\n");
-        assert_eq!(rt; line.ok_or("no first line")?.strip_suffix("\n"), Some(text));
+fn text_of(alloc: Global, steps: &str) -> Result<String, Fail> {
+    let program = record(alloc, NAMES, &[(None, steps)])?;
+    written(alloc, &[], &[], &program)
+}
+
+// The text of a program of one line.
+fn whole(alloc: Global, line: &str) -> Result<String, Fail> {
+    let mut text = String::from_str(alloc, "(import (rnrs))\n")?;
+    text.push_str(line)?;
+    text.push_str("\n")?;
+    Ok(text)
+}
+
+fn check(rt: &impl Abort, alloc: Global, rows: &[(&str, &str)]) -> Result<(), Fail> {
+    for (line, steps) in rows {
+        assert_eq!(rt;
+            text_of(alloc, steps)?.as_str(),
+            whole(alloc, line)?.as_str()
+        );
     }
     Ok(())
+}
+
+#[test]
+fn each_form_and_constant_has_its_text(rt: HostRuntime) -> Result<(), Fail> {
+    check(&rt, rt.alloc(), &FORMS)
 }
 
 // A form of `syntax` at an offset.
@@ -119,15 +136,28 @@ fn instance(alloc: Global, from: u32) -> Result<Core, Fail> {
     Ok(Core { node })
 }
 
-#[test]
-fn the_first_form_of_syntax_is_at_fault(rt: HostRuntime) -> Result<(), Fail> {
-    let alloc = rt.alloc();
-    let mut program = record(alloc, NAMES, &[(None, "car")])?;
+// A sequence of two such forms.
+fn instances(alloc: Global) -> Result<Core, Fail> {
     let mut parts = Vec::new(alloc);
     parts.push(instance(alloc, 7)?)?;
     parts.push(instance(alloc, 8)?)?;
     let node = CoreNode::Seq(parts);
-    program.run.push(Line::Expr(Core { node }))?;
-    assert_eq!(rt; written(alloc, &[], &[], &program)?.err(), Some(7));
+    Ok(Core { node })
+}
+
+fn with_instances(alloc: Global) -> Result<LibRecord, Fail> {
+    let mut program = record(alloc, NAMES, &[(None, "car")])?;
+    program.run.push(Line::Expr(instances(alloc)?))?;
+    Ok(program)
+}
+
+fn text_of_instances(alloc: Global) -> Result<String, Fail> {
+    let program = with_instances(alloc)?;
+    written(alloc, &[], &[], &program)
+}
+
+#[test]
+fn the_first_form_of_syntax_is_at_fault(rt: HostRuntime) -> Result<(), Fail> {
+    assert_eq!(rt; text_of_instances(rt.alloc())?.as_str(), "a fault at 7");
     Ok(())
 }

@@ -9,15 +9,21 @@ use sx_core::code::{Core, CoreNode};
 use sx_core::record::{LibRecord, Line};
 use sx_core_text::whole::core_text;
 
-// A record whose one line is the primitive of this name.
-fn record(alloc: Global, name: &str) -> Result<LibRecord, Memory> {
+fn lines(alloc: Global, name: &str) -> Result<Items<Line>, Memory> {
     let mut run = Items::new(alloc);
     if let Some(op) = op_named(name) {
         let node = CoreNode::Prim(op);
         run.push(Line::Expr(Core { node }))?;
     }
+    Ok(run)
+}
+
+// A record whose one line is the primitive of this name.
+fn record(alloc: Global, name: &str) -> Result<LibRecord, Memory> {
+    let path = Symbol::new(alloc, "p.sps")?;
+    let run = lines(alloc, name)?;
     Ok(LibRecord {
-        path: Symbol::new(alloc, "p.sps")?,
+        path,
         name: LibName::Program,
         version: Items::new(alloc),
         exports: Items::new(alloc),
@@ -28,16 +34,33 @@ fn record(alloc: Global, name: &str) -> Result<LibRecord, Memory> {
     })
 }
 
+fn records(alloc: Global, names: &[&str]) -> Result<Vec<LibRecord>, Memory> {
+    let mut records = Vec::new(alloc);
+    for name in names {
+        records.push(record(alloc, name)?)?;
+    }
+    Ok(records)
+}
+
+// The text of a program, where the second of these libraries is planned.
+fn text_after(alloc: Global, records: &[LibRecord]) -> Result<String, Fail> {
+    let program = record(alloc, "cdr")?;
+    match core_text(alloc, records, &[1], &program) {
+        Ok(text) => Ok(text),
+        Err(_) => Err(Fail::new("a fault")),
+    }
+}
+
+fn planned(alloc: Global) -> Result<String, Fail> {
+    let records = records(alloc, &["cons", "car"])?;
+    text_after(alloc, records.as_slice())
+}
+
 #[test]
 fn planned_lines_stand_before_those_of_the_program(rt: HostRuntime) -> Result<(), Fail> {
-    let alloc = rt.alloc();
-    let mut records = Vec::new(alloc);
-    records.push(record(alloc, "cons")?)?;
-    records.push(record(alloc, "car")?)?;
-    let program = record(alloc, "cdr")?;
-    let text = core_text(alloc, records.as_slice(), &[1], &program)
-        .ok()
-        .ok_or("a fault")?;
-    assert_eq!(rt; text.as_str(), "(import (rnrs))\ncar\ncdr\n");
+    assert_eq!(rt;
+        planned(rt.alloc())?.as_str(),
+        "(import (rnrs))\ncar\ncdr\n"
+    );
     Ok(())
 }

@@ -1,5 +1,7 @@
 use crate::records::{Row, record, written};
+use std::alloc::Global;
 use std::test::Fail;
+use sx_core::record::LibRecord;
 
 const FIRST_LINE: &str = "(import (rnrs))\n";
 
@@ -57,26 +59,57 @@ const PROGRAM_ROWS: [Row; 6] = [
     ),
 ];
 
-#[test]
-fn planned_libraries_stand_before_the_program(rt: HostRuntime) -> Result<(), Fail> {
-    let alloc = rt.alloc();
+/// The names of a library, parted by spaces, and its lines.
+type Library = (&'static str, &'static [Row<'static>]);
+
+const LIBRARIES: [Library; 2] = [
+    ("%other/x/0", &[(None, "display")]),
+    (STACK_NAMES, &STACK_ROWS),
+];
+
+fn records(alloc: Global, libraries: &[Library]) -> Result<Vec<LibRecord>, Fail> {
     let mut records = Vec::new(alloc);
-    records.push(record(alloc, "%other/x/0", &[(None, "display")])?)?;
-    records.push(record(alloc, STACK_NAMES, &STACK_ROWS)?)?;
+    for (names, lines) in libraries {
+        records.push(record(alloc, names, lines)?)?;
+    }
+    Ok(records)
+}
+
+// The text of the program, where the second of these libraries is planned.
+fn text_after(alloc: Global, records: &[LibRecord]) -> Result<String, Fail> {
     let program = record(alloc, PROGRAM_NAMES, &PROGRAM_ROWS)?;
+    written(alloc, records, &[1], &program)
+}
+
+fn planned(alloc: Global) -> Result<String, Fail> {
+    let records = records(alloc, &LIBRARIES)?;
+    text_after(alloc, records.as_slice())
+}
+
+fn expected(alloc: Global) -> Result<String, Fail> {
     let mut text = String::from_str(alloc, FIRST_LINE)?;
     text.push_str(STACK)?;
     text.push_str(PROGRAM)?;
-    let out = written(alloc, records.as_slice(), &[1], &program)?;
-    assert_eq!(rt; out.ok().ok_or("a fault")?, text);
+    Ok(text)
+}
+
+#[test]
+fn planned_libraries_stand_before_the_program(rt: HostRuntime) -> Result<(), Fail> {
+    let alloc = rt.alloc();
+    assert_eq!(rt; planned(alloc)?.as_str(), expected(alloc)?.as_str());
     Ok(())
+}
+
+fn defined(alloc: Global) -> Result<String, Fail> {
+    let program = record(alloc, "%/a~2F~b/0", &[(Some("%/a~2F~b/0"), "'1")])?;
+    written(alloc, &[], &[], &program)
 }
 
 #[test]
 fn a_slash_in_a_name_is_spelt(rt: HostRuntime) -> Result<(), Fail> {
-    let alloc = rt.alloc();
-    let program = record(alloc, "%/a~2F~b/0", &[(Some("%/a~2F~b/0"), "'1")])?;
-    let out = written(alloc, &[], &[], &program)?.ok().ok_or("a fault")?;
-    assert_eq!(rt; out.as_str(), "(import (rnrs))\n(define %/a~2F~b/0 1)\n");
+    assert_eq!(rt;
+        defined(rt.alloc())?.as_str(),
+        "(import (rnrs))\n(define %/a~2F~b/0 1)\n"
+    );
     Ok(())
 }

@@ -1,5 +1,6 @@
 use crate::building::{core, label, symbol_of};
 use std::alloc::Global;
+use std::fmt::Write;
 use std::test::Fail;
 use sx_base::fault::Stop;
 use sx_base::items::Items;
@@ -36,6 +37,14 @@ fn binding(alloc: Global, name: &str) -> Result<(Label, Binding), Fail> {
     Ok((label, Binding::Variable(info)))
 }
 
+fn bindings(alloc: Global, names: &str) -> Result<Items<(Label, Binding)>, Fail> {
+    let mut bindings = Items::new(alloc);
+    for name in names.split(" ") {
+        bindings.push(binding(alloc, name)?)?;
+    }
+    Ok(bindings)
+}
+
 fn line(alloc: Global, row: Row) -> Result<Line, Fail> {
     let (name, steps) = row;
     let core = core(alloc, steps)?;
@@ -45,18 +54,21 @@ fn line(alloc: Global, row: Row) -> Result<Line, Fail> {
     }
 }
 
-/// A record that binds the variables of some names, parted by spaces, and has some lines.
-pub fn record(alloc: Global, names: &str, rows: &[Row]) -> Result<LibRecord, Fail> {
-    let mut bindings = Items::new(alloc);
-    for name in names.split(" ") {
-        bindings.push(binding(alloc, name)?)?;
-    }
+fn lines(alloc: Global, rows: &[Row]) -> Result<Items<Line>, Fail> {
     let mut run = Items::new(alloc);
     for row in rows {
         run.push(line(alloc, *row)?)?;
     }
+    Ok(run)
+}
+
+/// A record that binds the variables of some names, parted by spaces, and has some lines.
+pub fn record(alloc: Global, names: &str, rows: &[Row]) -> Result<LibRecord, Fail> {
+    let path = Symbol::new(alloc, "p.sps")?;
+    let bindings = bindings(alloc, names)?;
+    let run = lines(alloc, rows)?;
     Ok(LibRecord {
-        path: Symbol::new(alloc, "p.sps")?,
+        path,
         name: LibName::Program,
         version: Items::new(alloc),
         exports: Items::new(alloc),
@@ -67,19 +79,22 @@ pub fn record(alloc: Global, names: &str, rows: &[Row]) -> Result<LibRecord, Fai
     })
 }
 
+fn fault_at(alloc: Global, from: u32) -> Result<String, Fail> {
+    let mut text = String::new(alloc);
+    write!(text, "a fault at {from}")?;
+    Ok(text)
+}
+
 /// The core text, or the offset of the form that has none.
 pub fn written(
     alloc: Global,
     records: &[LibRecord],
     plan: &[usize],
     program: &LibRecord,
-) -> Result<Result<String, u32>, Fail> {
+) -> Result<String, Fail> {
     match core_text(alloc, records, plan, program) {
-        Ok(text) => Ok(Ok(text)),
-        Err(Stop::Fault(fault)) => Ok(Err(fault.span.from)),
-        Err(Stop::Memory) => {
-            let nothing: Option<Result<String, u32>> = None;
-            Ok(nothing.ok_or("no memory")?)
-        }
+        Ok(text) => Ok(text),
+        Err(Stop::Fault(fault)) => fault_at(alloc, fault.span.from),
+        Err(Stop::Memory) => Err(Fail::new("no memory")),
     }
 }

@@ -25,5 +25,3 @@ pub mod frame_row;
 pub mod laws;
 pub mod marks;
 pub mod stamp;
-#[cfg(test)]
-mod tests;

@@ -1,8 +1,15 @@
 //! Tests of syntax objects.
 //!
-//! `changes` enters, leaves and stamps shared trees, and makes them up to their limits and past them. What
-//! it expects is the algorithm of Dybvig, Hieb and Bruggeman (1992), worked out by hand.
+//! `contexts` changes the marks and stamps of single leaves, and `changes` enters, leaves and stamps shared
+//! ones. `trees` makes trees up to their limits and past them, and of data. What they expect is the algorithm
+//! of Dybvig, Hieb and Bruggeman (1992), worked out by hand.
 #![tactic(auto)]
 
 #[cfg(test)]
 mod changes;
+#[cfg(test)]
+mod contexts;
+#[cfg(test)]
+mod told;
+#[cfg(test)]
+mod trees;

@@ -5,14 +5,15 @@ use sx_base::datum::{Datum, Node};
 use sx_base::memory::Memory;
 use sx_base::symbol::Symbol;
 use sx_region::region::{Place, Region};
+use sx_value::cell::Cell;
 use sx_value::from_datum::from_datum;
 use sx_value::to_syntax::to_syntax;
 use sx_value::value::Value;
 
-fn number(value: i128) -> Datum {
+fn atom(value: Atom) -> Datum {
     Datum {
         span: None,
-        node: Node::Atom(Atom::Int(value)),
+        node: Node::Atom(value),
     }
 }
 
@@ -20,11 +21,8 @@ fn number(value: i128) -> Datum {
 fn text_and_number(alloc: Global) -> Result<Datum, Memory> {
     let text = Symbol::new(alloc, "a")?;
     let mut items = Vec::new(alloc);
-    items.push(Datum {
-        span: None,
-        node: Node::Atom(Atom::Str(text)),
-    })?;
-    items.push(number(1))?;
+    items.push(atom(Atom::Str(text)))?;
+    items.push(atom(Atom::Int(1)))?;
     let nil = Datum {
         span: None,
         node: Node::Atom(Atom::Nil),
@@ -36,14 +34,34 @@ fn text_and_number(alloc: Global) -> Result<Datum, Memory> {
     })
 }
 
+/// The fuel that is left when the value is read as a tree.
+fn left(alloc: Global, cells: &Region<Cell>, value: &Value, fuel: u64) -> Result<u64, Fail> {
+    match to_syntax(alloc, cells, value, fuel) {
+        Ok((_, left)) => Ok(left),
+        Err(_) => Err(Fail::new("no tree")),
+    }
+}
+
+/// Whether the value of `("a" 1)` is the pair at place 2, and the fuel that is left of 3.
+fn stored_in(alloc: Global, cells: &mut Region<Cell>) -> Result<(bool, u64), Fail> {
+    let value = from_datum(alloc, cells, &text_and_number(alloc)?)?;
+    let is_pair = matches!(value, Value::Pair(Place(2)));
+    Ok((is_pair, left(alloc, cells, &value, 3)?))
+}
+
+/// The same, and the number of cells.
+fn stored(alloc: Global) -> (Result<(bool, u64), Fail>, u64) {
+    let mut cells = Region::new(alloc);
+    let found = stored_in(alloc, &mut cells);
+    (found, cells.len())
+}
+
 #[test]
 fn a_datum_adds_its_parts_first(rt: HostRuntime) -> Result<(), Fail> {
-    let alloc = rt.alloc();
-    let mut cells = Region::new(alloc);
-    let datum = text_and_number(alloc)?;
-    let value = from_datum(alloc, &mut cells, &datum)?;
-    assert_eq!(rt; cells.len(), 3);
-    assert!(rt; matches!(value, Value::Pair(Place(2))));
-    assert!(rt; matches!(to_syntax(alloc, &cells, &value, 3), Ok((_, 0))));
+    let (found, count) = stored(rt.alloc());
+    let (is_pair, left) = found?;
+    assert!(rt; is_pair);
+    assert_eq!(rt; left, 0);
+    assert_eq!(rt; count, 3);
     Ok(())
 }

@@ -25,6 +25,4 @@ pub mod command;
 pub mod job;
 pub mod number;
 pub mod roots;
-#[cfg(test)]
-mod tests;
 pub mod words;

@@ -1,6 +1,6 @@
-use super::read_source;
 use std::test::Fail;
 use sx_base::symbol::Symbol;
+use sx_grammar::read_source;
 
 #[test]
 fn a_source_is_read(rt: HostRuntime) -> Result<(), Fail> {

@@ -1,9 +1,9 @@
-use crate::report::{Fate, Told, report_text};
 use std::alloc::Global;
 use std::test::Fail;
 use sx_base::items::Items;
 use sx_base::library::LibName;
 use sx_base::symbol::Symbol;
+use sx_report::report::{Fate, Told, report_text};
 
 fn told(alloc: Global, fate: Fate, parts: &[&str]) -> Result<Told, Fail> {
     let mut symbols = Items::new(alloc);

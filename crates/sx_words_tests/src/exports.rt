@@ -1,16 +1,26 @@
-use crate::derived::derived_source;
-use crate::exports::{exports, op_name};
-use crate::prelude::prelude_source;
 use std::alloc::Global;
+use std::process::Abort;
 use std::test::Fail;
 use sx_base::items::Items;
 use sx_base::library::LibName;
 use sx_base::op::Op;
 use sx_base::symbol::Symbol;
+use sx_builtin::derived::derived_source;
+use sx_builtin::exports::{exports, op_name};
+use sx_builtin::prelude::prelude_source;
 
-// A library's parts, how many names it has, and a name at a place with its label: whether it is of the
-// core, and its number.
-const ROWS: [(&[&str], usize, usize, &str, bool, u64); 14] = [
+/// A library's parts, how many names it has, and a name at a place with its label: whether it is of the
+/// core, and its number.
+type Exported = (
+    &'static [&'static str],
+    usize,
+    usize,
+    &'static str,
+    bool,
+    u64,
+);
+
+const ROWS: [Exported; 14] = [
     (&["rnrs"], 282, 281, "exit", true, 281),
     (&["rnrs"], 282, 20, "let-values", false, 15),
     (&["rnrs", "base"], 191, 27, "syntax-rules", false, 0),
@@ -64,28 +74,52 @@ fn library(alloc: Global, parts: &[&str]) -> Result<LibName, Fail> {
     Ok(LibName::User(items))
 }
 
-#[test]
-fn the_libraries_export_their_names(rt: HostRuntime) -> Result<(), Fail> {
-    let alloc = rt.alloc();
-    for (parts, count, place, text, is_core, number) in ROWS {
-        let names = exports(alloc, &library(alloc, parts)?)?.ok_or("no library")?;
-        let (symbol, label) = names.as_slice().get(place).ok_or("no name")?;
-        assert_eq!(rt; names.as_slice().len(), count);
-        assert_eq!(rt; symbol.as_str(), text);
-        assert_eq!(rt; *label.0.library == LibName::Core, is_core);
-        assert_eq!(rt; label.0.number, number);
+fn is_exported(alloc: Global, row: &Exported) -> Result<bool, Fail> {
+    let (parts, count, place, text, is_core, number) = row;
+    let names = exports(alloc, &library(alloc, parts)?)?.ok_or("no library")?;
+    let (symbol, label) = names.as_slice().get(*place).ok_or("no name")?;
+    let named = names.as_slice().len() == *count && symbol.as_str() == *text;
+    let of_core = *label.0.library == LibName::Core;
+    Ok(named && of_core == *is_core && label.0.number == *number)
+}
+
+fn check(rt: &impl Abort, alloc: Global, rows: &[Exported]) -> Result<(), Fail> {
+    for row in rows {
+        assert!(rt; is_exported(alloc, row)?, "{}", row.3);
     }
     Ok(())
 }
 
 #[test]
+fn the_libraries_export_their_names(rt: HostRuntime) -> Result<(), Fail> {
+    check(&rt, rt.alloc(), &ROWS)
+}
+
+fn is_not_given(alloc: Global, parts: &[&str]) -> Result<bool, Fail> {
+    Ok(exports(alloc, &library(alloc, parts)?)?.is_none())
+}
+
+#[test]
 fn no_other_library_is_given(rt: HostRuntime) -> Result<(), Fail> {
     let alloc = rt.alloc();
-    assert!(rt; exports(alloc, &library(alloc, &["rnrs", "unicode"])?)?.is_none());
-    assert!(rt; exports(alloc, &library(alloc, &["rnrs", "io"])?)?.is_none());
-    assert!(rt; exports(alloc, &library(alloc, &[])?)?.is_none());
+    assert!(rt; is_not_given(alloc, &["rnrs", "unicode"])?);
+    assert!(rt; is_not_given(alloc, &["rnrs", "io"])?);
+    assert!(rt; is_not_given(alloc, &[])?);
     assert!(rt; exports(alloc, &LibName::Core)?.is_none());
     Ok(())
+}
+
+fn length(number: u16) -> usize {
+    match prelude_source(Op(number)) {
+        Some(text) => text.len(),
+        None => 0,
+    }
+}
+
+fn check_lengths(rt: &impl Abort, rows: &[(u16, usize)]) {
+    for (number, wanted) in rows {
+        assert_eq!(rt; length(*number), *wanted);
+    }
 }
 
 #[test]
@@ -96,8 +130,6 @@ fn texts_are_whole(rt: HostRuntime) {
             b"((id x (... ...)) #'(e1 x (... ...)))\n        (id (identifier? #'id) #'e1))))))))\n"
         )
     );
-    for (op, length) in TEXTS {
-        assert_eq!(rt; prelude_source(Op(op)).map_or(0, |text| text.len()), length);
-    }
+    check_lengths(&rt, &TEXTS);
     assert_eq!(rt; op_name(Op(51)), "car");
 }

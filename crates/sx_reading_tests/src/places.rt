@@ -1,4 +1,4 @@
-use crate::lines::counted_place;
+use sx_places::lines::counted_place;
 
 #[test]
 fn a_return_and_a_line_feed_end_one_line(rt: HostRuntime) {

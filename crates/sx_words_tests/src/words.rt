@@ -1,8 +1,9 @@
-use crate::job::{Job, Kind};
-use crate::words::{Words, read_words};
 use std::alloc::Global;
 use std::fmt::Write;
+use std::process::Abort;
 use std::test::Fail;
+use sx_words::job::{Job, Kind};
+use sx_words::words::{Words, read_words};
 
 // Words, and what they ask for: `make N`, `usage`, or the kind, the roots, the cache and the report where
 // they are asked for, and the program.
@@ -144,13 +145,16 @@ fn told(alloc: Global, words: &Words) -> Result<String, Fail> {
     }
 }
 
-#[test]
-fn words_ask_for_what_the_table_says(rt: HostRuntime) -> Result<(), Fail> {
-    let alloc = rt.alloc();
-    for (texts, answer) in ROWS {
+fn check(rt: &impl Abort, alloc: Global, rows: &[(&[&str], &str)]) -> Result<(), Fail> {
+    for (texts, answer) in rows {
         let words = given(alloc, texts)?;
         let read = read_words(alloc, words.as_slice())?;
-        assert_eq!(rt; told(alloc, &read)?.as_str(), answer, "{texts:?}");
+        assert_eq!(rt; told(alloc, &read)?.as_str(), *answer, "{texts:?}");
     }
     Ok(())
+}
+
+#[test]
+fn words_ask_for_what_the_table_says(rt: HostRuntime) -> Result<(), Fail> {
+    check(&rt, rt.alloc(), &ROWS)
 }

@@ -1,6 +1,8 @@
-use super::*;
 use std::test::Fail;
 use sx_base::items::Items;
+use sx_base::library::LibName;
+use sx_base::symbol::Symbol;
+use sx_names::put_generated_name;
 
 #[test]
 fn names_are_spelt_by_library_symbol_and_number(rt: HostRuntime) -> Result<(), Fail> {

@@ -1,5 +1,5 @@
 use Rattle.std.proofs.Common.{◌-◌, ◌≤◌, length}
-use Rattle.sx_lexer.proofs.tests.read.Given as goal
+use Rattle.sx_reading_tests.proofs.lexing.read.Given as goal
 
 abbrev pub invariant-loop-file : goal.invariant-loop-file
 invariant-loop-file l = l.at ≤ length l.source

@@ -1,0 +1,12 @@
+//! Tests of the crates of words, names and reports that stand on `sx_base` alone.
+//!
+//! `words` reads command lines, `exports` asks what the libraries of this profile export and how long their
+//! texts are, and `report` writes a report.
+#![tactic(auto)]
+
+#[cfg(test)]
+mod exports;
+#[cfg(test)]
+mod report;
+#[cfg(test)]
+mod words;
