@@ -1,0 +1,5 @@
+mod Scalars
+mod Products
+mod Fits
+mod Divisions
+mod Sums

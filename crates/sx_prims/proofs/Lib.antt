@@ -1,0 +1,11 @@
+pub mod Temporaries
+pub mod Performed
+pub mod Links
+pub mod Indices
+pub mod Opened
+pub mod Walks
+pub mod Rows
+pub mod Names
+pub mod Placed
+pub mod Called
+pub mod Waiting
