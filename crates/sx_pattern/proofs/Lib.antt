@@ -1,0 +1,5 @@
+pub mod Levels
+pub mod Fronts
+pub mod Sizes
+pub mod Chains
+pub mod Walks

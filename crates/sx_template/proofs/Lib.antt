@@ -1,0 +1,9 @@
+pub mod Places
+pub mod Turns
+pub mod Sizes
+pub mod Agreed
+pub mod Costs
+pub mod Parts
+pub mod Levels
+pub mod Items
+pub mod Walks

@@ -1,0 +1,5 @@
+pub mod Compile
+pub mod Binds
+pub mod Lengths
+pub mod Instance
+pub mod Cost

@@ -1,0 +1,133 @@
+//! The lengths of variables at an ellipsis.
+
+ghost use Rattle.std.specs.Prelude.{◌≡◌, ◌∷◌, [], None, decimal, IfOk};
+ghost use Rattle.sx_base.specs.Gives.{BareGives};
+ghost use Rattle.sx_value.specs.ToSyntax.{IsFaultOr};
+ghost use Rattle.sx_core.specs.Template.{variable};
+ghost use Rattle.sx_core.specs.TemplateView.{items};
+ghost use Rattle.sx_template.specs.Binds.{unbound};
+ghost use Rattle.sx_template.specs.Lengths.{lengths, items_lengths, differing, agree, or_none};
+
+use crate::binds::count_at;
+use itoa::Buffer;
+use std::alloc::Global;
+use sx_base::fault::{Bare, BareStop, FaultKind};
+use sx_base::items::Items;
+use sx_base::memory::Memory;
+use sx_base::name::Label;
+use sx_base::symbol::Symbol;
+use sx_core::template::{Item, Template, TemplateNode};
+use sx_value::bind::Bind;
+
+fn number_word(alloc: Global, number: u64) -> Result<Symbol, Memory>
+    ensures { IfOk result (λ s. s ≡ decimal number) }
+{
+    let mut digits = Buffer::new();
+    Symbol::new(alloc, digits.format(number))
+}
+
+fn two_words(alloc: Global, first: u64, second: u64) -> Result<Items<Symbol>, Memory>
+    ensures { IfOk result (λ words. words ≡ decimal first ∷ (decimal second ∷ [])) }
+{
+    let mut words = Items::new(alloc);
+    words.push(number_word(alloc, first)?)?;
+    words.push(number_word(alloc, second)?)?;
+    Ok(words)
+}
+
+/// Two lengths that differ.
+fn differing(alloc: Global, first: u64, second: u64) -> BareStop
+    ensures { IsFaultOr result (differing first second) }
+{
+    match two_words(alloc, first, second) {
+        Ok(words) => BareStop::Fault(Bare {
+            kind: FaultKind::EllipsisLength,
+            words,
+        }),
+        Err(_) => BareStop::Memory,
+    }
+}
+
+fn agree_with(alloc: Global, so_far: Option<u64>, count: u64) -> Result<Option<u64>, BareStop>
+    ensures { BareGives (λ m. m) result (agree so_far (count ∷ [])) }
+{
+    match so_far {
+        None => Ok(Some(count)),
+        Some(first) => {
+            if first == count {
+                Ok(Some(first))
+            } else {
+                Err(differing(alloc, first, count))
+            }
+        }
+    }
+}
+
+fn agree_at(
+    alloc: Global,
+    label: &Label,
+    depth: u32,
+    inside: u64,
+    turns: &[u64],
+    binds: &[(Label, Bind)],
+    so_far: Option<u64>,
+) -> Result<Option<u64>, BareStop>
+    ensures { BareGives (λ m. m) result (agree so_far (lengths unbound binds.now turns.now inside (variable label.now depth))) }
+{
+    let depth = u64::from(depth);
+    if inside < depth {
+        let outer = depth - inside - 1;
+        agree_with(alloc, so_far, count_at(binds, label, outer, turns))
+    } else {
+        Ok(so_far)
+    }
+}
+
+/// The one length of the variables of depth at an ellipsis, inside which so many others stand. It is
+/// `EllipsisLength` with the first two that differ, in order of place.
+#[cycle(agreed)]
+#[tactic(auto, using(crate::proofs::Agreed::agree_on, crate::proofs::Agreed::agree_stops))]
+pub fn agreed(
+    alloc: Global,
+    template: &Template,
+    inside: u64,
+    turns: &[u64],
+    binds: &[(Label, Bind)],
+    so_far: Option<u64>,
+) -> Result<Option<u64>, BareStop>
+    ensures { BareGives (λ m. m) result (agree so_far (lengths unbound binds.now turns.now inside template.now)) }
+{
+    match &template.node {
+        TemplateNode::Variable(label, depth) => {
+            agree_at(alloc, label, *depth, inside, turns, binds, so_far)
+        }
+        TemplateNode::Constant(_) => Ok(so_far),
+        TemplateNode::List(list, tail) => {
+            let so_far = all_agreed(alloc, list, inside, turns, binds, so_far)?;
+            agreed(alloc, tail, inside, turns, binds, so_far)
+        }
+        TemplateNode::Vector(list) => all_agreed(alloc, list, inside, turns, binds, so_far),
+    }
+}
+
+#[cycle(agreed)]
+#[tactic(auto, using(crate::proofs::Agreed::agreed_here, crate::proofs::Agreed::agreed_stops))]
+fn all_agreed(
+    alloc: Global,
+    list: &[Item],
+    inside: u64,
+    turns: &[u64],
+    binds: &[(Label, Bind)],
+    so_far: Option<u64>,
+) -> Result<Option<u64>, BareStop>
+    ensures { BareGives (λ m. m) result (agree so_far (items_lengths unbound binds.now turns.now inside (items list.now))) }
+{
+    let mut so_far = so_far;
+    for item in list {
+        let Some(more) = inside.checked_add(u64::from(item.ellipses)) else {
+            return Err(BareStop::Memory);
+        };
+        so_far = agreed(alloc, &item.template, more, turns, binds, so_far)?;
+    }
+    Ok(so_far)
+}

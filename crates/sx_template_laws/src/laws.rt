@@ -1,0 +1,39 @@
+//! The laws of templates. Each function here computes nothing: what it promises is the law.
+
+ghost use Rattle.std.specs.Prelude.{◌≡◌, [], List, map, Some};
+ghost use Rattle.sx_base.specs.declared.name.Mark.{Mark};
+ghost use Rattle.sx_frames.specs.Scope.{Scope};
+ghost use Rattle.sx_core.specs.Pattern.{PlainPattern};
+ghost use Rattle.sx_core.specs.Template.{PlainTemplate};
+ghost use Rattle.sx_value.specs.Cells.{FitsIn, Whole};
+ghost use Rattle.sx_value.specs.declared.cell.Cell.{Cell};
+ghost use Rattle.sx_value.specs.declared.value.Value.{Value};
+ghost use Rattle.sx_pattern.specs.Matched.{matched, nothing};
+ghost use Rattle.sx_pattern.specs.declared.columns.Found.{Found};
+ghost use Rattle.sx_template.specs.Binds.{Binds, Absent};
+ghost use Rattle.sx_template.specs.Instance.{instance};
+ghost use Rattle.sx_match_laws.specs.Renaming.{renamed_value, renamed_row, renamed_cell};
+ghost use Rattle.sx_template_laws.specs.Ready.{Ready};
+ghost use Rattle.sx_template_laws.specs.Repeating.{variables, Distinct, IsRepeat, GivesBack};
+ghost use Rattle.sx_template_laws.specs.Renaming.{renamed_template, renamed_absent, renamed_made};
+
+/// No variable is missing where all are bound to their depths: what stands for an absent one doesn't show.
+pub fn no_variable_is_missing()
+    ensures { (a b : Absent) (binds : Binds) (t : PlainTemplate) (cells : List Cell) → Ready binds 0 t →
+        instance a binds t [] cells ≡ instance b binds t [] cells }
+{}
+
+/// To give the marks of binds, template and cells other names gives those of the instance these names,
+/// and changes nothing else.
+pub fn names_of_marks_are_free()
+    ensures { (r : Mark → Mark) (a : Absent) (binds : Binds) (t : PlainTemplate) (cells : List Cell) →
+        instance (renamed_absent r a) (map (renamed_row r) binds) (renamed_template r t) [] (map (renamed_cell r) cells)
+        ≡ renamed_made r (renamed_value r) (instance a binds t [] cells) }
+{}
+
+/// A template that repeats its pattern gives back what was matched, as data, and is never at fault.
+pub fn a_repeated_pattern_gives_back_what_it_took()
+    ensures { (a : Absent) (fs : Scope) (cells : List Cell) → Whole cells → (p : PlainPattern) (v : Value) → FitsIn cells v → (f : Found) →
+        matched fs cells p v (nothing 0) ≡ Some f → (t : PlainTemplate) → IsRepeat 0 p t → Distinct (variables p) →
+        GivesBack fs cells v cells (instance a f.binds t [] cells) }
+{}
