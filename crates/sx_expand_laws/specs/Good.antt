@@ -1,0 +1,30 @@
+-- Every record that expansion gives is closed, bound once and well made.
+use Rattle.std.specs.Prelude.{◌≡◌, ℕ, List, [], ◌++◌, Ok}
+use Rattle.std.specs.List.{flat_map}
+use Rattle.sx_base.specs.declared.library.LibName.{LibName}
+use Rattle.sx_base.specs.declared.name.Label.{Label}
+use Rattle.sx_base.specs.declared.span.Span.{Span}
+use Rattle.sx_tree.specs.Tree.{Tree}
+use Rattle.sx_core.specs.declared.record.LibRecord.{LibRecord}
+use Rattle.sx_core_laws.specs.Words.{Each, Once}
+use Rattle.sx_core_laws.specs.Parts.{code_numbers}
+use Rattle.sx_core_laws.specs.WellMade.{IsWellMade}
+use Rattle.sx_core_laws.specs.Records.{defined, run_binders, LinesClosed}
+use Rattle.sx_core_laws.specs.Follows.{line_cores, IsOwn}
+use Rattle.sx_expand.specs.Expanding.{ready, library_record}
+use Rattle.sx_expand_laws.specs.Ready.{IsReady}
+
+-- Behind some records: its lines are closed under the variables that these define and its own; no label has two binders in
+-- it, and no two codes have one number; the binders and the codes are named by its library; and each line is well made.
+pub record IsGood (records : List LibRecord) (r : LibRecord) : Type 0 where
+  pub closed : LinesClosed (flat_map defined records ++ defined r) r
+  pub bound_once : Once (run_binders r)
+  pub bound_here : Each (λ l. IsOwn r l.0) (run_binders r)
+  pub numbered_once : Once (flat_map code_numbers (line_cores r))
+  pub numbered_here : Each (λ n. IsOwn r n.0) (flat_map code_numbers (line_cores r))
+  pub well_made : Each (IsWellMade []) (line_cores r)
+
+abbrev pub RecordsAreGood : Type 0
+RecordsAreGood = (own : LibName) (path : List ℕ) (records : List LibRecord) (imports : List (List ℕ × Label)) (version : List ℕ) (place : Span)
+    (exports : List (List ℕ × Tree)) (forms : List Tree) (r : LibRecord)
+    → IsReady own records imports forms → library_record (ready own path records imports) version place exports forms ≡ Ok r → IsGood records r

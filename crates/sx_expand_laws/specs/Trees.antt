@@ -1,0 +1,19 @@
+-- Trees whose stamps name certain frames.
+use Rattle.std.specs.Prelude.{List}
+use Rattle.sx_base.specs.declared.name.FrameNo.{FrameNo}
+use Rattle.sx_tree.specs.Tree.{Tree, atom, leaf, pair, vector}
+use Rattle.sx_tree.specs.declared.stamp.Stamp.{Stamp}
+use Rattle.sx_core_laws.specs.Words.{Each}
+
+abbrev pub StampsAre : (FrameNo → Type 0) → List Stamp → Type 0
+StampsAre P ts = Each (λ (t : Stamp). P t.frame) ts
+
+-- each stamp of each leaf names such a frame
+abbrev pub LeavesAre : (FrameNo → Type 0) → Tree → Type 0
+LeavesAre P (atom s a) = Unit {0}
+LeavesAre P (leaf s x c) = StampsAre P c.stamps
+LeavesAre P (pair s a d) = LeavesAre P a × LeavesAre P d
+LeavesAre P (vector s d) = LeavesAre P d
+
+abbrev pub AllLeavesAre : (FrameNo → Type 0) → List Tree → Type 0
+AllLeavesAre P ts = Each (LeavesAre P) ts

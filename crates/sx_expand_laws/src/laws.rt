@@ -1,0 +1,19 @@
+//! Laws of expansion. Each function here computes nothing: what it promises is the law.
+
+ghost use Rattle.sx_expand_laws.specs.Good.{RecordsAreGood};
+ghost use Rattle.sx_expand_laws.specs.Named.{ReferencesNameBinders, AssignmentsNameBinders, BindersAreFound, BindersStay};
+
+/// Every record that expansion gives is closed, bound once and well made.
+pub fn records_are_good()
+    ensures { RecordsAreGood }
+{}
+
+/// Each reference names the binder that its leaf stands for: a leaf becomes a reference to the label
+/// that it stands for, an assignment has the label of its target, the identifier of a binder stands for
+/// the binder's label, and no form that is expanded meanwhile changes what an identifier stands for.
+pub fn references_name_binders()
+    ensures references { ReferencesNameBinders }
+    ensures assignments { AssignmentsNameBinders }
+    ensures binders { BindersAreFound }
+    ensures stay { BindersStay }
+{}
