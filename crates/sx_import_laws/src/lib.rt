@@ -1,0 +1,39 @@
+//! What import sets do, seen as finite maps from names to labels (R6RS 7.1).
+//!
+//! `(rename (only (m) a b) (a c))` takes from the names of `(m)` those that are `a` or `b`, and then the
+//! label of `a` stands under `c`. The definition goes along lists, in the order of the names; here it is
+//! told what these lists are as maps, in which the order doesn't matter.
+//!
+//! The promise: `only` and `except` select names, `prefix` moves each name, after a `rename` each name of
+//! the set stands for its label under its new name, and the names of two sets join to the union of both,
+//! refused exactly where a name would stand for two labels.
+//!
+//! Here are no calls to make: each function stands for the laws that it ensures.
+#![tactic(auto)]
+
+ghost use Rattle.std.specs.Prelude.{◌≡◌, ◌++◌, ℕ, List, [], None, Ok, Err, if◌then◌else◌};
+ghost use Rattle.sx_base.specs.declared.fault.Fault.{Fault};
+ghost use Rattle.sx_base.specs.declared.span.Span.{Span};
+ghost use Rattle.sx_import_laws.specs.Algebra.{or_else, IsOnce, Has, Conflicts};
+ghost use Rattle.sx_import.specs.Names.{Labelled, only, except, prefixed, renamed, is_among, joined};
+ghost use Rattle.sx_import.specs.Table.{value_of};
+ghost use Rattle.sx_import.specs.declared.set.NameAt.{NameAt};
+ghost use Rattle.sx_import.specs.declared.set.Renaming.{Renaming};
+
+/// `only` and `except` select names, `prefix` moves each name, and after a `rename` each name of the set
+/// stands for its label under its new name.
+pub fn words_select_and_move()
+    ensures only { (ids : List NameAt) (names : Labelled) (n : List ℕ) → value_of n (only ids names) ≡ (if is_among ids n then value_of n names else None) }
+    ensures except { (ids : List NameAt) (names : Labelled) (n : List ℕ) → value_of n (except ids names) ≡ (if is_among ids n then None else value_of n names) }
+    ensures prefix { (p : List ℕ) (names : Labelled) (n : List ℕ) → value_of (p ++ n) (prefixed p names) ≡ value_of n names }
+    ensures rename { (span : Span) (rs : List Renaming) (names r : Labelled) → joined span [] (renamed rs names) ≡ Ok r → Has r (renamed rs names) }
+{}
+
+/// Joined names are the union of both maps, in which no name stands twice and none is lost. It is refused
+/// exactly where a name stood before for another label.
+pub fn joined_names_are_a_union()
+    ensures union { (span : Span) (all more r : Labelled) → joined span all more ≡ Ok r → (n : List ℕ) → value_of n r ≡ or_else (value_of n all) (value_of n more) }
+    ensures has { (span : Span) (all more r : Labelled) → joined span all more ≡ Ok r → Has r more }
+    ensures once { (span : Span) (all more r : Labelled) → IsOnce all → joined span all more ≡ Ok r → IsOnce r }
+    ensures conflict { (span : Span) (all more : Labelled) (f : Fault) → joined span all more ≡ Err f → Conflicts span all more f }
+{}

@@ -1,0 +1,31 @@
+//! The plan as a function: there is but one, and it is what following references as long as any wait gives.
+//!
+//! `run_plan` promises the places that chains of references reach, and no others, rising. Here it is told by a
+//! function of the records and the program, so that what is made of a plan, as the core text, is one as well.
+//!
+//! ```text
+//! the program refers to (b), (b) refers to (a)        waiting: (b), then (a); the plan has both
+//! ```
+//!
+//! The promise: `planned` gives exactly that function's plan; only want of memory is free.
+#![tactic(auto)]
+
+ghost use Rattle.std.specs.Prelude.{◌≡◌, IfOk};
+ghost use Rattle.sx_planned.specs.Plan.{plan_of};
+
+use std::alloc::Global;
+use sx_base::memory::Memory;
+use sx_core::record::LibRecord;
+use sx_plan::plan::run_plan;
+
+/// The places of the records that the program needs when it runs, rising.
+#[tactic(auto, using(crate::proofs::PlanLemmas::plan_is))]
+pub fn planned(
+    alloc: Global,
+    records: &[LibRecord],
+    program: &LibRecord,
+) -> Result<Vec<usize>, Memory>
+    ensures { IfOk result (λ plan. plan.items ≡ plan_of records.now program.now) }
+{
+    run_plan(alloc, records, program)
+}
