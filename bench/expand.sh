@@ -7,6 +7,7 @@ folder=$(mktemp -d) || exit 1
 trap 'rm -rf "$folder"' EXIT
 "$top/scheme-expand" "$top/examples/first/p.sps" >/dev/null || exit 1
 program=$top/crates/scheme_expand/out/scheme_expand
+. "$(dirname "$0")/times.sh"
 
 definitions() {
     awk -v n="$1" 'BEGIN {
@@ -26,23 +27,13 @@ scopes() {
     }'
 }
 
-measure() {
-    best=
-    for _ in 1 2 3; do
-        begun=$(date +%s%N)
-        "$program" "$folder/p.sps" >/dev/null || exit 1
-        taken=$(( $(date +%s%N) - begun ))
-        if [ -z "$best" ] || [ "$taken" -lt "$best" ]; then best=$taken; fi
-    done
-    awk -v what="$1" -v count="$2" -v now="$best" -v before="$3" \
-        'BEGIN { printf "%-12s %7d %8.3f s", what, count, now / 1e9; if (before) printf "  x%.2f", now / before; print "" }'
-}
-
 for what in definitions scopes; do
     last=
-    for count in 1000 2000 4000 8000 16000; do
+    for count in 1000 2000 4000 8000; do
         $what "$count" >"$folder/p.sps"
-        measure "$what" "$count" "$last"
-        last=$best
+        now=$(best "$folder/p.sps") || exit 1
+        awk -v what="$what" -v count="$count" -v now="$now" -v before="$last" \
+            'BEGIN { printf "%-12s %7d %8.3f s", what, count, now / 1e9; if (before) printf "  x%.2f", now / before; print "" }'
+        last=$now
     done
 done

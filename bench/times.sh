@@ -1,9 +1,12 @@
-# Sourced by the scripts here. It builds the program sx_bench, and sets `program`; `best` prints the
-# nanoseconds of the best of three runs of the program with some words.
+# Sourced by the scripts here. Where `program` isn't set, it builds the program sx_bench and sets it; `best` prints the
+# nanoseconds of the best of three runs of the program with some words, and `made_and_done` the seconds of a
+# work, without those of the making that comes before it, for numbers of something.
 top=$(cd "$(dirname "$0")/.." && pwd) || exit 1
-crate=$top/crates/sx_bench
-(cd "$crate" && rt run -- build 1) >/dev/null 2>&1 || { echo "sx_bench is not built" >&2; exit 1; }
-program=$crate/out/sx_bench
+if [ -z "$program" ]; then
+    crate=$top/crates/sx_bench
+    (cd "$crate" && rt run -- build 1) >/dev/null 2>&1 || { echo "sx_bench is not built" >&2; exit 1; }
+    program=$crate/out/sx_bench
+fi
 
 best() {
     least=
@@ -14,4 +17,19 @@ best() {
         if [ -z "$least" ] || [ "$taken" -lt "$least" ]; then least=$taken; fi
     done
     echo "$least"
+}
+
+made_and_done() {
+    making=$1 work=$2 what=$3
+    shift 3
+    last=
+    for count in "$@"; do
+        make=$(best "$making" "$count") || exit 1
+        whole=$(best "$work" "$count") || exit 1
+        now=$(( whole - make ))
+        if [ "$now" -lt 1 ]; then now=1; fi
+        awk -v work="$work" -v making="$making" -v what="$what" -v count="$count" -v make="$make" -v now="$now" -v before="$last" \
+            'BEGIN { printf "%-7s %8d %-6s  %-5s %7.3f s  %-7s %8.4f s", work, count, what, making, make / 1e9, work, now / 1e9; if (before) printf "  x%.2f", now / before; print "" }'
+        last=$now
+    done
 }

@@ -1,20 +1,22 @@
-//! Work on syntax objects, frames, cells and core text whose time `bench/syntax.sh`, `bench/scope.sh`,
-//! `bench/values.sh` and `bench/printer.sh` take.
+//! Work on syntax objects, frames, cells, patterns and core text whose time `bench/syntax.sh`,
+//! `bench/scope.sh`, `bench/values.sh`, `bench/patterns.sh` and `bench/printer.sh` take.
 //!
 //! The words are what to do and how many elements the list has, as `walk 1000`. `build` makes the list
 //! alone; `change` enters and leaves a mark on it 1,000 times; `walk` enters a mark and opens the list
 //! from its first element to its last, each element too. With `fill`, `find`, `ask`, `layer`, `look` and
-//! `recall` the number is that of names or frames, as `scopes` says, with `store` and `read` that of
-//! pairs, as `values` says, and with `lines` and `print` that of lines, as `texts` says. The program
-//! writes its words.
+//! `recall` the number is that of names or frames, as `scopes` says, with `store`, `measure` and `read`
+//! that of pairs, as `values` says, with `match` and `instance` that of elements, as `patterns` says, and
+//! with `lines` and `print` that of lines, as `texts` says. The program writes its words.
 #![tactic(auto)]
 
+mod patterns;
 mod scopes;
 mod texts;
 mod values;
 
 ghost use Rattle.std.specs.Prelude.{◌≡◌, ◌<◌};
 
+use crate::patterns::PatternWork;
 use crate::scopes::FrameWork;
 use crate::texts::TextWork;
 use crate::values::CellWork;
@@ -46,6 +48,7 @@ enum Work {
     List(ListWork),
     Frames(FrameWork),
     Cells(CellWork),
+    Patterns(PatternWork),
     Texts(TextWork),
 }
 
@@ -61,7 +64,10 @@ fn work_of(word: &str) -> Option<Work> {
         "look" => Some(Work::Frames(FrameWork::Look)),
         "recall" => Some(Work::Frames(FrameWork::Recall)),
         "store" => Some(Work::Cells(CellWork::Store)),
+        "measure" => Some(Work::Cells(CellWork::Measure)),
         "read" => Some(Work::Cells(CellWork::Read)),
+        "match" => Some(Work::Patterns(PatternWork::Match)),
+        "instance" => Some(Work::Patterns(PatternWork::Fill)),
         "lines" => Some(Work::Texts(TextWork::Lines)),
         "print" => Some(Work::Texts(TextWork::Print)),
         _ => None,
@@ -137,6 +143,7 @@ fn done(alloc: Global, work: Work, count: u32) -> Result<bool, BareStop> {
         }
         Work::Frames(work) => scopes::run(alloc, work, count),
         Work::Cells(work) => values::run(alloc, work, count),
+        Work::Patterns(work) => patterns::run(alloc, work, count),
         Work::Texts(work) => texts::run(alloc, work, count),
     }
 }

@@ -4,6 +4,7 @@ use std::alloc::Global;
 use sx_base::atom::Atom;
 use sx_base::fault::BareStop;
 use sx_base::memory::Memory;
+use sx_prims::chains::measured;
 use sx_region::region::Region;
 use sx_value::cell::{Cell, add_cell};
 use sx_value::to_syntax::to_syntax;
@@ -14,12 +15,14 @@ use sx_value::value::Value;
 pub enum CellWork {
     /// Makes it and releases its cells.
     Store,
+    /// Counts its pairs between, as `length` does.
+    Measure,
     /// Reads it as a tree between.
     Read,
 }
 
-// A list of so many ones.
-fn ones(cells: &mut Region<Cell>, count: u32) -> Result<Value, Memory> {
+/// A list of so many ones.
+pub fn ones(cells: &mut Region<Cell>, count: u32) -> Result<Value, Memory> {
     let mut list = Value::Atom(Atom::Nil);
     for _ in 0..count {
         let one = Value::Atom(Atom::Int(1));
@@ -28,18 +31,35 @@ fn ones(cells: &mut Region<Cell>, count: u32) -> Result<Value, Memory> {
     Ok(list)
 }
 
-/// Does the work, and says whether the fuel that was needed to read the list was just its pairs.
+// Does the work in the store, and counts by how much the list was found to have other pairs.
+fn run_in(
+    alloc: Global,
+    cells: &mut Region<Cell>,
+    work: CellWork,
+    count: u32,
+) -> Result<u64, BareStop> {
+    let list = ones(cells, count)?;
+    match work {
+        CellWork::Store => Ok(0),
+        CellWork::Measure => {
+            let (pairs, _) = measured(cells, &list);
+            Ok(u64::from(count).abs_diff(pairs))
+        }
+        CellWork::Read => {
+            let (_tree, left) = to_syntax(alloc, cells, &list, u64::from(count))?;
+            Ok(left)
+        }
+    }
+}
+
+/// Does the work, and says whether the list was found to have just so many pairs.
 pub fn run(alloc: Global, work: CellWork, count: u32) -> Result<bool, BareStop> {
     let mut cells = Region::new(alloc);
     let level = cells.mark();
-    let list = ones(&mut cells, count)?;
-    let left = match work {
-        CellWork::Store => 0,
-        CellWork::Read => {
-            let (_tree, left) = to_syntax(alloc, &cells, &list, u64::from(count))?;
-            left
-        }
-    };
+    let left = run_in(alloc, &mut cells, work, count);
     cells.release(level);
-    Ok(left == 0)
+    match left {
+        Ok(left) => Ok(left == 0),
+        Err(stop) => Err(stop),
+    }
 }
