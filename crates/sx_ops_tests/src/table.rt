@@ -17,18 +17,14 @@ use sx_value::value::Value;
 fn rows_out_of_order_are_refused(rt: HostRuntime) -> Result<(), Fail> {
     let alloc = rt.alloc();
     let mut rows = full_rows(alloc)?;
-    let Some(last) = rows.pop() else {
-        return Err("there is no last row".into());
-    };
-    let Some(before) = rows.pop() else {
-        return Err("there is no row before the last".into());
-    };
-    rows.push(last)?;
-    rows.push(before)?;
+    if rows.len() < 2 {
+        return Err("there are no two rows".into());
+    }
+    rows.swap(0, 1);
     match PrimTable::fill(rows) {
         Ok(_) => Err("rows out of order are taken".into()),
         Err((place, rows)) => {
-            assert_eq!(rt; place, 16);
+            assert_eq!(rt; place, 0);
             assert_eq!(rt; rows.len(), 18);
             Ok(())
         }

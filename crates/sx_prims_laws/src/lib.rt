@@ -1,0 +1,13 @@
+//! What the primitives make of values that fit.
+//!
+//! `sx_prims` says what a call of a primitive makes. So `cdr` makes of the list `(1 2)` the value that stands
+//! for its last pair, and `list` makes of 1 and 2 a list that is still to be stored. To store what was made
+//! keeps whole cells whole if the values in it fit in them, and here stands that they do.
+//!
+//! The promise: whatever a call makes of arguments that fit in whole cells, each value in it fits in these
+//! cells too. So no call makes a value with a place at which there is no cell of its kind.
+//!
+//! Nothing runs here, and no program stands on this crate.
+#![tactic(auto)]
+
+pub mod laws;
