@@ -33,3 +33,22 @@ made_and_done() {
         last=$now
     done
 }
+
+# The seconds of a work and, with its time taken off, of the one that goes on from there, each with its ratio to
+# the row before.
+both_double() {
+    making=$1 work=$2 what=$3
+    shift 3
+    made_before=
+    done_before=
+    for count in "$@"; do
+        made=$(best "$making" "$count") || exit 1
+        whole=$(best "$work" "$count") || exit 1
+        now=$(( whole - made ))
+        if [ "$now" -lt 1 ]; then now=1; fi
+        awk -v making="$making" -v work="$work" -v what="$what" -v count="$count" -v made="$made" -v now="$now" -v made_before="$made_before" -v done_before="$done_before" \
+            'BEGIN { printf "%8d %s  %s %7.3f s", count, what, making, made / 1e9; if (made_before) printf "  x%.2f", made / made_before; printf "  %s %7.3f s", work, now / 1e9; if (done_before) printf "  x%.2f", now / done_before; print "" }'
+        made_before=$made
+        done_before=$now
+    done
+}
