@@ -1,2 +1,2 @@
-pub mod Capped
 pub mod Sinks
+pub mod ToldLemmas

@@ -1,14 +1,16 @@
 -- What the whole program gives for files and words: its eager definition.
-use Rattle.std.specs.Prelude.{ℕ, Bool, List, [], ◌∷◌, Option, Some, None, Result, Ok, Err, if◌then◌else◌}
-use Rattle.sx_base.specs.Gives.{◌>>=◌}
+use Rattle.std.specs.Prelude.{ℕ, Bool, List, [], ◌∷◌, map, Option, Some, None, Result, Ok, Err, if◌then◌else◌}
 use Rattle.sx_base.specs.FaultLine.{fault_line}
 use Rattle.sx_base.specs.declared.fault.Fault.{Fault}
-use Rattle.sx_base.specs.declared.fault.FaultKind.TheVariants as kind
-use Rattle.sx_outside.specs.Contents.{Paths, at_path, Reading, bytes, longer, absent, read_of}
-use Rattle.sx_reader.specs.Read.{data_of}
-use Rattle.sx_base.specs.declared.span.Span.{Span}
-use Rattle.sx_library.specs.Program.{program_text}
+use Rattle.sx_import.specs.Table.{same_text}
+use Rattle.sx_outside.specs.Contents.{Paths}
+use Rattle.sx_load.specs.Load.{Loads, load}
+use Rattle.sx_load.specs.declared.found.Found.{Found}
+use Rattle.sx_load.specs.declared.found.Loading.{Loading}
+use Rattle.sx_load.specs.declared.found.Source.{Source}
+use Rattle.sx_library.specs.Loaded.{text_of}
 use Rattle.sx_report.specs.Report.{report_text}
+use Rattle.sx_report.specs.declared.report.Fate.TheVariants.{Expanded}
 use Rattle.sx_report.specs.declared.report.Told.{Told}
 use Rattle.sx_words.specs.declared.job.Job.{Job}
 use Rattle.scheme_expand.specs.Words.{job_asked}
@@ -19,41 +21,44 @@ pub data Outcome : Type 0 where
   done : (text report : List ℕ) → Outcome
   fault : (line : List ℕ) → Outcome
 
--- the most bytes of a file
-abbrev pub file_limit : ℕ
-file_limit = 4194304
+-- a library of a file, which was expanded
+abbrev pub told : List ℕ × Found → Told
+told row = record { fate = Expanded; library = row.1.opened.form.name }
 
-abbrev pub start_of_file : List ℕ → Span
-start_of_file path = record { file = path; from = 0; to = 0 }
-
--- a fault of a file that was not read, at its start
-abbrev pub at_start : kind.the_data → List ℕ → List (List ℕ) → Fault
-at_start kind path words = record { kind = kind; span = start_of_file path; words = words }
-
--- the text of a source, or its fault
-unfoldable pub source_text : List ℕ → List ℕ → Result (List ℕ) Fault
-source_text path source = data_of path source 500 >>= λ ds. program_text path ds
-
--- the libraries of files that a program needs, in the order of loading: none yet, since no file is imported
-abbrev pub libraries : List Told
-libraries = []
+-- the libraries of files that a program needs, in the order of loading
+abbrev pub libraries : Loading → List Told
+libraries s = map told s.done
 
 -- the report, where it is asked for
-abbrev pub report_if : Bool → List ℕ
-report_if report = if report then report_text libraries else []
+abbrev pub report_if : Bool → Loading → List ℕ
+report_if report s = if report then report_text (libraries s) else []
 
--- a fault is told by its line, whose place is that in the source
-abbrev pub outcome_of : Bool → List ℕ → Result (List ℕ) Fault → Outcome
-outcome_of report source (Ok text) = done text (report_if report)
-outcome_of report source (Err f) = fault (fault_line f source)
+abbrev pub held_or : Option (List ℕ) → List ℕ → List ℕ
+held_or None later = later
+held_or (Some held) later = held
 
-abbrev pub of_reading : Bool → List ℕ → Reading → Outcome
-of_reading report path (bytes source) = outcome_of report source (source_text path source)
-of_reading report path longer = outcome_of report [] (Err (at_start kind.TooLong path []))
-of_reading report path absent = outcome_of report [] (Err (at_start kind.LibraryNotFound path (path ∷ [])))
+abbrev pub held_at : List ℕ → Source → Option (List ℕ)
+held_at path source = if same_text source.path path then source.held else None
+
+-- the bytes of a file that was read
+abbrev pub source_of : List Source → List ℕ → List ℕ
+source_of [] path = []
+source_of (s ∷ ss) path = held_or (held_at path s) (source_of ss path)
+
+abbrev pub loading_of : Loads (Found × Loading) → Loading
+loading_of (Ok l) = l.1
+loading_of (Err e) = e.0
+
+-- a fault is told by its line, whose place is that in the file that it names
+abbrev pub outcome_of : Bool → Loading → Result (List ℕ) Fault → Outcome
+outcome_of report s (Ok text) = done text (report_if report s)
+outcome_of report s (Err f) = fault (fault_line f (source_of s.sources f.span.file))
+
+abbrev pub of_loaded : Bool → Loads (Found × Loading) → Outcome
+of_loaded report loaded = outcome_of report (loading_of loaded) (text_of loaded)
 
 unfoldable pub of_job : Paths → Job → Outcome
-of_job files job = of_reading job.report job.program (read_of (at_path files job.program) file_limit)
+of_job files job = of_loaded job.report (load files job.roots job.program)
 
 abbrev pub of_asked : Paths → Option Job → Outcome
 of_asked files None = usage

@@ -1,31 +1,31 @@
 //! All that is to be written, before anything is.
 
-ghost use Rattle.std.specs.Prelude.{◌≡◌, ◌≢◌, ◌<◌, ◌≤◌, ◌^◌, length, [], IfOk, IfSome, Err, false};
+ghost use Rattle.std.specs.Option.{option_copied};
+ghost use Rattle.std.specs.Prelude.{◌≡◌, ◌≢◌, Some, Ok, IfOk, IfSome, Err, map};
 ghost use Rattle.std.specs.String.{string_bytes};
-ghost use Rattle.sx_base.specs.Gives.{Gives};
+ghost use Rattle.sx_base.specs.FaultLine.{fault_line};
 ghost use Rattle.sx_outside.specs.Causes.{Rose};
-ghost use Rattle.sx_outside.specs.Files.{file_reading};
-ghost use Rattle.scheme_expand.specs.Whole.{source_text, libraries, report_if, outcome_of, of_reading, of_job, at_start};
-ghost use Rattle.scheme_expand.specs.Prepared.{Prepares, capped};
+ghost use Rattle.sx_outside.specs.Contents.{Paths};
+ghost use Rattle.scheme_expand.specs.Whole.{libraries, report_if, held_at, source_of, of_loaded, of_job};
+ghost use Rattle.scheme_expand.specs.Prepared.{Prepares};
 ghost use Rattle.scheme_expand.specs.declared.prepare.Unfinished.TheVariants as unfinished;
 
 use std::alloc::Global;
 use std::sync::ledger::Ledger;
-use sx_base::fault::{Fault, FaultKind, Stop};
+use sx_base::fault::{Fault, Stop};
 use sx_base::fault_line::fault_line;
 use sx_base::items::Items;
 use sx_base::memory::Memory;
-use sx_base::span::Span;
 use sx_base::steps::Steps;
 use sx_base::symbol::Symbol;
-use sx_library::program::program_text;
-use sx_outside::{FileAnswer, Files, OutsideError};
-use sx_reader::read::read_all;
-use sx_report::report::report_text;
+use sx_library::library::share_library;
+use sx_library::loaded::{first_fault, program_text};
+use sx_load::found::{Found, Loading, Source};
+use sx_load::halt::Halt;
+use sx_load::load::load;
+use sx_outside::Files;
+use sx_report::report::{Fate, Told, report_text};
 use sx_words::job::Job;
-
-// The most bytes of a file.
-const FILE_LIMIT: usize = 4_194_304;
 
 /// What is to be written of a program without fault.
 #[derive(Drop)]
@@ -54,102 +54,104 @@ impl From<Memory> for Unfinished {
     }
 }
 
-#[tactic(auto, unfolding(crate::specs::Whole::source_text))]
-fn source_text<N: Ledger>(
-    alloc: Global,
-    path: &Symbol,
-    source: &[u8],
-    nodes: &mut Steps<N>,
-) -> Result<String, Stop>
-    requires { length source.now < 2 ^ 32 }
-    ensures { Gives (λ text. string_bytes text) result (source_text path.now source.now) }
+// The libraries of files, each of which was expanded.
+fn libraries(alloc: Global, loading: &Loading) -> Result<Items<Told>, Memory>
+    ensures { IfOk result (λ all. all ≡ libraries loading.now) }
 {
-    let data = read_all(alloc, path, source)?;
-    program_text(alloc, path, &data, nodes)
+    let mut all = Items::new(alloc);
+    for place in 0..loading.done.size() {
+        let Some((_, found)) = loading.done.at(place) else {
+            return Err(Memory);
+        };
+        let library = share_library(alloc, &found.opened.form.name)?;
+        let fate = Fate::Expanded;
+        all.push(Told { fate, library })?;
+    }
+    Ok(all)
 }
 
 // The report, where it is asked for.
-fn report_if(alloc: Global, report: bool) -> Result<String, Memory>
-    ensures { IfOk result (λ text. string_bytes text ≡ report_if report) }
+fn report_if(alloc: Global, report: bool, loading: &Loading) -> Result<String, Memory>
+    ensures { IfOk result (λ text. string_bytes text ≡ report_if report loading.now) }
 {
-    if report {
-        report_text(alloc, &[])
+    if !report {
+        return Ok(String::new(alloc));
+    }
+    let told = libraries(alloc, loading)?;
+    report_text(alloc, told.as_slice())
+}
+
+// The bytes of a source, where it has a path and was there.
+fn held_at<'a>(path: &Symbol, source: &'a Source) -> Option<&'a Items<u8>>
+    ensures { option_copied result ≡ held_at path.now source.now }
+{
+    if source.path == *path {
+        source.held.as_ref()
     } else {
-        Ok(String::new(alloc))
+        None
     }
 }
 
-// The text of a source, or the line of its fault.
-fn of_source<N: Ledger>(
+// The bytes of a file that was read.
+fn source_of<'a>(sources: &'a [Source], path: &Symbol) -> &'a [u8]
+    ensures { result.now ≡ source_of sources.now path.now }
+{
+    for source in sources {
+        if let Some(held) = held_at(path, source) {
+            return held.as_slice();
+        }
+    }
+    &[]
+}
+
+// The line of a fault, whose place is that in the file that it names.
+fn line_of(alloc: Global, loading: &Loading, fault: &Fault) -> Result<String, Memory>
+    ensures { IfOk result (λ line. string_bytes line ≡ fault_line fault.now (source_of loading.now.sources fault.now.span.file)) }
+{
+    let source = source_of(loading.sources.as_slice(), &fault.span.file);
+    fault_line(alloc, fault, source)
+}
+
+// What comes of a program that was loaded.
+fn of_found<N: Ledger>(
     alloc: Global,
     report: bool,
-    path: &Symbol,
-    source: &[u8],
+    found: &Found,
+    loading: &Loading,
     nodes: &mut Steps<N>,
 ) -> Result<Prepared, Unfinished>
-    requires { length source.now < 2 ^ 32 }
-    ensures gives { Prepares result (outcome_of report source.now (source_text path.now source.now)) }
+    ensures gives { Prepares result (of_loaded report (Ok (found.now, loading.now))) }
     ensures unread { result ≢ Err Unfinished.Read }
 {
-    match source_text(alloc, path, source, nodes) {
+    match program_text(alloc, found, loading, nodes) {
         Ok(text) => {
-            let report = report_if(alloc, report)?;
+            let report = report_if(alloc, report, loading)?;
             Ok(Prepared { text, report })
         }
-        Err(Stop::Fault(fault)) => Err(Unfinished::Line(fault_line(alloc, &fault, source)?)),
+        Err(Stop::Fault(fault)) => Err(Unfinished::Line(line_of(alloc, loading, &fault)?)),
         Err(Stop::Memory) => Err(Unfinished::Memory),
     }
 }
 
-// The line of a fault of a file that was not read.
-fn of_no_source(
-    alloc: Global,
-    path: &Symbol,
-    kind: FaultKind,
-    words: Items<Symbol>,
-) -> Result<Prepared, Unfinished>
-    ensures gives { Prepares result (outcome_of false [] (Err (at_start kind path.now words))) }
-    ensures unread { result ≢ Err Unfinished.Read }
-{
-    let file = path.share()?;
-    let span = Span {
-        file,
-        from: 0,
-        to: 0,
-    };
-    let fault = Fault { kind, span, words };
-    Err(Unfinished::Line(fault_line(alloc, &fault, &[])?))
-}
-
-fn of_answer<N: Ledger>(
+// What comes of a fault that ended loading.
+fn of_fault<N: Ledger>(
     alloc: Global,
     report: bool,
-    path: &Symbol,
-    answer: FileAnswer,
+    loading: &Loading,
+    fault: Fault,
     nodes: &mut Steps<N>,
 ) -> Result<Prepared, Unfinished>
-    ensures gives { Prepares result (of_reading report path.now (capped (file_reading answer))) }
+    ensures gives { Prepares result (of_loaded report (Err (loading.now, fault))) }
     ensures unread { result ≢ Err Unfinished.Read }
 {
-    match answer {
-        FileAnswer::Bytes(source) => {
-            if source.len() <= FILE_LIMIT {
-                of_source(alloc, report, path, &source, nodes)
-            } else {
-                of_no_source(alloc, path, FaultKind::TooLong, Items::new(alloc))
-            }
-        }
-        FileAnswer::Longer => of_no_source(alloc, path, FaultKind::TooLong, Items::new(alloc)),
-        FileAnswer::Absent => {
-            let mut words = Items::new(alloc);
-            words.push(path.share()?)?;
-            of_no_source(alloc, path, FaultKind::LibraryNotFound, words)
-        }
+    match first_fault(alloc, loading, fault, nodes) {
+        Stop::Fault(fault) => Err(Unfinished::Line(line_of(alloc, loading, &fault)?)),
+        Stop::Memory => Err(Unfinished::Memory),
     }
 }
 
 /// The core text of a job's program and its report, or why there is none.
-#[tactic(auto, unfolding(crate::specs::Whole::of_job), using(crate::proofs::Capped::capped_read))]
+#[tactic(auto, unfolding(crate::specs::Whole::of_job))]
 pub fn prepare<F: Files, N: Ledger>(
     alloc: Global,
     job: &Job,
@@ -159,9 +161,17 @@ pub fn prepare<F: Files, N: Ledger>(
     ensures gives { IfSome (F.told files.old) (λ fs. Prepares result (of_job fs job.now)) }
     ensures read { result ≡ Err Unfinished.Read → Rose (F.faults files.old) (F.faults files.new) }
 {
-    match files.read(job.program.as_str(), FILE_LIMIT) {
-        Ok(answer) => of_answer(alloc, job.report, &job.program, answer, nodes),
-        Err(OutsideError::Failed) => Err(Unfinished::Read),
-        Err(OutsideError::Memory) => Err(Unfinished::Memory),
+    let mut loading = Loading::new(alloc);
+    match load(
+        alloc,
+        files,
+        job.roots.as_slice(),
+        &job.program,
+        &mut loading,
+    ) {
+        Ok(found) => of_found(alloc, job.report, &found, &loading, nodes),
+        Err(Halt::Fault(fault)) => of_fault(alloc, job.report, &loading, fault, nodes),
+        Err(Halt::Read) => Err(Unfinished::Read),
+        Err(Halt::Memory) => Err(Unfinished::Memory),
     }
 }

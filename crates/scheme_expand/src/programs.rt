@@ -70,5 +70,5 @@ pub const PROGRAMS: [Program; 24] = [
     ),
     ("(import (only))", "p.sps:1:9: 20 BadForm"),
     ("(import (rnrs) rnrs)", "p.sps:1:16: 20 BadForm"),
-    ("(import (rnrs) (m))", "p.sps:1:16: 90 NotBuilt"),
+    ("(import (rnrs) (m))", "p.sps:1:16: 12 LibraryNotFound: (m)"),
 ];

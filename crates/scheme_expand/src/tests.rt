@@ -19,21 +19,24 @@ struct Outcome {
     err: String,
 }
 
-// A run of one file and some words; the calls with these numbers fail.
+// A path, and the bytes there.
+type Held<'a> = (&'a str, &'a [u8]);
+
+// A run over some files and words; the calls with these numbers fail.
 fn run_over(
     alloc: Global,
-    file: Option<&[u8]>,
+    held: &[Held],
     words: &[&str],
     reads: &[u64],
     outs: &[(u64, usize)],
     errs: &[(u64, usize)],
 ) -> Result<Outcome, Fail> {
-    run_counted::<Brand>(alloc, file, words, reads, outs, errs, Blank::new(1))
+    run_counted::<Brand>(alloc, held, words, reads, outs, errs, Blank::new(1))
 }
 
 fn run_counted<N: Ledger>(
     alloc: Global,
-    file: Option<&[u8]>,
+    held: &[Held],
     words: &[&str],
     reads: &[u64],
     outs: &[(u64, usize)],
@@ -45,9 +48,9 @@ fn run_counted<N: Ledger>(
 {
     let mut nodes = Steps::<N>::open(blank);
     let mut pairs = Vec::new(alloc);
-    if let Some(bytes) = file {
+    for (path, bytes) in held {
         pairs.push((
-            String::from_str(alloc, "p.sps")?,
+            String::from_str(alloc, path)?,
             Vec::from_slice(alloc, bytes)?,
         ))?;
     }
@@ -98,7 +101,8 @@ fn expected(alloc: Global, answer: &str) -> Result<Outcome, Fail> {
 
 // Whether a program gives its text, or the line of its fault, and nothing else.
 fn gives(alloc: Global, source: &str, answer: &str) -> Result<bool, Fail> {
-    let ran = run_over(alloc, Some(source.as_bytes()), &["p.sps"], &[], &[], &[])?;
+    let held = [("p.sps", source.as_bytes())];
+    let ran = run_over(alloc, &held, &["p.sps"], &[], &[], &[])?;
     let expected = expected(alloc, answer)?;
     Ok(
         ran.status == expected.status
@@ -161,10 +165,11 @@ fn words_are_taken_or_refused_with_the_usage_line(rt: HostRuntime) -> Result<(),
     check_words(&rt, rt.alloc(), &WORDS)
 }
 
-// A file, the calls of the outside that fail, and what a run over it answers and writes.
+// Files and words, the calls of the outside that fail, and what a run over them answers and writes.
 #[derive(Drop)]
 struct Case<'a> {
-    file: Option<&'a [u8]>,
+    held: &'a [Held<'a>],
+    words: &'a [&'a str],
     reads: &'a [u64],
     outs: &'a [(u64, usize)],
     errs: &'a [(u64, usize)],
@@ -173,11 +178,12 @@ struct Case<'a> {
     err: &'a str,
 }
 
-const EMPTY_PROGRAM: Option<&[u8]> = Some(b"(import (rnrs base))");
+const EMPTY_PROGRAM: &[Held] = &[("p.sps", b"(import (rnrs base))")];
 
 const FAILURES: [Case; 5] = [
     Case {
-        file: None,
+        held: &[],
+        words: &["p.sps"],
         reads: &[],
         outs: &[],
         errs: &[],
@@ -186,7 +192,8 @@ const FAILURES: [Case; 5] = [
         err: "p.sps:1:1: 12 LibraryNotFound: p.sps\n",
     },
     Case {
-        file: EMPTY_PROGRAM,
+        held: EMPTY_PROGRAM,
+        words: &["p.sps"],
         reads: &[0],
         outs: &[],
         errs: &[],
@@ -195,7 +202,8 @@ const FAILURES: [Case; 5] = [
         err: "",
     },
     Case {
-        file: EMPTY_PROGRAM,
+        held: EMPTY_PROGRAM,
+        words: &["p.sps"],
         reads: &[],
         outs: &[(0, 10)],
         errs: &[],
@@ -204,7 +212,8 @@ const FAILURES: [Case; 5] = [
         err: "",
     },
     Case {
-        file: EMPTY_PROGRAM,
+        held: EMPTY_PROGRAM,
+        words: &["p.sps"],
         reads: &[],
         outs: &[(0, 0)],
         errs: &[],
@@ -213,7 +222,8 @@ const FAILURES: [Case; 5] = [
         err: "",
     },
     Case {
-        file: Some(b"1"),
+        held: &[("p.sps", b"1")],
+        words: &["p.sps"],
         reads: &[],
         outs: &[],
         errs: &[(0, 5)],
@@ -223,23 +233,119 @@ const FAILURES: [Case; 5] = [
     },
 ];
 
+// A library, one like it that differs, and one at fault.
+const M: Held = (
+    "./m.sls",
+    b"(library (m) (export a) (import (rnrs)) (define a 1))",
+);
+
+const M_BELOW: Held = (
+    "x/m.sls",
+    b"(library (m) (export a) (import (rnrs)) (define a 2))",
+);
+
+const M_AT_FAULT: Held = (
+    "./m.sls",
+    b"(library (m) (export a)\n (import (rnrs))\n (define a z))",
+);
+
+const USES_M: Held = ("p.sps", b"(import (rnrs) (m)) a");
+
+const LIBRARIES: [Case; 7] = [
+    Case {
+        held: &[M, USES_M],
+        words: &["--report", "p.sps"],
+        reads: &[],
+        outs: &[],
+        errs: &[],
+        status: Status::Done,
+        out: "(import (rnrs))\n(define %m/a/0 1)\n%m/a/0\n",
+        err: "expanded (m)\n",
+    },
+    Case {
+        held: &[M, M_BELOW, USES_M],
+        words: &["--root", "w:x:.", "p.sps"],
+        reads: &[],
+        outs: &[],
+        errs: &[],
+        status: Status::Done,
+        out: "(import (rnrs))\n(define %m/a/0 2)\n%m/a/0\n",
+        err: "",
+    },
+    Case {
+        held: &[M_AT_FAULT, USES_M],
+        words: &["--report", "p.sps"],
+        reads: &[],
+        outs: &[],
+        errs: &[],
+        status: Status::Fault,
+        out: "",
+        err: "./m.sls:3:12: 21 Unbound: z\n",
+    },
+    Case {
+        held: &[M_AT_FAULT, ("p.sps", b"(import (rnrs) (m) (n))")],
+        words: &["p.sps"],
+        reads: &[],
+        outs: &[],
+        errs: &[],
+        status: Status::Fault,
+        out: "",
+        err: "./m.sls:3:12: 21 Unbound: z\n",
+    },
+    Case {
+        held: &[M, ("p.sps", b"(import (rnrs)\n  (m)\n  (n))")],
+        words: &["p.sps"],
+        reads: &[],
+        outs: &[],
+        errs: &[],
+        status: Status::Fault,
+        out: "",
+        err: "p.sps:3:3: 12 LibraryNotFound: (n)\n",
+    },
+    Case {
+        held: &[M, USES_M],
+        words: &["p.sps"],
+        reads: &[1],
+        outs: &[],
+        errs: &[],
+        status: Status::ReadFault,
+        out: "",
+        err: "",
+    },
+    Case {
+        held: &[M, USES_M],
+        words: &["--report", "p.sps"],
+        reads: &[],
+        outs: &[],
+        errs: &[(0, 5)],
+        status: Status::WriteFault,
+        out: "(import (rnrs))\n(define %m/a/0 1)\n%m/a/0\n",
+        err: "expan",
+    },
+];
+
 // Whether a run over the case answers and writes what it should.
 fn ends_so(alloc: Global, case: &Case) -> Result<bool, Fail> {
-    let words = ["p.sps"];
-    let ran = run_over(alloc, case.file, &words, case.reads, case.outs, case.errs)?;
+    let (held, words) = (case.held, case.words);
+    let ran = run_over(alloc, held, words, case.reads, case.outs, case.errs)?;
     Ok(ran.status == case.status && ran.out.as_str() == case.out && ran.err.as_str() == case.err)
 }
 
-fn check_failures(rt: &impl Abort, alloc: Global, cases: &[Case]) -> Result<(), Fail> {
+fn check_cases(rt: &impl Abort, alloc: Global, cases: &[Case]) -> Result<(), Fail> {
     for case in cases {
-        assert!(rt; ends_so(alloc, case)?);
+        assert!(rt; ends_so(alloc, case)?, "{}", case.err);
     }
     Ok(())
 }
 
 #[test]
 fn failures_of_the_outside_end_a_run_as_they_should(rt: HostRuntime) -> Result<(), Fail> {
-    check_failures(&rt, rt.alloc(), &FAILURES)
+    check_cases(&rt, rt.alloc(), &FAILURES)
+}
+
+#[test]
+fn libraries_stand_before_the_program_and_in_the_report(rt: HostRuntime) -> Result<(), Fail> {
+    check_cases(&rt, rt.alloc(), &LIBRARIES)
 }
 
 #[test]
@@ -249,11 +355,11 @@ fn a_file_of_the_greatest_length_is_read_and_a_longer_one_is_not(
     let alloc = rt.alloc();
     let mut source = Vec::from_slice(alloc, b"(import (rnrs))")?;
     source.resize(4_194_304, b' ')?;
-    let read = run_over(alloc, Some(&source), &["p.sps"], &[], &[], &[])?;
+    let read = run_over(alloc, &[("p.sps", &source)], &["p.sps"], &[], &[], &[])?;
     assert_eq!(rt; read.out.as_str(), "(import (rnrs))\n");
     assert_eq!(rt; read.status, Status::Done);
     source.push(b' ')?;
-    let refused = run_over(alloc, Some(&source), &["p.sps"], &[], &[], &[])?;
+    let refused = run_over(alloc, &[("p.sps", &source)], &["p.sps"], &[], &[], &[])?;
     assert_eq!(rt; refused.err.as_str(), "p.sps:1:1: 9 TooLong\n");
     assert_eq!(rt; refused.status, Status::Fault);
     Ok(())

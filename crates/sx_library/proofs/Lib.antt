@@ -1,1 +1,3 @@
-mod ExportLemmas
+pub mod ExportLemmas
+pub mod NameLemmas
+pub mod LoadedLemmas

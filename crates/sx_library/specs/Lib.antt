@@ -1,3 +1,4 @@
 pub mod Imports
 pub mod Library
-pub mod Program
+pub mod Chosen
+pub mod Loaded

@@ -45,6 +45,6 @@ export_tree e = (e.0, leaf (Some e.1.span) e.1.name blank)
 -- the names that the form imports, then its body, after these records
 unfoldable pub expand_library : List LibRecord → List ℕ → LibraryForm → List PlainDatum → Result LibRecord Fault
 expand_library records path form body =
-    form_names form.imports >>= (λ names.
+    form_names records form.imports >>= (λ names.
     trees_at form.name_span [] body >>= (λ forms.
     library_record (ready form.name path records names) form.version form.name_span (map export_tree form.exports) forms))

@@ -1,147 +1,167 @@
 //! The names that the imports of a form give.
 
-ghost use Rattle.std.specs.Prelude.{◌≡◌, [], ◌∷◌, IfOk, is_some};
-ghost use Rattle.sx_base.specs.Gives.{Gives, StopsWith};
-ghost use Rattle.sx_builtin.specs.Exports.{exports};
+ghost use Rattle.std.specs.Option.{option_copied};
+ghost use Rattle.std.specs.Prelude.{◌≡◌, [], IfOk, slice_get, option_map};
+ghost use Rattle.sx_base.specs.Gives.{Gives};
 ghost use Rattle.sx_import.specs.Turns.{turns};
-ghost use Rattle.sx_library.specs.Imports.{not_built, refused, fitting, referred, refer, exported, import_into, form_names};
-ghost use Rattle.sx_report.specs.Name.{name_text};
+ghost use Rattle.sx_library.specs.Imports.{named, record_referred, record_exports, referred, refer, exported, import_into, form_names};
+ghost use Rattle.sx_library.specs.Chosen.{named_at};
+ghost use Rattle.sx_load.specs.Load.{fitting, builtin_version};
+ghost use Rattle.sx_standing.specs.Start.{records_at};
 
 use std::alloc::Global;
-use sx_base::fault::{Fault, FaultKind, Stop};
+use sx_base::fault::{FaultKind, Stop};
 use sx_base::items::Items;
 use sx_base::library::LibName;
 use sx_base::memory::Memory;
 use sx_base::name::Label;
 use sx_base::symbol::Symbol;
 use sx_builtin::exports::exports;
-use sx_builtin::library::Library;
+use sx_core::record::LibRecord;
 use sx_forms::set::Import;
-use sx_forms::version::version_fits;
 use sx_import::names::{Names, import_names, join_names};
 use sx_import::set::ImportSet;
 use sx_import::table::Table;
-use sx_report::name::put_library_name;
+use sx_load::refer::{VERSION, about, check_version, is_builtin};
 
-// The version of each library that this implementation gives.
-const VERSION: [u64; 1] = [6];
-
-/// The names that the imports of a form give, each once and in order, with their labels. A library that
-/// isn't there is `NotBuilt`, and one whose version doesn't fit is `VersionRefused`, at the reference,
-/// before any name is looked for.
+/// The names that the imports of a form give, each once and in order, with their labels. First each library
+/// must be there in a version that fits, and then each name is looked for.
 #[tactic(auto, unfolding(crate::specs::Imports::form_names))]
-pub fn form_names(alloc: Global, imports: &[Import]) -> Result<Names, Stop>
-    ensures { Gives (λ names. names) result (form_names imports.now) }
+pub fn form_names(
+    alloc: Global,
+    records: &[LibRecord],
+    chosen: &[usize],
+    imports: &[Import],
+) -> Result<Names, Stop>
+    ensures { Gives (λ names. names) result (form_names (records_at records.now chosen.now) imports.now) }
 {
-    refer_all(alloc, imports)?;
-    import_all(alloc, imports)
+    refer_all(alloc, records, chosen, imports)?;
+    import_all(alloc, records, chosen, imports)
 }
 
-fn refer_all(alloc: Global, imports: &[Import]) -> Result<(), Stop>
-    ensures { Gives (λ u. u) result (turns refer tt imports.now) }
+fn refer_all(
+    alloc: Global,
+    records: &[LibRecord],
+    chosen: &[usize],
+    imports: &[Import],
+) -> Result<(), Stop>
+    ensures { Gives (λ u. u) result (turns (refer (records_at records.now chosen.now)) tt imports.now) }
 {
     for import in imports {
-        referred(alloc, &import.set)?;
+        referred(alloc, records, chosen, &import.set)?;
     }
     Ok(())
 }
 
-// Whether this implementation gives a library.
-fn is_builtin(library: &LibName) -> bool
-    ensures { result ≡ is_some (exports library.now) }
+// The record at a place, where it is that of a library.
+fn named_at<'a>(records: &'a [LibRecord], place: usize, name: &LibName) -> Option<&'a LibRecord>
+    ensures { option_copied result ≡ named_at name.now (slice_get records.now place) }
 {
-    match library {
-        LibName::User(parts) => Library::named(parts.as_slice()).is_some(),
-        LibName::Core | LibName::Derived | LibName::Prelude | LibName::Program => false,
+    if place >= records.len() {
+        return None;
+    }
+    let record = &records[place];
+    if record.name == *name {
+        Some(record)
+    } else {
+        None
     }
 }
 
-fn referred(alloc: Global, set: &ImportSet) -> Result<(), Stop>
-    ensures { Gives (λ u. u) result (referred set.now) }
+// The record of a library.
+fn named<'a>(records: &'a [LibRecord], chosen: &[usize], name: &LibName) -> Option<&'a LibRecord>
+    ensures { option_copied result ≡ named name.now (records_at records.now chosen.now) }
+{
+    for place in chosen {
+        if let Some(record) = named_at(records, *place, name) {
+            return Some(record);
+        }
+    }
+    None
+}
+
+fn referred(
+    alloc: Global,
+    records: &[LibRecord],
+    chosen: &[usize],
+    set: &ImportSet,
+) -> Result<(), Stop>
+    ensures { Gives (λ u. u) result (referred (records_at records.now chosen.now) set.now) }
 {
     if is_builtin(&set.library) {
-        fitting(alloc, set)
+        check_version(alloc, &VERSION, set)
     } else {
-        Err(not_built(alloc, set))
+        record_referred(alloc, set, named(records, chosen, &set.library))
     }
 }
 
-fn fitting(alloc: Global, set: &ImportSet) -> Result<(), Stop>
-    ensures { Gives (λ u. u) result (fitting set.now) }
+fn record_referred(alloc: Global, set: &ImportSet, one: Option<&LibRecord>) -> Result<(), Stop>
+    ensures { Gives (λ u. u) result (record_referred set.now (option_map (λ r. r.now) one.entry)) }
 {
-    if version_fits(&VERSION, &set.version) {
-        Ok(())
-    } else {
-        Err(refused(alloc, set))
+    match one {
+        Some(record) => check_version(alloc, record.version.as_slice(), set),
+        None => Err(about(alloc, FaultKind::LibraryNotFound, set)),
     }
 }
 
-fn not_built(alloc: Global, set: &ImportSet) -> Stop
-    ensures { StopsWith result (not_built set.now) }
-{
-    match set.place.share() {
-        Ok(span) => Stop::Fault(Fault {
-            kind: FaultKind::NotBuilt,
-            span,
-            words: Items::new(alloc),
-        }),
-        Err(memory) => Stop::from(memory),
-    }
-}
-
-fn refused(alloc: Global, set: &ImportSet) -> Stop
-    ensures { StopsWith result (refused set.now) }
-{
-    match refusal(alloc, set) {
-        Ok(fault) => Stop::Fault(fault),
-        Err(memory) => Stop::from(memory),
-    }
-}
-
-fn refusal(alloc: Global, set: &ImportSet) -> Result<Fault, Memory>
-    ensures { IfOk result (λ fault. fault ≡ refused set.now) }
-{
-    let span = set.place.share()?;
-    let mut words = Items::new(alloc);
-    words.push(library_word(alloc, &set.library)?)?;
-    Ok(Fault {
-        kind: FaultKind::VersionRefused,
-        span,
-        words,
-    })
-}
-
-fn library_word(alloc: Global, library: &LibName) -> Result<Symbol, Memory>
-    ensures { IfOk result (λ s. s ≡ name_text library.now) }
-{
-    let mut text = String::new(alloc);
-    put_library_name(&mut text, library)?;
-    Symbol::from_string(text)
-}
-
-fn import_all(alloc: Global, imports: &[Import]) -> Result<Names, Stop>
-    ensures { Gives (λ names. names) result (turns import_into [] imports.now) }
+fn import_all(
+    alloc: Global,
+    records: &[LibRecord],
+    chosen: &[usize],
+    imports: &[Import],
+) -> Result<Names, Stop>
+    ensures { Gives (λ names. names) result (turns (import_into (records_at records.now chosen.now)) [] imports.now) }
 {
     let mut names = Table::new(alloc);
     for import in imports {
-        import_into(alloc, &mut names, import)?;
+        import_into(alloc, records, chosen, &mut names, import)?;
     }
     Ok(names)
 }
 
-fn import_into(alloc: Global, names: &mut Names, import: &Import) -> Result<(), Stop>
-    ensures { Gives (λ _. names.new) result (import_into names.old import.now) }
+fn import_into(
+    alloc: Global,
+    records: &[LibRecord],
+    chosen: &[usize],
+    names: &mut Names,
+    import: &Import,
+) -> Result<(), Stop>
+    ensures { Gives (λ _. names.new) result (import_into (records_at records.now chosen.now) names.old import.now) }
 {
-    let exports = exported(alloc, &import.set.library)?;
+    let exports = exported(alloc, records, chosen, &import.set.library)?;
     let more = import_names(alloc, &import.set, &import.span, exports.as_slice())?;
     join_names(alloc, names, more.as_slice(), &import.span)
 }
 
-fn exported(alloc: Global, library: &LibName) -> Result<Items<(Symbol, Label)>, Memory>
-    ensures { IfOk result (λ names. names ≡ exported library.now) }
+fn exported(
+    alloc: Global,
+    records: &[LibRecord],
+    chosen: &[usize],
+    library: &LibName,
+) -> Result<Items<(Symbol, Label)>, Memory>
+    ensures { IfOk result (λ names. names ≡ exported (records_at records.now chosen.now) library.now) }
 {
     match exports(alloc, library)? {
         Some(names) => Ok(names),
+        None => record_exports(alloc, named(records, chosen, library)),
+    }
+}
+
+fn record_exports(alloc: Global, one: Option<&LibRecord>) -> Result<Items<(Symbol, Label)>, Memory>
+    ensures { IfOk result (λ names. names ≡ record_exports (option_map (λ r. r.now) one.entry)) }
+{
+    match one {
+        Some(record) => share_names(alloc, record.exports.as_slice()),
         None => Ok(Items::new(alloc)),
     }
+}
+
+fn share_names(alloc: Global, names: &[(Symbol, Label)]) -> Result<Items<(Symbol, Label)>, Memory>
+    ensures { IfOk result (λ shared. shared ≡ names.now) }
+{
+    let mut shared = Items::new(alloc);
+    for (name, label) in names {
+        shared.push((name.share()?, label.share()?))?;
+    }
+    Ok(shared)
 }

@@ -1,13 +1,16 @@
-//! Libraries and programs: from their forms to their records.
+//! Libraries and programs: from their forms to their records, and the core text of a program.
 //!
 //! A library or a program imports names (R6RS 7.1), and its body is expanded where these names stand for
 //! what they stand for in the libraries that export them:
 //!
 //! ```text
-//! (import (only (rnrs base) define +))    define and + are imported
-//! (define x 1)                            the body defines a variable x
-//! (+ x 2)                                 and calls +
+//! (import (only (rnrs base) define +) (m))    define and + are imported, and all names of (m)
+//! (define x 1)                                the body defines a variable x
+//! (+ x 2)                                     and calls +
 //! ```
+//!
+//! The libraries of files are expanded in the order of loading, each behind the records of those that it imports,
+//! directly or not; then the program, and what it needs when it runs is written before it.
 //!
 //! The promise: each call gives exactly what its definition gives, or its first fault with its place; only
 //! want of memory is free. First each library that a form imports must be there in a version that fits,
@@ -16,4 +19,4 @@
 
 pub mod imports;
 pub mod library;
-pub mod program;
+pub mod loaded;

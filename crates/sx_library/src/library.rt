@@ -11,6 +11,7 @@ use std::sync::ledger::Ledger;
 use sx_base::datum::Datum;
 use sx_base::fault::{Bare, BareStop, Fault, Stop};
 use sx_base::items::Items;
+use sx_base::library::LibName;
 use sx_base::memory::Memory;
 use sx_base::span::Span;
 use sx_base::steps::Steps;
@@ -33,26 +34,59 @@ pub fn expand_library<N: Ledger>(
     records: &[LibRecord],
     chosen: &[usize],
     path: &Symbol,
-    form: LibraryForm,
+    form: &LibraryForm,
     body: &[Datum],
     nodes: &mut Steps<N>,
 ) -> Result<LibRecord, Stop>
-    ensures { Gives (λ r. r) result (expand_library (records_at records.now chosen.now) path.now form body.now) }
+    ensures { Gives (λ r. r) result (expand_library (records_at records.now chosen.now) path.now form.now body.now) }
 {
-    let LibraryForm {
-        name,
-        name_span: place,
-        version,
-        exports,
-        imports,
-    } = form;
-    let names = form_names(alloc, imports.as_slice())?;
-    let forms = trees_at(alloc, &place, body)?;
+    let place = &form.name_span;
+    let names = form_names(alloc, records, chosen, form.imports.as_slice())?;
+    let forms = trees_at(alloc, place, body)?;
     let names = rows(alloc, &names)?;
-    let exports = export_trees(alloc, &exports)?;
+    let exports = export_trees(alloc, &form.exports)?;
+    let name = share_library(alloc, &form.name)?;
+    let version = share_version(alloc, form.version.as_slice())?;
     let path = path.share()?;
     let expander = Expander::new(alloc, name, path, records, chosen, names.as_slice())?;
-    expander.top(forms.as_slice(), &place, exports.as_slice(), version, nodes)
+    expander.top(forms.as_slice(), place, exports.as_slice(), version, nodes)
+}
+
+fn share_version(alloc: Global, version: &[u64]) -> Result<Items<u64>, Memory>
+    ensures { IfOk result (λ v. v ≡ version.now) }
+{
+    let mut all = Items::new(alloc);
+    for number in version {
+        all.push(*number)?;
+    }
+    Ok(all)
+}
+
+fn share_parts(alloc: Global, parts: &[Symbol]) -> Result<Items<Symbol>, Memory>
+    ensures { IfOk result (λ xs. xs ≡ parts.now) }
+{
+    let mut all = Items::new(alloc);
+    for part in parts {
+        let part = part.share()?;
+        all.push(part)?;
+    }
+    Ok(all)
+}
+
+/// The same name of a library.
+pub fn share_library(alloc: Global, library: &LibName) -> Result<LibName, Memory>
+    ensures { IfOk result (λ l. l ≡ library.now) }
+{
+    match library {
+        LibName::Core => Ok(LibName::Core),
+        LibName::Derived => Ok(LibName::Derived),
+        LibName::Prelude => Ok(LibName::Prelude),
+        LibName::Program => Ok(LibName::Program),
+        LibName::User(parts) => {
+            let parts = share_parts(alloc, parts.as_slice())?;
+            Ok(LibName::User(parts))
+        }
+    }
 }
 
 // The data of a body as syntax trees.

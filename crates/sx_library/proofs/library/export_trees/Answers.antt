@@ -1,4 +1,4 @@
-use Rattle.std.proofs.Common.{◌≡◌, ◌∙◌, ◌+◌, ◌++◌, ℕ, List, map, drop, sym, ap}
+use Rattle.std.proofs.Common.{◌∙◌, ◌+◌, ◌++◌, ℕ, List, map, drop, sym, ap}
 use Rattle.sx_import.specs.declared.set.NameAt.{NameAt}
 use Rattle.sx_library.specs.Library.{export_tree}
 use Rattle.sx_library.proofs.ExportLemmas.{tree_on}

@@ -1,0 +1,129 @@
+//! The records of loaded libraries, and the core text of a program.
+
+ghost use Rattle.std.specs.Prelude.{◌≡◌, ◌∷◌, ◌++◌, [], IfOk, Ok, Err};
+ghost use Rattle.std.specs.String.{string_bytes};
+ghost use Rattle.sx_base.specs.Gives.{Gives, Stops};
+ghost use Rattle.sx_load.specs.Found.{needed, places_from};
+ghost use Rattle.sx_library.specs.Loaded.{expand_found, expand_next, all_records, planned_text, text_of};
+
+use crate::library::expand_library;
+use std::alloc::Global;
+use std::sync::ledger::Ledger;
+use sx_base::datum::Datum;
+use sx_base::fault::{Fault, Stop};
+use sx_base::memory::Memory;
+use sx_base::steps::Steps;
+use sx_core::record::LibRecord;
+use sx_core_text::whole::core_text;
+use sx_forms::form::{library_body, program_body};
+use sx_import::table::Table;
+use sx_load::found::{Found, Loading};
+use sx_planned::planned;
+
+// The places of the libraries that one needs.
+fn needed(alloc: Global, found: &Found) -> Result<Vec<usize>, Memory>
+    ensures { IfOk result (λ places. places.items ≡ needed found.now) }
+{
+    let mut places = Vec::new(alloc);
+    for (place, mark) in found.needs.as_slice().iter().enumerate() {
+        if *mark {
+            places.push(place)?;
+        }
+    }
+    Ok(places)
+}
+
+// The record of a library or program behind those that it needs.
+fn expand_found<N: Ledger>(
+    alloc: Global,
+    records: &[LibRecord],
+    found: &Found,
+    body: &[Datum],
+    nodes: &mut Steps<N>,
+) -> Result<LibRecord, Stop>
+    ensures { Gives (λ r. r) result (expand_found records.now found.now body.now) }
+{
+    let chosen = needed(alloc, found)?;
+    let opened = &found.opened;
+    expand_library(
+        alloc,
+        records,
+        &chosen,
+        &opened.path,
+        &opened.form,
+        body,
+        nodes,
+    )
+}
+
+fn expand_next<N: Ledger>(
+    alloc: Global,
+    records: &mut Vec<LibRecord>,
+    found: &Found,
+    nodes: &mut Steps<N>,
+) -> Result<(), Stop>
+    ensures { Gives (λ _. records.new.items) result (expand_next records.old.items ([], found.now)) }
+{
+    let body = library_body(found.opened.data.as_slice());
+    let record = expand_found(alloc, records, found, body, nodes)?;
+    records.push(record)?;
+    Ok(())
+}
+
+// The records of libraries, in the order of loading.
+fn all_records<N: Ledger>(
+    alloc: Global,
+    libraries: &Table<Found>,
+    nodes: &mut Steps<N>,
+) -> Result<Vec<LibRecord>, Stop>
+    ensures { Gives (λ rs. rs.items) result (all_records libraries.now) }
+{
+    let mut records = Vec::new(alloc);
+    for place in 0..libraries.size() {
+        let Some((_, found)) = libraries.at(place) else {
+            return Err(Stop::Memory);
+        };
+        expand_next(alloc, &mut records, found, nodes)?;
+    }
+    Ok(records)
+}
+
+// A program, with the libraries that it needs when it runs before it.
+fn planned_text(alloc: Global, records: &[LibRecord], program: &LibRecord) -> Result<String, Stop>
+    ensures { Gives string_bytes result (planned_text records.now program.now) }
+{
+    let plan = planned(alloc, records, program)?;
+    core_text(alloc, records, &plan, program)
+}
+
+/// The core text of a program that was loaded, or the first fault of a library or of the program.
+#[tactic(auto, unfolding(crate::specs::Loaded::text_of))]
+pub fn program_text<N: Ledger>(
+    alloc: Global,
+    found: &Found,
+    loading: &Loading,
+    nodes: &mut Steps<N>,
+) -> Result<String, Stop>
+    ensures { Gives string_bytes result (text_of (Ok (found.now, loading.now))) }
+{
+    let records = all_records(alloc, &loading.done, nodes)?;
+    let body = program_body(found.opened.data.as_slice());
+    let program = expand_found(alloc, &records, found, body, nodes)?;
+    planned_text(alloc, &records, &program)
+}
+
+/// The first fault where loading stopped: that of a library before, or this one.
+#[tactic(auto, unfolding(crate::specs::Loaded::text_of))]
+pub fn first_fault<N: Ledger>(
+    alloc: Global,
+    loading: &Loading,
+    fault: Fault,
+    nodes: &mut Steps<N>,
+) -> Stop
+    ensures { Stops result (text_of (Err (loading.now, fault))) }
+{
+    match all_records(alloc, &loading.done, nodes) {
+        Ok(_) => Stop::Fault(fault),
+        Err(stop) => stop,
+    }
+}

@@ -1,0 +1,4 @@
+pub mod HaltLemmas
+pub mod MarkLemmas
+pub mod SearchLemmas
+pub mod WalkLemmas

@@ -1,0 +1,11 @@
+use Rattle.std.proofs.Common.{◌≡◌, ◌≤◌, [], reverse, Some}
+use Rattle.sx_outside.specs.Contents.{Paths}
+use Rattle.sx_load.specs.Stack.{meaning}
+use Rattle.sx_load.proofs.walk.walk.Given as goal
+
+abbrev pub invariant-loop-turn : goal.invariant-loop-turn
+invariant-loop-turn g l = record {
+  same : g.F.Files.told l.files ≡ g.F.Files.told l.fn.files;
+  given : (fs : Paths) → g.F.Files.told l.fn.files ≡ Some fs → meaning fs l.roots l.at (reverse l.stack.items) l.loading ≡ meaning fs l.roots l.fn.first [] l.fn.loading;
+  later : g.F.Files.faults l.fn.files ≤ g.F.Files.faults l.files;
+}

@@ -1,0 +1,91 @@
+//! A program and the libraries of files that it imports.
+
+ghost use Rattle.std.specs.Prelude.{◌≡◌, ◌≤◌, [], ◌∷◌, length, Some, Err, IfOk};
+ghost use Rattle.sx_outside.specs.Causes.{Rose};
+ghost use Rattle.sx_outside.specs.Contents.{Paths, bytes};
+ghost use Rattle.sx_load.specs.Found.{nothing_loaded};
+ghost use Rattle.sx_load.specs.Load.{load, program_from, at_start};
+ghost use Rattle.sx_base.specs.Gives.{StopsWith};
+ghost use Rattle.sx_base.specs.declared.fault.FaultKind.TheVariants as kind;
+ghost use Rattle.sx_load.specs.Gives.{LoadsAfter};
+
+use crate::found::{Found, Loading};
+use crate::halt::Halt;
+use crate::open::{FILE_LIMIT, add_source, at_start, program_in};
+use crate::search::{Answer, read_at};
+use crate::walk::load_all;
+use std::alloc::Global;
+use sx_base::fault::{FaultKind, Stop};
+use sx_base::items::Items;
+use sx_base::memory::Memory;
+use sx_base::symbol::Symbol;
+use sx_outside::Files;
+
+// The program of a source, and all that it imports.
+fn load_source<F: Files>(
+    alloc: Global,
+    files: &mut F,
+    roots: &[Symbol],
+    path: &Symbol,
+    held: Items<u8>,
+    loading: &mut Loading,
+) -> Result<Found, Halt>
+    requires start { loading.old ≡ nothing_loaded }
+    requires within { length held ≤ 4194304 }
+    ensures same { F.told files.new ≡ F.told files.old }
+    ensures given { (fs : Paths) → F.told files.old ≡ Some fs → LoadsAfter result loading.new (program_from fs roots.now path.now (bytes held)) }
+    ensures later { F.faults files.old ≤ F.faults files.new }
+    ensures failed { result ≡ Err Halt.Read → Rose (F.faults files.old) (F.faults files.new) }
+{
+    let read = program_in(alloc, path, held.as_slice());
+    add_source(loading, path, held)?;
+    match read {
+        Ok(opened) => load_all(alloc, files, roots, opened, loading),
+        Err(stop) => Err(Halt::from(stop)),
+    }
+}
+
+// A program that isn't there has its path as the word of its fault.
+fn not_there(alloc: Global, path: &Symbol) -> Stop
+    ensures { StopsWith result (at_start kind.LibraryNotFound path.now (path.now ∷ [])) }
+{
+    match one_word(alloc, path) {
+        Ok(words) => at_start(FaultKind::LibraryNotFound, path, words),
+        Err(memory) => Stop::from(memory),
+    }
+}
+
+fn one_word(alloc: Global, word: &Symbol) -> Result<Items<Symbol>, Memory>
+    ensures { IfOk result (λ words. words ≡ word.now ∷ []) }
+{
+    let mut words = Items::new(alloc);
+    words.push(word.share()?)?;
+    Ok(words)
+}
+
+/// A program and the libraries of files that it imports, directly or not, each after those that it
+/// imports itself; or the first fault, with what was loaded before it.
+#[tactic(auto, unfolding(crate::specs::Load::load))]
+pub fn load<F: Files>(
+    alloc: Global,
+    files: &mut F,
+    roots: &[Symbol],
+    path: &Symbol,
+    loading: &mut Loading,
+) -> Result<Found, Halt>
+    requires { loading.old ≡ nothing_loaded }
+    ensures same { F.told files.new ≡ F.told files.old }
+    ensures given { (fs : Paths) → F.told files.old ≡ Some fs → LoadsAfter result loading.new (load fs roots.now path.now) }
+    ensures later { F.faults files.old ≤ F.faults files.new }
+    ensures failed { result ≡ Err Halt.Read → Rose (F.faults files.old) (F.faults files.new) }
+{
+    match read_at(files, path, FILE_LIMIT) {
+        Ok(Answer::Bytes(held)) => load_source(alloc, files, roots, path, held, loading),
+        Ok(Answer::Longer) => {
+            let words = Items::new(alloc);
+            Err(Halt::from(at_start(FaultKind::TooLong, path, words)))
+        }
+        Ok(Answer::Absent) => Err(Halt::from(not_there(alloc, path))),
+        Err(error) => Err(Halt::from(error)),
+    }
+}

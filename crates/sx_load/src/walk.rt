@@ -1,0 +1,295 @@
+//! The walk over files, by a stack of those that are open.
+
+ghost use Rattle.std.specs.Prelude.{◌≡◌, ◌≢◌, ◌≤◌, ◌+◌, ℕ, List, [], reverse, Some, Ok, Err, IfOk, OnErr};
+ghost use Rattle.sx_base.specs.Gives.{Gives};
+ghost use Rattle.sx_outside.specs.Causes.{Rose};
+ghost use Rattle.sx_outside.specs.Contents.{Paths};
+ghost use Rattle.sx_load.specs.Found.{no_needs, found_of};
+ghost use Rattle.sx_load.specs.Load.{load_file, settled};
+ghost use Rattle.sx_load.specs.Stack.{first_of, next_of, known_next, returned, descended, meaning, unwind};
+ghost use Rattle.sx_load.specs.Gives.{LoadsAfter, Turns};
+
+use crate::found::{Found, Loading, Open, Opened, next_import};
+use crate::halt::Halt;
+use crate::open::{MOST_LIBRARIES, open_file, too_many};
+use crate::refer::{Known, about, known_of, with_needs};
+use std::alloc::Global;
+use sx_base::fault::{FaultKind, Stop};
+use sx_base::items::Items;
+use sx_base::memory::Memory;
+use sx_base::symbol::Symbol;
+use sx_file_names::file::file_of;
+use sx_forms::version::version_fits;
+use sx_import::set::ImportSet;
+use sx_outside::Files;
+
+/// What comes of a turn.
+#[derive(Drop)]
+pub enum Turn {
+    /// The walk goes on in this file.
+    On(Open),
+    /// The outermost file is loaded.
+    Done(Found),
+}
+
+// A file whose imports are all still to be loaded.
+fn first_of(alloc: Global, room: usize, opened: Opened) -> Result<Open, Memory>
+    ensures { IfOk result (λ o. o ≡ first_of room opened) }
+{
+    let needs = Items::from_vec(vec![in alloc; false; MOST_LIBRARIES]?);
+    Ok(Open {
+        opened,
+        room,
+        next: 0,
+        needs,
+    })
+}
+
+// A file whose next import is loaded.
+fn next_of(at: Open, needs: Items<bool>) -> Result<Open, Memory>
+    ensures { IfOk result (λ o. o ≡ next_of at needs (at.next + 1)) }
+{
+    let Open {
+        opened,
+        room,
+        next,
+        ..
+    } = at;
+    match next.checked_add(1) {
+        Some(next) => Ok(Open {
+            opened,
+            room,
+            next,
+            needs,
+        }),
+        None => Err(Memory),
+    }
+}
+
+// A library that was new is loaded now, and its version is looked at. The answer is what is needed then.
+#[tactic(auto, unfolding(crate::specs::Load::settled))]
+fn settled(
+    alloc: Global,
+    set: &ImportSet,
+    needs: &[bool],
+    found: Found,
+    loading: &mut Loading,
+) -> Result<Items<bool>, Halt>
+    ensures given { LoadsAfter result loading.new (settled set.now needs.now found loading.old) }
+    ensures unread { result ≢ Err Halt.Read }
+{
+    let fits = version_fits(found.opened.form.version.as_slice(), &set.version);
+    let more = with_needs(alloc, needs, &found)?;
+    let file = file_of(alloc, &set.library)?;
+    loading.done.put_first(file, found)?;
+    if fits {
+        Ok(more)
+    } else {
+        Err(Halt::from(about(alloc, FaultKind::VersionRefused, set)))
+    }
+}
+
+// All imports of a file are loaded.
+fn found_of(at: Open, loading: &Loading) -> Found
+    ensures { result ≡ found_of at.opened at.needs loading.now }
+{
+    let Open { opened, needs, .. } = at;
+    Found {
+        opened,
+        place: loading.done.size(),
+        needs,
+    }
+}
+
+// What is known of the next import of a file, if one is left.
+fn known_next(alloc: Global, at: &Open, loading: &Loading) -> Result<Option<Known>, Stop>
+    ensures { Gives (λ k. k) result (known_next at.now loading.now) }
+{
+    match next_import(at) {
+        Some(import) => {
+            let known = known_of(alloc, loading, at.needs.as_slice(), &import.set)?;
+            Ok(Some(known))
+        }
+        None => Ok(None),
+    }
+}
+
+// A file that was opened in another is loaded: the other goes on.
+fn back_in(alloc: Global, outer: Open, found: Found, loading: &mut Loading) -> Result<Open, Halt>
+    ensures given { LoadsAfter result loading.new (returned outer found loading.old) }
+    ensures unread { result ≢ Err Halt.Read }
+{
+    let needs = match next_import(&outer) {
+        Some(import) => {
+            let needs = outer.needs.as_slice();
+            settled(alloc, &import.set, needs, found, loading)?
+        }
+        None => return Err(Halt::Memory),
+    };
+    Ok(next_of(outer, needs)?)
+}
+
+// All imports of a file are loaded: the walk goes on in the file that it was opened in.
+fn close(
+    alloc: Global,
+    at: Open,
+    stack: &mut Vec<Open>,
+    loading: &mut Loading,
+) -> Result<Turn, Halt>
+    ensures given { (fs : Paths) (roots : List (List ℕ)) → Turns fs roots result stack.new.items loading.new
+        (unwind fs roots (reverse stack.old.items) (found_of at.opened at.needs loading.old, loading.old)) }
+    ensures unread { result ≢ Err Halt.Read }
+{
+    let found = found_of(at, loading);
+    let Some(outer) = stack.pop() else {
+        return Ok(Turn::Done(found));
+    };
+    match back_in(alloc, outer, found, loading) {
+        Ok(outer) => Ok(Turn::On(outer)),
+        Err(halt) => Err(halt),
+    }
+}
+
+// The library of the next import is new: the walk goes on in its file.
+fn descend<F: Files>(
+    alloc: Global,
+    files: &mut F,
+    roots: &[Symbol],
+    at: &Open,
+    loading: &mut Loading,
+) -> Result<Open, Halt>
+    ensures same { F.told files.new ≡ F.told files.old }
+    ensures given { (fs : Paths) → F.told files.old ≡ Some fs → LoadsAfter result loading.new (descended fs roots.now at.now loading.old) }
+    ensures later { F.faults files.old ≤ F.faults files.new }
+    ensures failed { result ≡ Err Halt.Read → Rose (F.faults files.old) (F.faults files.new) }
+{
+    let Some(import) = next_import(at) else {
+        return Err(Halt::Memory);
+    };
+    if at.room == 0 {
+        return Err(Halt::from(too_many(alloc, &import.set)));
+    }
+    let opened = open_file(alloc, files, roots, &import.set, loading)?;
+    Ok(first_of(alloc, at.room - 1, opened)?)
+}
+
+// The walk goes on in a file inside this one.
+fn enter<F: Files>(
+    alloc: Global,
+    files: &mut F,
+    roots: &[Symbol],
+    at: Open,
+    stack: &mut Vec<Open>,
+    loading: &mut Loading,
+) -> Result<Turn, Halt>
+    requires { known_next at loading.old ≡ Ok (Some Known.New) }
+    ensures same { F.told files.new ≡ F.told files.old }
+    ensures given { (fs : Paths) → F.told files.old ≡ Some fs → Turns fs roots.now result stack.new.items loading.new (meaning fs roots.now at (reverse stack.old.items) loading.old) }
+    ensures later { F.faults files.old ≤ F.faults files.new }
+    ensures failed { result ≡ Err Halt.Read → Rose (F.faults files.old) (F.faults files.new) }
+{
+    match descend(alloc, files, roots, &at, loading) {
+        Ok(inner) => match stack.push(at) {
+            Ok(()) => Ok(Turn::On(inner)),
+            Err(_) => Err(Halt::Memory),
+        },
+        Err(halt) => Err(halt),
+    }
+}
+
+// The next import of a file is given with the implementation.
+fn passed(at: Open) -> Result<Turn, Halt>
+    ensures given { IfOk result (λ t. t ≡ Turn.On (next_of at at.needs (at.next + 1))) }
+    ensures err { OnErr result (result ≡ Err Halt.Memory) }
+{
+    let Open {
+        opened,
+        room,
+        next,
+        needs,
+    } = at;
+    let Some(next) = next.checked_add(1) else {
+        return Err(Halt::Memory);
+    };
+    Ok(Turn::On(Open {
+        opened,
+        room,
+        next,
+        needs,
+    }))
+}
+
+// The next import of a file is loaded, and more is needed.
+fn passed_with(at: Open, needs: Items<bool>) -> Result<Turn, Halt>
+    ensures given { IfOk result (λ t. t ≡ Turn.On (next_of at needs (at.next + 1))) }
+    ensures err { OnErr result (result ≡ Err Halt.Memory) }
+{
+    match next_of(at, needs) {
+        Ok(next) => Ok(Turn::On(next)),
+        Err(_) => Err(Halt::Memory),
+    }
+}
+
+// One turn of the walk: the next reference of a file is looked at, or the file is closed.
+fn step<F: Files>(
+    alloc: Global,
+    files: &mut F,
+    roots: &[Symbol],
+    at: Open,
+    stack: &mut Vec<Open>,
+    loading: &mut Loading,
+) -> Result<Turn, Halt>
+    ensures same { F.told files.new ≡ F.told files.old }
+    ensures given { (fs : Paths) → F.told files.old ≡ Some fs → Turns fs roots.now result stack.new.items loading.new (meaning fs roots.now at (reverse stack.old.items) loading.old) }
+    ensures later { F.faults files.old ≤ F.faults files.new }
+    ensures failed { result ≡ Err Halt.Read → Rose (F.faults files.old) (F.faults files.new) }
+{
+    match known_next(alloc, &at, loading) {
+        Err(stop) => Err(Halt::from(stop)),
+        Ok(None) => close(alloc, at, stack, loading),
+        Ok(Some(Known::New)) => enter(alloc, files, roots, at, stack, loading),
+        Ok(Some(Known::Builtin)) => passed(at),
+        Ok(Some(Known::Loaded(needs))) => passed_with(at, needs),
+    }
+}
+
+// The walk over a file and all that it imports.
+fn walk<F: Files>(
+    alloc: Global,
+    files: &mut F,
+    roots: &[Symbol],
+    first: Open,
+    loading: &mut Loading,
+) -> Result<Found, Halt>
+    ensures same { F.told files.new ≡ F.told files.old }
+    ensures given { (fs : Paths) → F.told files.old ≡ Some fs → LoadsAfter result loading.new (meaning fs roots.now first [] loading.old) }
+    ensures later { F.faults files.old ≤ F.faults files.new }
+    ensures failed { result ≡ Err Halt.Read → Rose (F.faults files.old) (F.faults files.new) }
+{
+    let mut stack = Vec::new(alloc);
+    let mut at = first;
+    for _turn in 0..u64::MAX {
+        match step(alloc, files, roots, at, &mut stack, loading)? {
+            Turn::On(next) => at = next,
+            Turn::Done(found) => return Ok(found),
+        }
+    }
+    Err(Halt::Memory)
+}
+
+/// A file and all that it imports, directly or not, each library after those that it imports itself.
+pub fn load_all<F: Files>(
+    alloc: Global,
+    files: &mut F,
+    roots: &[Symbol],
+    opened: Opened,
+    loading: &mut Loading,
+) -> Result<Found, Halt>
+    ensures same { F.told files.new ≡ F.told files.old }
+    ensures given { (fs : Paths) → F.told files.old ≡ Some fs → LoadsAfter result loading.new (load_file fs roots.now 1024 opened loading.old) }
+    ensures later { F.faults files.old ≤ F.faults files.new }
+    ensures failed { result ≡ Err Halt.Read → Rose (F.faults files.old) (F.faults files.new) }
+{
+    let first = first_of(alloc, MOST_LIBRARIES, opened)?;
+    walk(alloc, files, roots, first, loading)
+}
