@@ -1,4 +1,4 @@
--- What a primitive makes of values that fit in whole cells fits in them.
+-- What holds of the arguments of a call of a primitive and of the cells holds of what it makes.
 use Rattle.std.proofs.Common.{◌≡◌, ◌+◌, ◌-◌, ◌/◌, ◌%◌, ◌^◌, ◌==◌, ◌||◌, ◌&&◌, ℕ, zero, suc, ℤ, pos, negsuc, List, [], ◌∷◌, ◌++◌, Option, Some, None, Bool, true, false, Result, Ok, Err, length, reverse, map, chars, nat_le, unsigned_abs, sym, subst, slice_get, if◌then◌else◌}
 use mathlib.Core.List.{reverse-cons}
 use Rattle.sx_base.specs.declared.atom.Atom.TheVariants as a
@@ -6,11 +6,13 @@ use Rattle.sx_base.specs.declared.fault.Bare.{Bare}
 use Rattle.sx_tree.specs.Tree.{Tree}
 use Rattle.sx_frames.specs.Scope.{Scope}
 use Rattle.sx_value.specs.ToSyntax.{Reading, to_syntax}
+use Rattle.sx_value.specs.Cells.{Each, FitsIn, Lies, CellLies, Whole}
 use Rattle.sx_value.specs.declared.value.Value.{Value}
 use Rattle.sx_value.specs.declared.value.Value.TheVariants as value
 use Rattle.sx_value.specs.declared.cell.Cell.{Cell}
-use Rattle.sx_value.specs.Cells.{FitsIn, Whole}
+use Rattle.sx_value.specs.declared.cell.Cell.TheVariants as cell
 use Rattle.sx_prims.specs.declared.made.Made.{Made}
+use Rattle.sx_prims.specs.declared.made.Made.TheVariants as made
 use Rattle.sx_prims.specs.declared.primitive.Primitive.{Primitive}
 use Rattle.sx_prims.specs.Answers.{Answer, refused, or_refused, given, said}
 use Rattle.sx_prims.specs.Basics as basics
@@ -37,20 +39,21 @@ use Rattle.sx_prims.specs.Strings as strings
 use Rattle.sx_prims.specs.Strings.{part_made, unpacked_made, string_made, digits_made, strings_made}
 use Rattle.sx_prims.specs.Syntax as identifiers
 use Rattle.sx_prims.specs.Syntax.{identifier_made, temporaries_made}
-use Rattle.sx_prims_laws.proofs.Taken.{AllFit, PairOr, ValueOr, ValuesOr, slice_fit, both_fit, one_more_fits, take_fit, vector_at_fit, pair_fit, elements_fit, tail_fit}
+use Rattle.sx_prims_laws.specs.Holds.{HasNoPlace, HoldsIn, PartsHold, MadeHolds}
+use Rattle.sx_prims_laws.proofs.Taken.{PairOr, ValueOr, ValuesOr, each_and, each_both, each_taken, slice_holds, vector_at_holds, pair_holds, elements_hold, tail_holds}
 
-reversed_fit : (cells : List Cell) (xs : List Value) → AllFit cells xs → AllFit cells (reverse xs)
-reversed_fit cells [] r = tt
-reversed_fit cells (x ∷ xs) r =
-    subst (λ (ys : List Value). AllFit cells ys) (sym (reverse-cons x xs)) (one_more_fits cells (reverse xs) x (reversed_fit cells xs r.1) r.0)
+reversed_holds : (P : Value → Type 0) (xs : List Value) → Each P xs → Each P (reverse xs)
+reversed_holds P [] r = tt
+reversed_holds P (x ∷ xs) r =
+    subst (λ (ys : List Value). Each P ys) (sym (reverse-cons x xs)) (each_and P (reverse xs) x (reversed_holds P xs r.1) r.0)
 
-module _ (cells : List Cell) where
+module _ (P : Value → Type 0) (cells : List Cell) (holds : HoldsIn P cells) where
   abbrev MadeOr : Option Made → Type 0
   MadeOr None = Unit {0}
-  MadeOr (Some m) = MadeFits cells m
+  MadeOr (Some m) = MadeHolds P m
 
   abbrev AnswerOr : Answer → Type 0
-  AnswerOr (Ok m) = MadeFits cells m
+  AnswerOr (Ok m) = MadeHolds P m
   AnswerOr (Err f) = Unit {0}
 
   -- Ways to make.
@@ -59,7 +62,10 @@ module _ (cells : List Cell) where
   made_if true a b h k = h
   made_if false a b h k = k
 
-  given_made : (o : Option Value) → ValueOr cells o → MadeOr (given o)
+  said_made : (b : Bool) → MadeOr (said b)
+  said_made b = holds.plain _ tt
+
+  given_made : (o : Option Value) → ValueOr P o → MadeOr (given o)
   given_made None r = tt
   given_made (Some x) r = r
 
@@ -67,11 +73,11 @@ module _ (cells : List Cell) where
   some_made None f k = tt
   some_made (Some x) f k = k x
 
-  some_value : (o : Option Value) (f : Value → Option Made) → ValueOr cells o → ((x : Value) → FitsIn cells x → MadeOr (f x)) → MadeOr (if_some o f)
+  some_value : (o : Option Value) (f : Value → Option Made) → ValueOr P o → ((x : Value) → P x → MadeOr (f x)) → MadeOr (if_some o f)
   some_value None f r k = tt
   some_value (Some x) f r k = k x r
 
-  some_values : (o : Option (List Value)) (f : List Value → Option Made) → ValuesOr cells o → ((xs : List Value) → AllFit cells xs → MadeOr (f xs)) → MadeOr (if_some o f)
+  some_values : (o : Option (List Value)) (f : List Value → Option Made) → ValuesOr P o → ((xs : List Value) → Each P xs → MadeOr (f xs)) → MadeOr (if_some o f)
   some_values None f r k = tt
   some_values (Some xs) f r k = k xs r
 
@@ -79,14 +85,14 @@ module _ (cells : List Cell) where
 
   integer_ok : (o : Option ℤ) → MadeOr (numbers.integer_made o)
   integer_ok None = tt
-  integer_ok (Some z) = tt
+  integer_ok (Some z) = holds.plain _ tt
 
   whole_ok : (z : ℤ) → MadeOr (numbers.number z)
   whole_ok z = integer_ok (numbers.small z)
 
   compared_ok : (r : Option Relation) (zs : List ℤ) → MadeOr (numbers.compared r zs)
   compared_ok None zs = tt
-  compared_ok (Some r) zs = tt
+  compared_ok (Some r) zs = said_made _
 
   first_ok : (op : ℕ) (zs : List ℤ) → MadeOr (numbers.of_first op zs)
   first_ok op [] = tt
@@ -95,11 +101,11 @@ module _ (cells : List Cell) where
   few_ok : (op : ℕ) (zs : List ℤ) → MadeOr (numbers.of_few op zs)
   few_ok op [] = tt
   few_ok op (z ∷ []) =
-      made_if (op == 190) _ _ tt
-      (made_if (op == 147) _ _ tt
-      (made_if (op == 139) _ _ tt
-      (made_if (op == 145) _ _ tt
-      (made_if (op == 102) _ _ tt
+      made_if (op == 190) _ _ (said_made _)
+      (made_if (op == 147) _ _ (said_made _)
+      (made_if (op == 139) _ _ (said_made _)
+      (made_if (op == 145) _ _ (said_made _)
+      (made_if (op == 102) _ _ (said_made _)
       (made_if (op == 38) _ _ (whole_ok (pos (unsigned_abs z))) tt)))))
   few_ok op (x ∷ d ∷ []) = integer_ok (numbers.small_quotient op x d)
   few_ok op (x ∷ d ∷ y ∷ zs) = tt
@@ -125,7 +131,7 @@ module _ (cells : List Cell) where
   -- Characters.
 
   character_at_ok : (n : ℕ) → MadeOr (characters.character_at n)
-  character_at_ok n = made_if (characters.is_scalar n) _ _ (tt) tt
+  character_at_ok n = made_if (characters.is_scalar n) _ _ (holds.plain _ tt) tt
 
   to_character_ok : (x : Value) → MadeOr (characters.to_character x)
   to_character_ok (value.Atom (a.Int (pos n))) = character_at_ok n
@@ -133,11 +139,11 @@ module _ (cells : List Cell) where
   to_character_ok _ = tt
 
   from_character_ok : (x : Value) → MadeOr (characters.from_character x)
-  from_character_ok (value.Atom (a.Char c)) = tt
+  from_character_ok (value.Atom (a.Char c)) = holds.plain _ tt
   from_character_ok _ = tt
 
   alike_ok : (op : ℕ) (args : List Value) → MadeOr (characters.alike op args)
-  alike_ok op args = made_if (all_are (characters.is_kind op) args) (said (each_next same args)) None tt tt
+  alike_ok op args = made_if (all_are (characters.is_kind op) args) (said (each_next same args)) None (said_made (each_next same args)) tt
 
   of_character_ok : (op : ℕ) (args : List Value) → MadeOr (characters.of_character op args)
   of_character_ok op [] = tt
@@ -155,17 +161,20 @@ module _ (cells : List Cell) where
 
   -- Strings.
 
-  chars_fit : (cs : List ℕ) → AllFit cells (map strings.char_value cs)
-  chars_fit [] = tt
-  chars_fit (c ∷ cs) = (tt, chars_fit cs)
+  chars_holds : (cs : List ℕ) → Each P (map strings.char_value cs)
+  chars_holds [] = tt
+  chars_holds (c ∷ cs) = (holds.plain _ tt, chars_holds cs)
 
   char_given_ok : (o : Option ℕ) → MadeOr (strings.char_given o)
   char_given_ok None = tt
-  char_given_ok (Some c) = tt
+  char_given_ok (Some c) = holds.plain _ tt
+
+  natural_ok : (n : ℕ) → MadeOr (strings.natural n)
+  natural_ok n = holds.plain _ tt
 
   symbol_ok : (s : List ℕ) → MadeOr (strings.symbol_made s)
   symbol_ok [] = tt
-  symbol_ok (b ∷ bs) = tt
+  symbol_ok (b ∷ bs) = holds.plain _ tt
 
   text_of_few_ok : (op : ℕ) (args : List Value) → MadeOr (strings.text_of_few op args cells)
   text_of_few_ok op [] = tt
@@ -190,7 +199,7 @@ module _ (cells : List Cell) where
 
   texts_ok : (r : Option Relation) (ss : List (List ℕ)) → MadeOr (strings.texts_compared r ss)
   texts_ok None ss = tt
-  texts_ok (Some r) ss = tt
+  texts_ok (Some r) ss = said_made _
 
   strings_ok : (op : ℕ) (args : List Value) → MadeOr (strings_made op args cells)
   unfolding strings_made
@@ -202,12 +211,12 @@ module _ (cells : List Cell) where
   -- Identifiers.
 
   leaves_ok : (op : ℕ) (frames : Scope) (t u : Tree) → MadeOr (identifiers.of_leaves op frames t u)
-  leaves_ok op frames t u = made_if (op == 219) _ _ tt (made_if (op == 220) _ _ tt tt)
+  leaves_ok op frames t u = made_if (op == 219) _ _ (said_made _) (made_if (op == 220) _ _ (said_made _) tt)
 
-  identifier_ok : (op : ℕ) (args : List Value) (frames : Scope) → AllFit cells args → MadeOr (identifier_made op args frames)
+  identifier_ok : (op : ℕ) (args : List Value) (frames : Scope) → Each P args → MadeOr (identifier_made op args frames)
   unfolding identifier_made
   identifier_ok op [] frames r = tt
-  identifier_ok op (x ∷ []) frames r = made_if (op == 218) _ _ tt (made_if (op == 215) _ _ (made_if (basics.is_procedure x) _ _ r.0 tt) tt)
+  identifier_ok op (x ∷ []) frames r = made_if (op == 218) _ _ (said_made _) (made_if (op == 215) _ _ (made_if (basics.is_procedure x) _ _ r.0 tt) tt)
   identifier_ok op (x ∷ y ∷ []) frames r =
       some_made (identifiers.identifier x) _ (λ t. some_made (identifiers.identifier y) _ (λ u. leaves_ok op frames t u))
   identifier_ok op (x ∷ y ∷ z ∷ args) frames r = tt
@@ -239,7 +248,7 @@ module _ (cells : List Cell) where
   tree_ok op x (Some id) = answer_if (is_datum cells x) (data_of.tree_made (data_of.grown_to 1000 id cells x)) (Err (refused op)) (by_tree (data_of.grown_to 1000 id cells x)) tt
     where
       by_tree : (r : Result Tree Bare) → AnswerOr (data_of.tree_made r)
-      by_tree (Ok t) = tt
+      by_tree (Ok t) = holds.plain _ tt
       by_tree (Err f) = tt
 
   syntax_ok : (op : ℕ) (args : List Value) → AnswerOr (syntax_answer op args cells)
@@ -253,235 +262,273 @@ module _ (cells : List Cell) where
   refused_ok op None r = tt
   refused_ok op (Some m) r = r
 
-module _ (cells : List Cell) (w : Whole cells) where
   -- Parts of pairs, and kinds.
 
-  part_by_fit : (letter : ℕ) (o : Option (Value × Value)) → PairOr cells o → ValueOr cells (basics.part_by letter o)
-  part_by_fit letter None r = tt
-  part_by_fit letter (Some p) r = by_letter (letter == 0)
+  part_by_holds : (letter : ℕ) (o : Option (Value × Value)) → PairOr P o → ValueOr P (basics.part_by letter o)
+  part_by_holds letter None r = tt
+  part_by_holds letter (Some p) r = by_letter (letter == 0)
     where
-      by_letter : (t : Bool) → ValueOr cells (if t then Some p.0 else Some p.1)
+      by_letter : (t : Bool) → ValueOr P (if t then Some p.0 else Some p.1)
       by_letter true = r.0
       by_letter false = r.1
 
-  part_fit : (n letters : ℕ) (x : Value) → FitsIn cells x → ValueOr cells (part n letters cells x)
+  part_holds : (n letters : ℕ) (x : Value) → P x → ValueOr P (part n letters cells x)
   unfolding part
-  part_fit zero letters x r = r
-  part_fit (suc n) letters x r = by_end (nat_le letters 1) (part_fit n (letters / 2))
+  part_holds zero letters x r = r
+  part_holds (suc n) letters x r = by_end (nat_le letters 1) (part_holds n (letters / 2))
     where
-      by_part : ((y : Value) → FitsIn cells y → ValueOr cells (part n (letters / 2) cells y)) → (o : Option Value) → ValueOr cells o → ValueOr cells (basics.then_part (part n (letters / 2) cells) o)
+      by_part : ((y : Value) → P y → ValueOr P (part n (letters / 2) cells y)) → (o : Option Value) → ValueOr P o → ValueOr P (basics.then_part (part n (letters / 2) cells) o)
       by_part again None k = tt
       by_part again (Some y) k = again y k
 
-      by_end : (t : Bool) → ((y : Value) → FitsIn cells y → ValueOr cells (part n (letters / 2) cells y))
-          → ValueOr cells (if t then Some x else basics.then_part (part n (letters / 2) cells) (basics.part_by (letters % 2) (pair_of cells x)))
+      by_end : (t : Bool) → ((y : Value) → P y → ValueOr P (part n (letters / 2) cells y))
+          → ValueOr P (if t then Some x else basics.then_part (part n (letters / 2) cells) (basics.part_by (letters % 2) (pair_of cells x)))
       by_end true again = r
-      by_end false again = by_part again (basics.part_by (letters % 2) (pair_of cells x)) (part_by_fit (letters % 2) (pair_of cells x) (pair_fit cells w x))
+      by_end false again = by_part again (basics.part_by (letters % 2) (pair_of cells x)) (part_by_holds (letters % 2) (pair_of cells x) (pair_holds P cells holds x))
 
-  integer_kind_ok : (x : Value) → MadeOr cells (basics.integer_made x)
-  integer_kind_ok (value.Atom (a.Int z)) = tt
+  integer_kind_ok : (x : Value) → MadeOr (basics.integer_made x)
+  integer_kind_ok (value.Atom (a.Int z)) = said_made true
   integer_kind_ok (value.Atom (a.Spelt s)) = tt
-  integer_kind_ok _ = tt
+  integer_kind_ok _ = said_made false
 
-  kind_ok : (op : ℕ) (x : Value) → MadeOr cells (kind_made op x)
+  kind_ok : (op : ℕ) (x : Value) → MadeOr (kind_made op x)
   unfolding kind_made
   kind_ok op x =
-      made_if cells (op == 141) _ _ tt
-      (made_if cells (op == 146) _ _ tt
-      (made_if cells (op == 140) _ _ tt
-      (made_if cells (op == 47) _ _ tt
-      (made_if cells (op == 177) _ _ tt
-      (made_if cells (op == 173) _ _ tt
-      (made_if cells (op == 88) _ _ tt
-      (made_if cells (op == 189) _ _ tt
-      (made_if cells (op == 143) _ _ tt
-      (made_if cells (op == 148) _ _ tt
-      (made_if cells (op == 118) _ _ (integer_kind_ok x) tt))))))))))
+      made_if (op == 141) _ _ (said_made _)
+      (made_if (op == 146) _ _ (said_made _)
+      (made_if (op == 140) _ _ (said_made _)
+      (made_if (op == 47) _ _ (said_made _)
+      (made_if (op == 177) _ _ (said_made _)
+      (made_if (op == 173) _ _ (said_made _)
+      (made_if (op == 88) _ _ (said_made _)
+      (made_if (op == 189) _ _ (said_made _)
+      (made_if (op == 143) _ _ (said_made _)
+      (made_if (op == 148) _ _ (said_made _)
+      (made_if (op == 118) _ _ (integer_kind_ok x) tt))))))))))
 
-  basic_ok : (op : ℕ) (args : List Value) → AllFit cells args → MadeOr cells (basic_made op args cells)
+  basic_ok : (op : ℕ) (args : List Value) → Each P args → MadeOr (basic_made op args cells)
   unfolding basic_made
   basic_ok op [] r = tt
   basic_ok op (x ∷ []) r =
-      made_if cells (nat_le 51 op && nat_le op 80) _ _ (given_made cells (part 4 (basics.letters_of op) cells x) (part_fit 4 (basics.letters_of op) x r.0)) (kind_ok op x)
+      made_if (nat_le 51 op && nat_le op 80) _ _ (given_made (part 4 (basics.letters_of op) cells x) (part_holds 4 (basics.letters_of op) x r.0)) (kind_ok op x)
   basic_ok op (x ∷ y ∷ []) r =
-      made_if cells (op == 90) _ _ ((r.0, tt), r.1.0)
-      (made_if cells (op == 98) _ _ tt (made_if cells (op == 100) _ _ tt tt))
+      made_if (op == 90) _ _ ((r.0, tt), r.1.0)
+      (made_if (op == 98) _ _ (said_made _) (made_if (op == 100) _ _ (said_made _) tt))
   basic_ok op (x ∷ y ∷ z ∷ args) r = tt
 
   -- Elements of strings and vectors.
 
-  vector_fit : (x : Value) → ValuesOr cells (strings.vector_of cells x)
-  vector_fit (value.Vector p) = vector_at_fit cells w p.0
-  vector_fit _ = tt
+  vector_holds : (x : Value) → ValuesOr P (strings.vector_of cells x)
+  vector_holds (value.Vector p) = vector_at_holds P cells holds p.0
+  vector_holds _ = tt
 
-  part_ok : (op : ℕ) (args : List Value) → MadeOr cells (part_made op args cells)
+  part_ok : (op : ℕ) (args : List Value) → MadeOr (part_made op args cells)
   unfolding part_made
   part_ok op [] = tt
   part_ok op (x ∷ []) =
-      made_if cells (op == 166) _ _ (some_made cells (strings.string_of cells x) _ (λ s. tt))
-      (made_if cells (op == 185) _ _ (some_made cells (strings.vector_of cells x) _ (λ xs. tt)) tt)
+      made_if (op == 166) _ _ (some_made (strings.string_of cells x) _ (λ s. natural_ok _))
+      (made_if (op == 185) _ _ (some_made (strings.vector_of cells x) _ (λ xs. natural_ok _)) tt)
   part_ok op (x ∷ k ∷ []) =
-      made_if cells (op == 167) _ _
-      (some_made cells (strings.string_of cells x) _ (λ s. some_made cells (strings.index_below (length (chars s)) k) _ (λ i. char_given_ok cells (slice_get (chars s) i))))
-      (made_if cells (op == 187) _ _
-      (some_values cells (strings.vector_of cells x) _ (vector_fit x)
-      (λ xs r. some_made cells (strings.index_below (length xs) k) _ (λ i. given_made cells (slice_get xs i) (slice_fit cells xs i r)))) tt)
+      made_if (op == 167) _ _
+      (some_made (strings.string_of cells x) _ (λ s. some_made (strings.index_below (length (chars s)) k) _ (λ i. char_given_ok (slice_get (chars s) i))))
+      (made_if (op == 187) _ _
+      (some_values (strings.vector_of cells x) _ (vector_holds x)
+      (λ xs r. some_made (strings.index_below (length xs) k) _ (λ i. given_made (slice_get xs i) (slice_holds P xs i r)))) tt)
   part_ok op (x ∷ k ∷ y ∷ args) = tt
 
-  listed_ok : (o : Option (List Value)) → ValuesOr cells o → MadeOr cells (strings.listed o)
+  listed_ok : (o : Option (List Value)) → ValuesOr P o → MadeOr (strings.listed o)
   listed_ok None r = tt
-  listed_ok (Some xs) r = (r, tt)
+  listed_ok (Some xs) r = (r, holds.plain _ tt)
 
-  values_if : (t : Bool) (a b : Option (List Value)) → ValuesOr cells a → ValuesOr cells b → ValuesOr cells (if t then a else b)
+  values_if : (t : Bool) (a b : Option (List Value)) → ValuesOr P a → ValuesOr P b → ValuesOr P (if t then a else b)
   values_if true a b h k = h
   values_if false a b h k = k
 
-  spread_fit : (o : Option (List ℕ)) → ValuesOr cells (if_some o (λ s. Some (map strings.char_value (chars s))))
-  spread_fit None = tt
-  spread_fit (Some s) = chars_fit cells (chars s)
+  spread_holds : (o : Option (List ℕ)) → ValuesOr P (if_some o (λ s. Some (map strings.char_value (chars s))))
+  spread_holds None = tt
+  spread_holds (Some s) = chars_holds (chars s)
 
-  unpacked_ok : (op : ℕ) (args : List Value) → MadeOr cells (unpacked_made op args cells)
+  unpacked_ok : (op : ℕ) (args : List Value) → MadeOr (unpacked_made op args cells)
   unfolding unpacked_made
   unpacked_ok op [] = tt
   unpacked_ok op (x ∷ []) =
-      listed_ok (strings.unpacked op cells x) (values_if (op == 182) _ _ (vector_fit x) (values_if (op == 160) _ _ (spread_fit (strings.string_of cells x)) tt))
+      listed_ok (strings.unpacked op cells x) (values_if (op == 182) _ _ (vector_holds x) (values_if (op == 160) _ _ (spread_holds (strings.string_of cells x)) tt))
   unpacked_ok op (x ∷ y ∷ args) = tt
 
   -- Lists.
 
-  nil_fit : FitsIn cells lists.nil
-  nil_fit = tt
+  nil_holds : P lists.nil
+  nil_holds = holds.plain _ tt
 
-  ended_ok : (xs : List Value) (o : Option Value) → AllFit cells xs → ValueOr cells o → MadeOr cells (lists.ended_by xs o)
+  ended_ok : (xs : List Value) (o : Option Value) → Each P xs → ValueOr P o → MadeOr (lists.ended_by xs o)
   ended_ok xs None r k = tt
   ended_ok xs (Some x) r k = (r, k)
 
-  gathered_ok : (op : ℕ) (args : List Value) → AllFit cells args → MadeOr cells (gathered_made op args)
+  gathered_ok : (op : ℕ) (args : List Value) → Each P args → MadeOr (gathered_made op args)
   unfolding gathered_made
   gathered_ok op args r =
-      made_if cells (op == 121) _ _ (r, nil_fit)
-      (made_if cells (op == 181) _ _ r
-      (made_if cells (op == 159) _ _ (spelt_ok cells args)
-      (ended_ok (before_last args) (last_of args) (take_fit cells (length args - 1) args r) (slice_fit cells args (length args - 1) r))))
+      made_if (op == 121) _ _ (r, nil_holds)
+      (made_if (op == 181) _ _ r
+      (made_if (op == 159) _ _ (spelt_ok args)
+      (ended_ok (before_last args) (last_of args) (each_taken P (length args - 1) args r) (slice_holds P args (length args - 1) r))))
 
-  elements_ok : (op : ℕ) (xs : List Value) → AllFit cells xs → MadeOr cells (lists.of_elements op xs)
+  elements_ok : (op : ℕ) (xs : List Value) → Each P xs → MadeOr (lists.of_elements op xs)
   elements_ok op xs r =
-      made_if cells (op == 120) _ _ tt
-      (made_if cells (op == 155) _ _ (reversed_fit cells xs r, nil_fit)
-      (made_if cells (op == 123) _ _ r
-      (made_if cells (op == 122) _ _ (spelt_ok cells xs) tt)))
+      made_if (op == 120) _ _ (natural_ok (length xs))
+      (made_if (op == 155) _ _ (reversed_holds P xs r, nil_holds)
+      (made_if (op == 123) _ _ r
+      (made_if (op == 122) _ _ (spelt_ok xs) tt)))
 
-  car_fit : (x : Value) → ValueOr cells (lists.car_of cells x)
-  car_fit x = by_pair (pair_of cells x) (pair_fit cells w x)
+  car_holds : (x : Value) → ValueOr P (lists.car_of cells x)
+  car_holds x = by_pair (pair_of cells x) (pair_holds P cells holds x)
     where
-      by_pair : (o : Option (Value × Value)) → PairOr cells o → ValueOr cells (if_some o (λ p. Some p.0))
+      by_pair : (o : Option (Value × Value)) → PairOr P o → ValueOr P (if_some o (λ p. Some p.0))
       by_pair None r = tt
       by_pair (Some p) r = r.0
 
-  found_ok : (at : ℕ → Option Value) (o : Option ℕ) → ((n : ℕ) → ValueOr cells (at n)) → MadeOr cells (lists.found_or_false at o)
-  found_ok at None k = tt
-  found_ok at (Some n) k = given_made cells (at n) (k n)
+  found_ok : (at : ℕ → Option Value) (o : Option ℕ) → ((n : ℕ) → ValueOr P (at n)) → MadeOr (lists.found_or_false at o)
+  found_ok at None k = said_made false
+  found_ok at (Some n) k = given_made (at n) (k n)
 
-  rest_ok : (l : Value) (is : Value → Bool) (xs : List Value) → FitsIn cells l → MadeOr cells (lists.rest_from cells l is xs)
-  rest_ok l is xs r = found_ok (λ n. tail_after n cells l) (place_from is 0 xs) (λ n. tail_fit cells w n l r)
+  rest_ok : (l : Value) (is : Value → Bool) (xs : List Value) → P l → MadeOr (lists.rest_from cells l is xs)
+  rest_ok l is xs r = found_ok (λ n. tail_after n cells l) (place_from is 0 xs) (λ n. tail_holds P cells holds n l r)
 
-  entry_ok : (is : Value → Bool) (xs : List Value) → AllFit cells xs → MadeOr cells (lists.entry_from cells is xs)
+  entry_ok : (is : Value → Bool) (xs : List Value) → Each P xs → MadeOr (lists.entry_from cells is xs)
   entry_ok is xs r =
-      some_made cells (all_of (lists.car_of cells) [] xs) _ (λ cars. found_ok (slice_get xs) (place_from is 0 cars) (λ n. slice_fit cells xs n r))
+      some_made (all_of (lists.car_of cells) [] xs) _ (λ cars. found_ok (slice_get xs) (place_from is 0 cars) (λ n. slice_holds P xs n r))
 
-  without_fit : (is : Value → Bool) (done xs : List Value) → AllFit cells done → AllFit cells xs → AllFit cells (without is done xs)
+  without_holds : (is : Value → Bool) (done xs : List Value) → Each P done → Each P xs → Each P (without is done xs)
   unfolding without
-  without_fit is done [] h r = h
-  without_fit is done (x ∷ xs) h r = by_test (is x) (λ ys k. without_fit is ys xs k r.1)
+  without_holds is done [] h r = h
+  without_holds is done (x ∷ xs) h r = by_test (is x) (λ ys k. without_holds is ys xs k r.1)
     where
-      by_test : (t : Bool) → ((ys : List Value) → AllFit cells ys → AllFit cells (without is ys xs)) → AllFit cells (if t then without is done xs else without is (done ++ x ∷ []) xs)
+      by_test : (t : Bool) → ((ys : List Value) → Each P ys → Each P (without is ys xs)) → Each P (if t then without is done xs else without is (done ++ x ∷ []) xs)
       by_test true again = again done h
-      by_test false again = again (done ++ x ∷ []) (one_more_fits cells done x h r.0)
+      by_test false again = again (done ++ x ∷ []) (each_and P done x h r.0)
 
-  without_ok : (is : Value → Bool) (xs : List Value) → AllFit cells xs → MadeOr cells (lists.list_without is xs)
-  without_ok is xs r = (without_fit is [] xs tt r, nil_fit)
+  without_ok : (is : Value → Bool) (xs : List Value) → Each P xs → MadeOr (lists.list_without is xs)
+  without_ok is xs r = (without_holds is [] xs tt r, nil_holds)
 
-  list_ok : (op : ℕ) (args : List Value) → AllFit cells args → MadeOr cells (list_made op args cells)
+  list_ok : (op : ℕ) (args : List Value) → Each P args → MadeOr (list_made op args cells)
   unfolding list_made
   list_ok op [] r = tt
-  list_ok op (x ∷ []) r = made_if cells (op == 126) _ _ tt (some_values cells (list_elements cells x) _ (elements_fit cells w x) (elements_ok op))
+  list_ok op (x ∷ []) r = made_if (op == 126) _ _ (said_made _) (some_values (list_elements cells x) _ (elements_hold P cells holds x) (elements_ok op))
   list_ok op (x ∷ l ∷ []) r =
-      some_values cells (list_elements cells l) _ (elements_fit cells w l)
-      (λ xs k. made_if cells (op == 205 || op == 204) _ _ (rest_ok l _ xs r.1.0)
-      (made_if cells (op == 209 || op == 208) _ _ (entry_ok _ xs k) (made_if cells (op == 201 || op == 200) _ _ (without_ok _ xs k) tt)))
+      some_values (list_elements cells l) _ (elements_hold P cells holds l)
+      (λ xs k. made_if (op == 205 || op == 204) _ _ (rest_ok l _ xs r.1.0)
+      (made_if (op == 209 || op == 208) _ _ (entry_ok _ xs k) (made_if (op == 201 || op == 200) _ _ (without_ok _ xs k) tt)))
   list_ok op (x ∷ l ∷ y ∷ args) r = tt
 
-  equal_ok : (op : ℕ) (args : List Value) → AllFit cells args → MadeOr cells (equal_made op args cells)
+  equal_ok : (op : ℕ) (args : List Value) → Each P args → MadeOr (equal_made op args cells)
   unfolding equal_made
   equal_ok op [] r = tt
   equal_ok op (x ∷ []) r = tt
   equal_ok op (x ∷ y ∷ []) r =
-      made_if cells (op == 99) _ _ tt
-      (some_values cells (list_elements cells y) _ (elements_fit cells w y)
-      (λ xs k. made_if cells (op == 203) _ _ (rest_ok y _ xs r.1.0)
-      (made_if cells (op == 207) _ _ (entry_ok _ xs k) (made_if cells (op == 199) _ _ (without_ok _ xs k) tt))))
+      made_if (op == 99) _ _ (said_made _)
+      (some_values (list_elements cells y) _ (elements_hold P cells holds y)
+      (λ xs k. made_if (op == 203) _ _ (rest_ok y _ xs r.1.0)
+      (made_if (op == 207) _ _ (entry_ok _ xs k) (made_if (op == 199) _ _ (without_ok _ xs k) tt))))
   equal_ok op (x ∷ y ∷ z ∷ args) r = tt
 
-  joined_fit : (done xs : List Value) → AllFit cells done → ValuesOr cells (elements_joined cells done xs)
+  joined_holds : (done xs : List Value) → Each P done → ValuesOr P (elements_joined cells done xs)
   unfolding elements_joined
-  joined_fit done [] h = h
-  joined_fit done (x ∷ xs) h = by_elements (list_elements cells x) (elements_fit cells w x) (λ ys k. joined_fit ys xs k)
+  joined_holds done [] h = h
+  joined_holds done (x ∷ xs) h = by_elements (list_elements cells x) (elements_hold P cells holds x) (λ ys k. joined_holds ys xs k)
     where
-      by_elements : (o : Option (List Value)) → ValuesOr cells o → ((ys : List Value) → AllFit cells ys → ValuesOr cells (elements_joined cells ys xs))
-          → ValuesOr cells (if_some o (λ ys. elements_joined cells (done ++ ys) xs))
+      by_elements : (o : Option (List Value)) → ValuesOr P o → ((ys : List Value) → Each P ys → ValuesOr P (elements_joined cells ys xs))
+          → ValuesOr P (if_some o (λ ys. elements_joined cells (done ++ ys) xs))
       by_elements None k again = tt
-      by_elements (Some ys) k again = again (done ++ ys) (both_fit cells done ys h k)
+      by_elements (Some ys) k again = again (done ++ ys) (each_both P done ys h k)
 
-  last_fit : (o : Option Value) → ValueOr cells o → FitsIn cells (lists.last_or_nil o)
-  last_fit None r = nil_fit
-  last_fit (Some x) r = r
+  last_holds : (o : Option Value) → ValueOr P o → P (lists.last_or_nil o)
+  last_holds None r = nil_holds
+  last_holds (Some x) r = r
 
-  appended_ok : (args : List Value) → AllFit cells args → MadeOr cells (appended_made args cells)
+  appended_ok : (args : List Value) → Each P args → MadeOr (appended_made args cells)
   unfolding appended_made
   appended_ok args r =
-      some_values cells (elements_joined cells [] (before_last args)) _ (joined_fit [] (before_last args) tt)
-      (λ xs k. (k, last_fit (last_of args) (slice_fit cells args (length args - 1) r)))
+      some_values (elements_joined cells [] (before_last args)) _ (joined_holds [] (before_last args) tt)
+      (λ xs k. (k, last_holds (last_of args) (slice_holds P args (length args - 1) r)))
 
-  indexed_ok : (op : ℕ) (args : List Value) → AllFit cells args → MadeOr cells (indexed_made op args cells)
+  indexed_ok : (op : ℕ) (args : List Value) → Each P args → MadeOr (indexed_made op args cells)
   unfolding indexed_made
   indexed_ok op [] r = tt
   indexed_ok op (l ∷ []) r = tt
   indexed_ok op (l ∷ k ∷ []) r =
-      some_made cells (strings.index_below (length cells + 1) k) _
-      (λ n. some_value cells (tail_after n cells l) _ (tail_fit cells w n l r.0)
-      (λ x h. made_if cells (op == 125) _ _ h (made_if cells (op == 124) _ _ (given_made cells (lists.car_of cells x) (car_fit x)) tt)))
+      some_made (strings.index_below (length cells + 1) k) _
+      (λ n. some_value (tail_after n cells l) _ (tail_holds P cells holds n l r.0)
+      (λ x h. made_if (op == 125) _ _ h (made_if (op == 124) _ _ (given_made (lists.car_of cells x) (car_holds x)) tt)))
   indexed_ok op (l ∷ k ∷ y ∷ args) r = tt
 
   -- Rows.
 
-  row_ok : (row op : ℕ) (args : List Value) (frames : Scope) → AllFit cells args → AnswerOr cells (row_answer row op args cells frames)
+  row_ok : (row op : ℕ) (args : List Value) (frames : Scope) → Each P args → AnswerOr (row_answer row op args cells frames)
   unfolding row_answer
   row_ok row op args frames r =
-      answer_if cells (row == 0) _ _ (refused_ok cells op _ (basic_ok op args r))
-      (answer_if cells (row == 1) _ _ (refused_ok cells op _ (number_ok cells op args))
-      (answer_if cells (row == 2) _ _ (refused_ok cells op _ (character_ok cells op args))
-      (answer_if cells (row == 3) _ _ (refused_ok cells op _ (part_ok op args))
-      (answer_if cells (row == 4) _ _ (refused_ok cells op _ (gathered_ok op args r))
-      (answer_if cells (row == 5) _ _ (refused_ok cells op _ (list_ok op args r))
-      (answer_if cells (row == 6) _ _ (refused_ok cells op _ (appended_ok args r))
-      (answer_if cells (row == 7) _ _ (refused_ok cells op _ (indexed_ok op args r))
-      (answer_if cells (row == 8) _ _ (refused_ok cells op _ (unpacked_ok op args))
-      (answer_if cells (row == 9) _ _ (refused_ok cells op _ (string_ok cells op args))
-      (answer_if cells (row == 10) _ _ (refused_ok cells op _ (digits_ok cells args))
-      (answer_if cells (row == 11) _ _ (refused_ok cells op _ (strings_ok cells op args))
-      (answer_if cells (row == 12) _ _ (refused_ok cells op _ (equal_ok op args r))
-      (answer_if cells (row == 13) _ _ (refused_ok cells op _ (identifier_ok cells op args frames r))
-      (answer_if cells (row == 14) _ _ (datum_ok cells op args)
-      (answer_if cells (row == 15) _ _ (syntax_ok cells op args)
-      (answer_if cells (row == 16) _ _ (refused_ok cells op _ (temporaries_ok cells args)) tt))))))))))))))))
+      answer_if (row == 0) _ _ (refused_ok op _ (basic_ok op args r))
+      (answer_if (row == 1) _ _ (refused_ok op _ (number_ok op args))
+      (answer_if (row == 2) _ _ (refused_ok op _ (character_ok op args))
+      (answer_if (row == 3) _ _ (refused_ok op _ (part_ok op args))
+      (answer_if (row == 4) _ _ (refused_ok op _ (gathered_ok op args r))
+      (answer_if (row == 5) _ _ (refused_ok op _ (list_ok op args r))
+      (answer_if (row == 6) _ _ (refused_ok op _ (appended_ok args r))
+      (answer_if (row == 7) _ _ (refused_ok op _ (indexed_ok op args r))
+      (answer_if (row == 8) _ _ (refused_ok op _ (unpacked_ok op args))
+      (answer_if (row == 9) _ _ (refused_ok op _ (string_ok op args))
+      (answer_if (row == 10) _ _ (refused_ok op _ (digits_ok args))
+      (answer_if (row == 11) _ _ (refused_ok op _ (strings_ok op args))
+      (answer_if (row == 12) _ _ (refused_ok op _ (equal_ok op args r))
+      (answer_if (row == 13) _ _ (refused_ok op _ (identifier_ok op args frames r))
+      (answer_if (row == 14) _ _ (datum_ok op args)
+      (answer_if (row == 15) _ _ (syntax_ok op args)
+      (answer_if (row == 16) _ _ (refused_ok op _ (temporaries_ok args)) tt))))))))))))))))
 
-  answer_ok : (o : Option Primitive) (op : ℕ) (args : List Value) (frames : Scope) → AllFit cells args → AnswerOr cells (answer_by o op args cells frames)
+  answer_ok : (o : Option Primitive) (op : ℕ) (args : List Value) (frames : Scope) → Each P args → AnswerOr (answer_by o op args cells frames)
   answer_ok None op args frames r = tt
-  answer_ok (Some p) op args frames r = answer_if cells (takes p (length args)) _ _ (row_ok p.row op args frames r) tt
+  answer_ok (Some p) op args frames r = answer_if (takes p (length args)) _ _ (row_ok p.row op args frames r) tt
 
-  delta_ok : (op : ℕ) (args : List Value) (frames : Scope) → AllFit cells args → AnswerOr cells (delta op args cells frames)
+  delta_ok : (op : ℕ) (args : List Value) (frames : Scope) → Each P args → AnswerOr (delta op args cells frames)
   unfolding delta
   delta_ok op args frames r = answer_ok (primitive_of op) op args frames r
 
-pub call_fits : (op : ℕ) (args : List Value) (cells : List Cell) (fs : Scope) (m : Made) → Whole cells → AllFit cells args → delta op args cells fs ≡ Ok m → MadeFits cells m
-call_fits op args cells fs m w r e = subst (λ (x : Answer). AnswerOr cells x) e (delta_ok cells w op args fs r)
+pub call_holds : (P : Value → Type 0) (op : ℕ) (args : List Value) (cells : List Cell) (fs : Scope) (m : Made) → HoldsIn P cells → Each P args → delta op args cells fs ≡ Ok m → MadeHolds P m
+call_holds P op args cells fs m holds r e = subst (λ (x : Answer). AnswerOr P cells holds x) e (delta_ok P cells holds op args fs r)
+
+-- To fit in whole cells is such a property.
+
+all_fit : (cells : List Cell) (n : ℕ) (xs : List Value) → Each (Lies cells n) xs → Each (FitsIn cells) xs
+all_fit cells n [] l = tt
+all_fit cells n (x ∷ xs) l = (l.0.fits, all_fit cells n xs l.1)
+
+parts_fit : (cells : List Cell) (n : ℕ) (c : Cell) → CellLies cells n c → PartsHold (FitsIn cells) c
+parts_fit cells n (cell.Pair x y) l = (l.0.fits, l.1.fits)
+parts_fit cells n (cell.Vector xs) l = all_fit cells n xs l
+parts_fit cells n (cell.Str text) l = tt
+parts_fit cells n (cell.Scope es parent) l = tt
+parts_fit cells n (cell.Binds bs parent) l = tt
+parts_fit cells n (cell.Transformer x) l = tt
+
+plain_fits : (cells : List Cell) (v : Value) → HasNoPlace v → FitsIn cells v
+plain_fits cells value.Unspecified h = tt
+plain_fits cells (value.Atom b) h = tt
+plain_fits cells (value.Symbol s) h = tt
+plain_fits cells (value.Pair p) h = absurd h
+plain_fits cells (value.Vector p) h = absurd h
+plain_fits cells (value.Str p) h = absurd h
+plain_fits cells (value.Closure number p) h = absurd h
+plain_fits cells (value.Prim op) h = tt
+plain_fits cells (value.Syn t) h = tt
+plain_fits cells (value.Transformer p) h = absurd h
+
+made_fits : (cells : List Cell) (m : Made) → MadeHolds (FitsIn cells) m → MadeFits cells m
+made_fits cells (made.Value x) h = h
+made_fits cells (made.List xs x) h = h
+made_fits cells (made.Vector xs) h = h
+made_fits cells (made.Text text) h = tt
+made_fits cells (made.Transformer x) h = h
+made_fits cells (made.Datum d) h = tt
+made_fits cells (made.Temporaries n) h = tt
+
+pub call_fits : (op : ℕ) (args : List Value) (cells : List Cell) (fs : Scope) (m : Made) → Whole cells → Each (FitsIn cells) args → delta op args cells fs ≡ Ok m → MadeFits cells m
+call_fits op args cells fs m w r e =
+    made_fits cells m (call_holds (FitsIn cells) op args cells fs m (record { plain = plain_fits cells; parts = λ n c k. parts_fit cells n c (w.lies n c k) }) r e)

@@ -1,0 +1,219 @@
+-- No primitive and no template is refused for want of fuel.
+use Rattle.std.proofs.Common.{◌≡◌, ℕ, zero, suc, List, [], ◌∷◌, ◌++◌, Option, Some, None, Bool, true, false, Result, Ok, Err, subst, length, ◌+◌, ◌-◌, ◌^◌, if◌then◌else◌}
+use Rattle.std.specs.Prelude.{nat_eq, ◌==◌}
+use Rattle.sx_base.specs.Gives.{◌>>=◌}
+use Rattle.sx_base.specs.declared.atom.Atom.TheVariants as a
+use Rattle.sx_base.specs.declared.fault.Bare.{Bare}
+use Rattle.sx_base.specs.declared.fault.FaultKind.{FaultKind}
+use Rattle.sx_base.specs.declared.fault.FaultKind.TheVariants as kind
+use Rattle.sx_core.specs.Template as template
+use Rattle.sx_core.specs.Template.{PlainTemplate, PlainItems}
+use Rattle.sx_frames.specs.Scope.{Scope}
+use Rattle.sx_tree.specs.Measures.{within, fits}
+use Rattle.sx_tree.specs.Tree.{Tree, vector_of, list_of}
+use Rattle.sx_value.specs.Cells.{vector_at, string_at}
+use Rattle.sx_value.specs.FromDatum.{pairs_stored, vector_stored}
+use Rattle.sx_value.specs.ToSyntax.{Reading, fuel_spent, to_syntax}
+use Rattle.sx_value.specs.declared.cell.Cell.{Cell}
+use Rattle.sx_value.specs.declared.value.Value.{Value}
+use Rattle.sx_value.specs.declared.value.Value.TheVariants as value
+use Rattle.sx_prims.specs.Answers.{refused, or_refused}
+use Rattle.sx_prims.specs.Basics.{basic_made}
+use Rattle.sx_prims.specs.Chains.{chain}
+use Rattle.sx_prims.specs.Characters.{character_made}
+use Rattle.sx_prims.specs.Data.{unread, stripped, datum_answer, text_grown, all_grown, vector_grown, list_grown, level_grown, grown_to, tree_made, tree_by, syntax_answer}
+use Rattle.sx_prims.specs.Delta.{row_answer, answer_by, delta}
+use Rattle.sx_prims.specs.Equality.{equal_made}
+use Rattle.sx_prims.specs.Lists.{gathered_made, list_made, appended_made, indexed_made}
+use Rattle.sx_prims.specs.Numbers.{number_made}
+use Rattle.sx_prims.specs.Parts.{is_datum}
+use Rattle.sx_prims.specs.Primitives.{primitive_of, takes}
+use Rattle.sx_prims.specs.Raised.{raised, word_of, is_who, raised_fault}
+use Rattle.sx_prims.specs.Strings.{string_of, part_made, unpacked_made, string_made, digits_made, strings_made}
+use Rattle.sx_prims.specs.Syntax.{identifier, identifier_made, temporaries_made}
+use Rattle.sx_prims.specs.declared.made.Made.{Made}
+use Rattle.sx_prims.specs.declared.primitive.Primitive.{Primitive}
+use Rattle.sx_template.specs.Binds.{Binds, Absent}
+use Rattle.sx_template.specs.Instance as instances
+use Rattle.sx_template.specs.Lengths.{agree, or_none}
+
+abbrev pub IsOther : FaultKind → Type 0
+IsOther kind.FuelSpent = ⊥
+IsOther _ = Unit {0}
+
+pub not_spent : (f : Bare) → IsOther f.kind → f ≡ fuel_spent → ⊥
+not_spent f h e = subst (λ (g : Bare). IsOther g.kind) e h
+
+-- where it is refused, then not for want of fuel
+abbrev pub Others : {A : Type 0} → Result A Bare → Type 0
+Others (Ok x) = Unit {0}
+Others (Err f) = IsOther f.kind
+
+others-if : {A : Type 0} (b : Bool) (x y : Result A Bare) → Others x → Others y → Others (if b then x else y)
+others-if true x y h k = h
+others-if false x y h k = k
+
+others-then : {A B : Type 0} (r : Result A Bare) (go : A → Result B Bare) → Others r → ((x : A) → Others (go x)) → Others (r >>= go)
+others-then (Ok x) go h k = k x
+others-then (Err f) go h k = h
+
+-- Primitives.
+
+others-made : (op : ℕ) (o : Option Made) → Others (or_refused op o)
+others-made op None = tt
+others-made op (Some m) = tt
+
+others-unread : (op : ℕ) (k : FaultKind) → IsOther (unread op k).kind
+others-unread op kind.TooDeep = tt
+others-unread op _ = tt
+
+others-stripped : (op : ℕ) (r : Reading Tree) → Others (stripped op r)
+others-stripped op (Ok p) = tt
+others-stripped op (Err f) = others-unread op f.kind
+
+others-datum : (op : ℕ) (args : List Value) (cells : List Cell) → Others (datum_answer op args cells)
+unfolding datum_answer
+others-datum op [] cells = tt
+others-datum op (x ∷ []) cells = others-stripped op (to_syntax cells x (2 ^ 64 - 1))
+others-datum op (x ∷ y ∷ args) cells = tt
+
+others-within : (t : Tree) → Others (within t)
+unfolding within
+others-within t = others-if (fits t) _ _ tt tt
+
+others-text : (o : Option (List ℕ)) → Others (text_grown o)
+others-text None = tt
+others-text (Some s) = tt
+
+others-all : (grow : Value → Result Tree Bare) → ((x : Value) → Others (grow x)) → (done : List Tree) (xs : List Value) → Others (all_grown grow done xs)
+unfolding all_grown
+others-all grow h done [] = tt
+others-all grow h done (x ∷ xs) = others-then (grow x) (λ t. all_grown grow (done ++ t ∷ []) xs) (h x) (λ t. others-all grow h (done ++ t ∷ []) xs)
+
+others-vector : (grow : Value → Result Tree Bare) → ((x : Value) → Others (grow x)) → (o : Option (List Value)) → Others (vector_grown grow o)
+others-vector grow h None = tt
+others-vector grow h (Some xs) = others-then (all_grown grow [] xs) (λ ts. within (vector_of ts)) (others-all grow h [] xs) (λ ts. others-within (vector_of ts))
+
+others-list : (grow : Value → Result Tree Bare) → ((x : Value) → Others (grow x)) → (xs : List Value) (x : Value) → Others (list_grown grow xs x)
+others-list grow h xs x =
+    others-then (all_grown grow [] xs) (λ ts. grow x >>= λ t. within (list_of ts (Some t))) (others-all grow h [] xs)
+    (λ ts. others-then (grow x) (λ t. within (list_of ts (Some t))) (h x) (λ t. others-within (list_of ts (Some t))))
+
+others-level : (grow : Value → Result Tree Bare) → ((x : Value) → Others (grow x)) → (id : Tree) (cells : List Cell) (x : Value) → Others (level_grown grow id cells x)
+unfolding level_grown
+others-level grow h id cells (value.Atom x) = tt
+others-level grow h id cells (value.Symbol s) = tt
+others-level grow h id cells (value.Pair p) = others-list grow h (chain cells (value.Pair p)).elements (chain cells (value.Pair p)).end
+others-level grow h id cells (value.Vector p) = others-vector grow h (vector_at cells p.0)
+others-level grow h id cells (value.Str p) = others-text (string_at cells p.0)
+others-level grow h id cells value.Unspecified = tt
+others-level grow h id cells (value.Closure c p) = tt
+others-level grow h id cells (value.Prim op) = tt
+others-level grow h id cells (value.Syn t) = tt
+others-level grow h id cells (value.Transformer p) = tt
+
+others-grown : (n : ℕ) (id : Tree) (cells : List Cell) (x : Value) → Others (grown_to n id cells x)
+unfolding grown_to
+others-grown zero id cells x = tt
+others-grown (suc n) id cells x = others-level (grown_to n id cells) (others-grown n id cells) id cells x
+
+others-tree : (r : Result Tree Bare) → Others r → Others (tree_made r)
+others-tree (Ok t) h = tt
+others-tree (Err f) h = h
+
+others-tree_by : (op : ℕ) (cells : List Cell) (x : Value) (o : Option Tree) → Others (tree_by op cells x o)
+others-tree_by op cells x None = tt
+others-tree_by op cells x (Some id) =
+    others-if (is_datum cells x) (tree_made (grown_to 1000 id cells x)) (Err (refused op)) (others-tree (grown_to 1000 id cells x) (others-grown 1000 id cells x)) tt
+
+others-syntax : (op : ℕ) (args : List Value) (cells : List Cell) → Others (syntax_answer op args cells)
+unfolding syntax_answer
+others-syntax op [] cells = tt
+others-syntax op (k ∷ []) cells = tt
+others-syntax op (k ∷ x ∷ []) cells = others-tree_by op cells x (identifier k)
+others-syntax op (k ∷ x ∷ y ∷ args) cells = tt
+
+other-if : (b : Bool) (f g : Bare) → IsOther f.kind → IsOther g.kind → IsOther (if b then f else g).kind
+other-if true f g h k = h
+other-if false f g h k = k
+
+others-raised : (op : ℕ) (args : List Value) (cells : List Cell) → IsOther (raised_fault op args cells).kind
+unfolding raised_fault
+others-raised op [] cells = tt
+others-raised op (x ∷ []) cells = other-if (op == 230) (raised []) (refused op) tt tt
+others-raised op (who ∷ message ∷ rest) cells = other-if (is_who who) (raised (word_of (string_of cells message))) (refused op) tt tt
+
+others-row : (row op : ℕ) (args : List Value) (cells : List Cell) (frames : Scope) → Others (row_answer row op args cells frames)
+unfolding row_answer
+others-row row op args cells frames =
+    others-if (row == 0) _ _ (others-made op (basic_made op args cells))
+    (others-if (row == 1) _ _ (others-made op (number_made op args))
+    (others-if (row == 2) _ _ (others-made op (character_made op args))
+    (others-if (row == 3) _ _ (others-made op (part_made op args cells))
+    (others-if (row == 4) _ _ (others-made op (gathered_made op args))
+    (others-if (row == 5) _ _ (others-made op (list_made op args cells))
+    (others-if (row == 6) _ _ (others-made op (appended_made args cells))
+    (others-if (row == 7) _ _ (others-made op (indexed_made op args cells))
+    (others-if (row == 8) _ _ (others-made op (unpacked_made op args cells))
+    (others-if (row == 9) _ _ (others-made op (string_made op args cells))
+    (others-if (row == 10) _ _ (others-made op (digits_made args))
+    (others-if (row == 11) _ _ (others-made op (strings_made op args cells))
+    (others-if (row == 12) _ _ (others-made op (equal_made op args cells))
+    (others-if (row == 13) _ _ (others-made op (identifier_made op args frames))
+    (others-if (row == 14) _ _ (others-datum op args cells)
+    (others-if (row == 15) _ _ (others-syntax op args cells)
+    (others-if (row == 16) _ _ (others-made op (temporaries_made args cells)) (others-raised op args cells)))))))))))))))))
+
+others-answer_by : (p : Option Primitive) (op : ℕ) (args : List Value) (cells : List Cell) (frames : Scope) → Others (answer_by p op args cells frames)
+others-answer_by None op args cells frames = tt
+others-answer_by (Some p) op args cells frames = others-if (takes p (length args)) _ _ (others-row p.row op args cells frames) tt
+
+pub others-delta : (op : ℕ) (args : List Value) (cells : List Cell) (frames : Scope) → Others (delta op args cells frames)
+unfolding delta
+others-delta op args cells frames = others-answer_by (primitive_of op) op args cells frames
+
+-- Templates.
+
+others-agree : (m : Option ℕ) (ns : List ℕ) → Others (agree m ns)
+others-agree m [] = tt
+others-agree None (n ∷ ns) = others-agree (Some n) ns
+others-agree (Some m) (n ∷ ns) = others-if (nat_eq m n) _ _ (others-agree (Some m) ns) tt
+
+abbrev Stands : {A : Type 0} → (List Cell → Result (A × List Cell) Bare) → Type 0
+Stands m = (cells : List Cell) → Others (m cells)
+
+others-add : {A B : Type 0} (r : Result (A × List Cell) Bare) (go : A → List Cell → Result (B × List Cell) Bare)
+    → Others r → ((x : A) → Stands (go x)) → Others (instances.then_add r go)
+others-add (Ok p) go h k = k p.0 p.1
+others-add (Err f) go h k = h
+
+others-turned : (go : List ℕ → List Value → List Cell → Result (List Value × List Cell) Bare) → ((turns : List ℕ) (vs : List Value) → Stands (go turns vs))
+    → (n i : ℕ) (turns : List ℕ) (vs : List Value) → Stands (instances.turned go n i turns vs)
+others-turned go h zero i turns vs cells = tt
+others-turned go h (suc n) i turns vs cells =
+    others-add (go (turns ++ i ∷ []) vs cells) (instances.turned go n (i + 1) turns) (h (turns ++ i ∷ []) vs cells) (others-turned go h n (i + 1) turns)
+
+others-item : (go : List ℕ → List Cell → Result (Value × List Cell) Bare) (counts : ℕ → List ℕ → List ℕ) → ((turns : List ℕ) → Stands (go turns))
+    → (ellipses : ℕ) (turns : List ℕ) (vs : List Value) → Stands (instances.item go counts ellipses turns vs)
+others-item go counts h zero turns vs cells = others-add (go turns cells) (λ v cells. Ok (vs ++ v ∷ [], cells)) (h turns cells) (λ v cells. tt)
+others-item go counts h (suc ellipses) turns vs cells =
+    others-then (agree None (counts ellipses turns)) (λ n. instances.turned (instances.item go counts ellipses) (or_none n) 0 turns vs cells)
+    (others-agree None (counts ellipses turns)) (λ n. others-turned (instances.item go counts ellipses) (others-item go counts h ellipses) (or_none n) 0 turns vs cells)
+
+mutual
+  pub others-instance : (absent : Absent) (bs : Binds) (t : PlainTemplate) (turns : List ℕ) → Stands (instances.instance absent bs t turns)
+  others-instance absent bs (template.variable l depth) turns cells = tt
+  others-instance absent bs (template.constant t) turns cells = tt
+  others-instance absent bs (template.list is t) turns cells =
+      others-add (instances.parts absent bs is turns [] cells)
+      (λ xs cells. instances.then_add (instances.ending t (instances.instance absent bs t turns) cells) (λ v cells. Ok (pairs_stored xs (v, cells)))) (others-parts absent bs is turns [] cells)
+      (λ xs cells. others-add (instances.ending t (instances.instance absent bs t turns) cells) (λ v cells. Ok (pairs_stored xs (v, cells)))
+      (others-if (instances.is_end t) (Ok (value.Atom a.Nil, cells)) (instances.instance absent bs t turns cells) tt (others-instance absent bs t turns cells)) (λ v cells. tt))
+  others-instance absent bs (template.vector is) turns cells =
+      others-add (instances.parts absent bs is turns [] cells) (λ xs cells. Ok (vector_stored (xs, cells))) (others-parts absent bs is turns [] cells) (λ xs cells. tt)
+
+  others-parts : (absent : Absent) (bs : Binds) (is : PlainItems) (turns : List ℕ) (vs : List Value) → Stands (instances.parts absent bs is turns vs)
+  others-parts absent bs template.none turns vs cells = tt
+  others-parts absent bs (template.more t ellipses is) turns vs cells =
+      others-add (instances.item (instances.instance absent bs t) (instances.counts absent bs t) ellipses turns vs cells) (instances.parts absent bs is turns)
+      (others-item (instances.instance absent bs t) (instances.counts absent bs t) (others-instance absent bs t) ellipses turns vs cells) (others-parts absent bs is turns)

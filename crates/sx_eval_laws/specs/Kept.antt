@@ -1,0 +1,36 @@
+-- What an evaluation leaves as it was.
+use Rattle.std.specs.Prelude.{◌≡◌, ◌≤◌, ℕ, List}
+use Rattle.sx_region.specs.declared.region.Place.{Place}
+use Rattle.sx_core.specs.Core.{PlainCore}
+use Rattle.sx_core.specs.declared.record.Line.{Line}
+use Rattle.sx_value.specs.FromDatum.{Keeps}
+use Rattle.sx_value.specs.declared.value.Value.{Value}
+use Rattle.sx_prims.specs.declared.world.World.{World}
+use Rattle.sx_eval.specs.Evals.{state_of}
+use Rattle.sx_eval.specs.Lines.{library_evaluated}
+use Rattle.sx_eval.specs.Meaning.{eval_of, applied}
+use Rattle.sx_eval.specs.Setting.{PlainSetting}
+use Rattle.sx_eval.specs.State.{State, Outcome, done, faulted, unfit}
+
+-- A state that comes after another: the cells that were there are there still, each in its place, and no name that was taken is
+-- free again.
+pub record Later (s t : State) : Type 0 where
+  pub cells : Keeps s.cells t.cells
+  pub library : t.names.library ≡ s.names.library
+  pub names : s.names.number ≤ t.names.number
+
+abbrev pub EndsLater : State → Outcome → Type 0
+EndsLater s (done v t n) = Later s t
+EndsLater s (faulted f t n) = Later s t
+EndsLater s unfit = Unit {0}
+
+-- Whatever an evaluation comes to, it changes no cell that was there.
+abbrev pub ExpressionsEndLater : Type 0
+ExpressionsEndLater = (w : PlainSetting) (c : PlainCore) (scope : Place) (s : State) (n : ℕ) → EndsLater s (eval_of w c scope s n)
+
+abbrev pub CallsEndLater : Type 0
+CallsEndLater = (w : PlainSetting) (vs : List Value) (s : State) (n : ℕ) → EndsLater s (applied w (eval_of w) vs s n)
+
+-- A library adds the cell in which its variables get their values.
+abbrev pub LibrariesEndLater : Type 0
+LibrariesEndLater = (w : World) (ls : List Line) (n : ℕ) → EndsLater (state_of w) (library_evaluated w ls n)

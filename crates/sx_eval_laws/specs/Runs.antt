@@ -1,0 +1,19 @@
+-- What is evaluated, and what comes of it with each amount of fuel.
+use Rattle.std.specs.Prelude.{ℕ, List}
+use Rattle.sx_region.specs.declared.region.Place.{Place}
+use Rattle.sx_core.specs.Core.{PlainCore}
+use Rattle.sx_core.specs.declared.record.Line.{Line}
+use Rattle.sx_value.specs.declared.value.Value.{Value}
+use Rattle.sx_eval.specs.Lines.{lines_from}
+use Rattle.sx_eval.specs.Meaning.{eval_of, applied}
+use Rattle.sx_eval.specs.Setting.{PlainSetting}
+use Rattle.sx_eval.specs.State.{State, Outcome}
+
+abbrev pub ByFuel : Type 0
+ByFuel = ℕ → Outcome
+
+-- of each expression, each call and the lines of each library
+pub record Everywhere (P : ByFuel → Type 0) : Type 0 where
+  pub expressions : (w : PlainSetting) (c : PlainCore) (scope : Place) (s : State) → P (eval_of w c scope s)
+  pub calls : (w : PlainSetting) (vs : List Value) (s : State) → P (applied w (eval_of w) vs s)
+  pub libraries : (w : PlainSetting) (ls : List Line) (scope : Place) (s : State) → P (lines_from (eval_of w) ls scope s)

@@ -1,0 +1,59 @@
+-- Evaluation in a whole world, and calls there, keep it whole.
+use Rattle.std.proofs.Common.{◌≡◌, List, [], ◌∷◌, ◌++◌, Option, Some, None, refl, subst}
+use Rattle.sx_base.specs.declared.name.Label.{Label}
+use Rattle.sx_region.specs.declared.region.Place.{Place}
+use Rattle.sx_value.specs.Cells.{Each}
+use Rattle.sx_value.specs.declared.value.Value.{Value}
+use Rattle.sx_value.specs.declared.cell.Cell.{Cell}
+use Rattle.sx_value.specs.declared.cell.Cell.TheVariants as cell
+use Rattle.sx_eval.specs.Codes.{code_at}
+use Rattle.sx_eval.specs.Evals.{setting_of, state_of, evaluated}
+use Rattle.sx_eval.specs.Procedures.{text_number}
+use Rattle.sx_eval.specs.Setting.{PlainSetting}
+use Rattle.sx_eval.specs.State.{with_cell, next_place}
+use Rattle.sx_whole_laws.specs.Evaluated.{EvalsNeverStuck, CallsNeverStuck, ScopeThere, setting_for}
+use Rattle.sx_whole_laws.specs.Extends.{Extends}
+use Rattle.sx_whole_laws.specs.Ready.{FoundFrom, BoundFrom, ReadyIn}
+use Rattle.sx_whole_laws.specs.WholeWorld.{ValueReady, WholeWorld, WholeEnding}
+use Rattle.sx_whole_laws.proofs.Growth.{grows_refl}
+use Rattle.sx_whole_laws.proofs.Steady.{ready_map, cell_later, globals_later, text_later}
+use Rattle.sx_whole_laws.proofs.Stuck.{never_stuck, applied_never_stuck}
+use Rattle.sx_whole_laws.proofs.Worlds.{first_scope_added, has_added, scope_finds_all, scope_binds}
+
+-- A world stays whole where what is read comes to hold more.
+pub world_extended : (w v : PlainSetting) → Extends w v → (cells : List Cell) → WholeWorld w cells → Each (λ (e : Label × Value). ValueReady v cells e.1) v.globals → WholeWorld v cells
+world_extended w v x cells world globals = record {
+  whole = world.whole;
+  values = λ n c e. cell_later w v x cells cells (grows_refl cells) c (world.values n c e);
+  globals = globals;
+  texts = λ op e. text_later w v x cells cells (grows_refl cells) (text_number op) (code_at w.codes (text_number op)) refl (world.texts op e);
+}
+
+-- Codes are added.
+
+pub with_codes_whole : (w v : PlainSetting) → Extends w v → w.globals ≡ v.globals → (cells : List Cell) → WholeWorld w cells → WholeWorld v cells
+with_codes_whole w v x e cells world =
+    world_extended w v x cells world
+    (subst (λ gs. Each (λ (e : Label × Value). ValueReady v cells e.1) gs) e (globals_later w v x cells cells (grows_refl cells) w.globals world.globals))
+
+pub evals_never_stuck : EvalsNeverStuck
+evals_never_stuck w c scope n world there stay ready = by_scope scope there ready
+  where
+    v : PlainSetting
+    v = setting_for w c
+
+    whole : WholeWorld v w.cells.list
+    whole = with_codes_whole (setting_of w) v (record { codes = stay; globals = λ l h. h }) refl w.cells.list world
+
+    by_scope : (o : Option Place) → ScopeThere w.cells.list o → ReadyIn v w.cells.list o c → WholeEnding v (evaluated v c o (state_of w) n)
+    by_scope (Some place) h r = never_stuck v c place (state_of w) n whole h r
+    by_scope None h r =
+        let s = state_of w in
+        let first = cell.Scope [] None in
+        let new = s.cells ++ first ∷ [] in
+        never_stuck v c (next_place s) (with_cell first s) n (first_scope_added v s.cells whole) (has_added s.cells first refl)
+        (ready_map v v (λ number code k. k) (FoundFrom v s.cells None) (FoundFrom v new (Some (next_place s))) (BoundFrom s.cells None) (BoundFrom new (Some (next_place s)))
+        (scope_finds_all v s.cells [] None) (scope_binds v s.cells [] None) c r)
+
+pub calls_never_stuck : CallsNeverStuck
+calls_never_stuck w f args n world r = applied_never_stuck (setting_of w) f args (state_of w) n world r

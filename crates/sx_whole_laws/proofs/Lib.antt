@@ -1,0 +1,17 @@
+pub mod Among
+pub mod Beginnings
+pub mod Evaluations
+pub mod Given
+pub mod Growth
+pub mod Lines
+pub mod Made
+pub mod Matches
+pub mod Numbered
+pub mod Prepared
+pub mod Reading
+pub mod Records
+pub mod Steady
+pub mod Stuck
+pub mod Texts
+pub mod Wells
+pub mod Worlds
