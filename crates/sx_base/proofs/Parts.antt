@@ -1,9 +1,8 @@
 -- What the parts of a list in memory are.
-use Rattle.std.proofs.Common.{◌≡◌, Bool, true, false, List, [], ◌∷◌, Option, Some, None, refl, ap, ◌∙◌}
+use Rattle.std.proofs.Common.{◌≡◌, true, false, List, [], ◌∷◌, Option, Some, None, refl, ap}
 use Rattle.std.specs.Prelude.{IsTrue, ◌&&◌, slice_get}
 use Rattle.sx_base.specs.declared.span.Span.{Span}
-use Rattle.sx_base.specs.declared.atom.Atom.TheVariants as atoms
-use Rattle.sx_base.specs.Datum.{PlainDatum, atom, symbol, pair, vector, chain, listed, spanned, is_tail, is_nil, elements, tail_of, first_of, atom_of, symbol_text, proper_elements, span_of}
+use Rattle.sx_base.specs.Datum.{PlainDatum, atom, symbol, pair, vector, chain, listed, is_tail, is_nil, elements, tail_of, first_of, atom_of, symbol_text, proper_elements, span_of}
 use Rattle.sx_base.specs.DatumView.{is_some_list}
 
 no_elements : (t : PlainDatum) → IsTrue (is_tail t) → elements t ≡ []

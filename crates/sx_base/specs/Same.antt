@@ -1,5 +1,5 @@
 -- When two names are the same.
-use Rattle.std.specs.Prelude.{◌≡◌, ℕ, Bool, ◌&&◌, nat_eq, List, IsTrue, refl}
+use Rattle.std.specs.Prelude.{◌≡◌, ℕ, Bool, ◌&&◌, ◌++◌, nat_eq, List, IsTrue, refl}
 use Rattle.std.proofs.Common.{sym, ◌∙◌, ap, subst}
 use Rattle.std.specs.Bool.{Decides}
 use Rattle.std.specs.Hash as fed
@@ -9,6 +9,7 @@ use Rattle.sx_base.specs.Named.{Named}
 use Rattle.sx_base.specs.declared.library.LibName.{LibName}
 use Rattle.sx_base.specs.declared.library.LibName.TheVariants as l
 use Rattle.sx_base.specs.contracts.library.LibNamePartialEq.TheImpl as library_eq
+use Rattle.sx_base.specs.contracts.library.LibNameHash.TheImpl as library_hash
 
 abbrev pub same_library : LibName → LibName → Bool
 same_library = library_eq.eq-value.it
@@ -50,6 +51,10 @@ same_name_equiv = decided same_name same_name_cases
 pub same_name_per : IsPartialEquivalence same_name
 same_name_per = partial_equiv_from_equiv same_name_equiv
 
+-- what a name feeds a hasher: its library, then its number
+abbrev pub name_fed : Named → fed.HashWrites
+name_fed n = library_hash.hash_input-value.it n.library ++ fed.u64 n.number
+
 -- the same names feed a hasher the same
-pub name_alike : (a b : Named) → IsTrue (same_name a b) → fed.u64 a.number ≡ fed.u64 b.number
-name_alike a b h = ap (λ (x : Named). fed.u64 x.number) ((same_name_cases a b).0 h)
+pub name_alike : (a b : Named) → IsTrue (same_name a b) → name_fed a ≡ name_fed b
+name_alike a b h = ap name_fed ((same_name_cases a b).0 h)

@@ -7,7 +7,7 @@ use crate::symbol::Symbol;
 
 /// The name of a library, without its version. Names rise in the order of the variants; those that
 /// users write rise by the number of their parts, and then part by part.
-#[derive(PartialEq, Eq, PartialOrd, Ord, Drop)]
+#[derive(PartialEq, Eq, PartialOrd, Ord, Hash, Drop)]
 pub enum LibName {
     /// The core forms, auxiliary keywords and primitives.
     Core,

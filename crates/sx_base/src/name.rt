@@ -1,12 +1,11 @@
 //! Names: a library, and a number of its own.
 
 ghost use Rattle.std.specs.Cmp.{po};
-ghost use Rattle.std.specs.Hash as fed;
 ghost use Rattle.std.specs.Ordering.{as_partial_cmp};
 ghost use Rattle.std.specs.Prelude.{◌≡◌, ◌+◌, IfOk, OnErr, OnOk, IsTrue, ◌↔◌};
 ghost use Rattle.std.proofs.Common.{refl};
 ghost use Rattle.sx_base.specs.NameOrder.{name_cmp, name_cmp_total, name_ties};
-ghost use Rattle.sx_base.specs.Same.{same_name, same_name_equiv, same_name_per, name_alike};
+ghost use Rattle.sx_base.specs.Same.{same_name, same_name_equiv, same_name_per, name_fed, name_alike};
 
 use crate::library::LibName;
 use crate::memory::Memory;
@@ -73,13 +72,14 @@ impl PartialOrd for Name {
     }
 }
 
-/// The number alone is hashed: names of different libraries with one number are rare.
+/// Both are hashed: each library numbers its names from 0.
 impl Hash for Name {
-    ghost hash_input = { λ n. fed.u64 n.number };
+    ghost hash_input = { name_fed };
 
     ghost respects_eq = { name_alike };
 
     fn hash<H: Hasher>(&self, state: &mut H) {
+        (*self.library).hash(state);
         self.number.hash(state);
     }
 }

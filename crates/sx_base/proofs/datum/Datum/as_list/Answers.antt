@@ -1,7 +1,5 @@
-use Rattle.std.proofs.Common.{◌≡◌, true, false, Some, None, ap, sym, ◌∙◌}
-use Rattle.std.specs.Prelude.{IsTrue}
-use Rattle.sx_base.specs.Datum.{is_nil, proper_elements}
-use Rattle.sx_base.specs.DatumView.{is_proper}
+use Rattle.std.proofs.Common.{◌≡◌, true, false, Some, ap, sym}
+use Rattle.sx_base.specs.Datum.{is_nil}
 use Rattle.sx_base.proofs.Parts.{proper-ended, proper-open}
 use Rattle.sx_base.proofs.datum.Datum.as_list.Goals as goal
 
