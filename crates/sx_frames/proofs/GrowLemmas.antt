@@ -50,20 +50,16 @@ pub grows_adopted : (fs : Scope) (rs : List FrameRow) → Grows fs (adopted fs r
 grows_adopted fs [] = grows_refl fs
 grows_adopted fs (r ∷ rs) = grows_trans fs (with_row fs r.frame (row_in r)) (adopted fs (r ∷ rs)) (grows_row fs r.frame (row_in r)) (grows_adopted (with_row fs r.frame (row_in r)) rs)
 
-frame_more : (fs : Scope) (f g : FrameNo) → rows_at g (fs ++ (f, []) ∷ []) ≡ rows_at g fs ++ []
-frame_more [] f g = by (same_frame g f)
+given_more : (fs gs : Scope) (g : FrameNo) → (rs : List Row) × (rows_at g (fs ++ gs) ≡ rows_at g fs ++ rs)
+given_more [] gs g = (rows_at g gs, refl)
+given_more (e ∷ es) gs g = by (same_frame g e.0) (given_more es gs g)
   where
-    by : (b : Bool) → cond {A = List Row} b [] [] ≡ []
-    by true = refl
-    by false = refl
-frame_more (e ∷ es) f g = by (same_frame g e.0) (frame_more es f g)
-  where
-    by : (b : Bool) → rows_at g (es ++ (f, []) ∷ []) ≡ rows_at g es ++ [] → cond b e.1 (rows_at g (es ++ (f, []) ∷ [])) ≡ cond b e.1 (rows_at g es) ++ []
-    by true k = sym (append-nil e.1)
+    by : (b : Bool) → (rs : List Row) × (rows_at g (es ++ gs) ≡ rows_at g es ++ rs) → (rs : List Row) × (cond b e.1 (rows_at g (es ++ gs)) ≡ cond b e.1 (rows_at g es) ++ rs)
+    by true k = ([], sym (append-nil e.1))
     by false k = k
 
-pub grows_frame : (fs : Scope) (f : FrameNo) → Grows fs (fs ++ (f, []) ∷ [])
-grows_frame fs f = record { more = λ g. ([], frame_more fs f g) }
+pub grows_given : (fs gs : Scope) → Grows fs (fs ++ gs)
+grows_given fs gs = record { more = given_more fs gs }
 
 none_more : (rs ms : List Row) → length (rs ++ ms) ≤ length rs → rs ++ ms ≡ rs
 none_more rs [] h = append-nil rs

@@ -2,7 +2,9 @@ pub mod TableLemmas
 pub mod ScopeLemmas
 pub mod ListedLemmas
 pub mod MemoLemmas
+pub mod GivenLemmas
 pub mod GrowLemmas
 pub mod FrameLaws
+pub mod ApartLaws
 pub mod RenamingLaws
 pub mod ListedLaws

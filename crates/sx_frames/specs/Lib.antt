@@ -1,5 +1,6 @@
 pub mod Rows
 pub mod Scope
+pub mod Given
 pub mod Listed
 pub mod Kept
 pub mod Right

@@ -6,7 +6,7 @@ ghost use Rattle.std.specs.Prelude.{◌≡◌, ◌≤◌, ◌<◌, ◌∷◌, �
 ghost use Rattle.sx_base.specs.Gives.{BareGives};
 ghost use Rattle.sx_frames.specs.Listed.{rows_in, placed, put_place, joined};
 ghost use Rattle.sx_frames.specs.Rows.{Row, row_of};
-ghost use Rattle.sx_frames.specs.Scope.{has_frame, rows_at, label_at, label_by, bound, with_row, row_in, adopted, are_new};
+ghost use Rattle.sx_frames.specs.Scope.{has_frame, rows_at, label_at, bound, with_row, row_in, adopted, are_new};
 
 use crate::key::Key;
 use crate::table::Table;
@@ -22,7 +22,6 @@ use sx_base::name::{FrameNo, Label};
 use sx_base::symbol::Symbol;
 use sx_tree::frame_row::FrameRow;
 use sx_tree::marks::Marks;
-use sx_tree::stamp::Stamp;
 
 /// Frames with their rows, seen as a list of both in the order of making.
 #[derive(Drop)]
@@ -143,24 +142,6 @@ impl FrameMap {
         }
     }
 
-    /// The label that the first stamp gives for which its frame has the symbol and the marks at
-    /// stamping.
-    pub fn label_by(&self, symbol: Symbol, stamps: Vec<Stamp>) -> Result<Option<Label>, Memory>
-        ensures { IfOk result (λ l. l ≡ label_by self.now symbol stamps.items) }
-    {
-        let marks = Marks::new(self.alloc);
-        let mut key = Key { symbol, marks };
-        for stamp in stamps {
-            let Stamp { frame, marks } = stamp;
-            key.marks = marks;
-            if let Some(label) = self.find(&frame, &key) {
-                let label = label.share()?;
-                return Ok(Some(label));
-            }
-        }
-        Ok(None)
-    }
-
     /// Adds a row at the end of its frame's. Nothing else changes, also where it is refused.
     fn add(&mut self, row: &FrameRow) -> Result<(), BareStop>
         ensures ok { OnOk result (self.new ≡ with_row self.old row.now.frame (row_in row.now)) }
@@ -171,18 +152,6 @@ impl FrameMap {
         let marks = row.marks.share(self.alloc)?;
         let label = row.label.share()?;
         self.bind(&row.frame, symbol, marks, label)
-    }
-
-    /// Whether no row is of a frame that is there. It takes no memory.
-    pub fn are_new(&self, rows: &[FrameRow]) -> bool
-        ensures { result ≡ are_new rows.now self.now }
-    {
-        for row in rows {
-            if self.has_frame(&row.frame) {
-                return false;
-            }
-        }
-        true
     }
 
     /// Adds rows of frames that are new, in their order. A refusal changes nothing. Two rows with one
@@ -205,7 +174,8 @@ impl FrameMap {
         Ok(())
     }
 
-    fn count(&self) -> usize
+    /// How many frames there are.
+    pub(crate) fn count(&self) -> usize
         ensures { result ≡ length self.now }
     {
         self.frames.len()

@@ -5,13 +5,16 @@ ghost use Rattle.std.specs.Prelude.{◌≡◌, ◌∷◌, ◌++◌, [], true, fa
 ghost use Rattle.sx_base.specs.Gives.{BareGives};
 ghost use Rattle.sx_frames.specs.Listed.{rows_in};
 ghost use Rattle.sx_frames.specs.Right.{sizes_before, same_sizes};
+ghost use Rattle.sx_frames.specs.Given.{are_apart};
 ghost use Rattle.sx_frames.specs.Scope.{has_frame, label_by, bound, adopted, are_new};
 
-use crate::frames::FrameMap;
+use crate::given::GivenFrames;
+use crate::joined::JoinedFrames;
 use crate::key::Key;
 use crate::memo::{Answer, Memo};
 use std::alloc::Global;
 use std::marker::Model;
+use std::rc::Rc;
 use sx_base::fault::BareStop;
 use sx_base::items::Items;
 use sx_base::library::LibName;
@@ -26,7 +29,7 @@ use sx_tree::stamp::Stamp;
 #[derive(Drop)]
 pub struct KeptFrames {
     alloc: Global,
-    frames: FrameMap,
+    frames: JoinedFrames,
     memo: Memo,
 }
 
@@ -59,7 +62,7 @@ fn share_label(label: Option<&Label>) -> Result<Option<Label>, Memory>
 /// The label that the stamps find, and what it depends on.
 fn look(
     alloc: Global,
-    frames: &FrameMap,
+    frames: &JoinedFrames,
     symbol: Symbol,
     stamps: &[Stamp],
 ) -> Result<Answer, Memory>
@@ -84,7 +87,7 @@ fn look(
 }
 
 /// Whether the frames of the first stamps still have these sizes.
-fn have_sizes(frames: &FrameMap, stamps: &[Stamp], sizes: &[usize]) -> bool
+fn have_sizes(frames: &JoinedFrames, stamps: &[Stamp], sizes: &[usize]) -> bool
     ensures { result ≡ same_sizes frames.now stamps.now sizes.now }
 {
     let mut stamps = stamps;
@@ -111,7 +114,7 @@ impl KeptFrames {
     {
         KeptFrames {
             alloc,
-            frames: FrameMap::new(alloc),
+            frames: JoinedFrames::new(alloc),
             memo: Memo::new(alloc),
         }
     }
@@ -164,9 +167,19 @@ impl KeptFrames {
         self.frames.adopt(rows)
     }
 
+    /// Adds the frames of another library, whose tables are shared. It is refused where one of them is
+    /// there, or frames of that library were given before. A refusal changes nothing.
+    pub fn give(&mut self, given: &GivenFrames) -> Result<(), Memory>
+        ensures ok { OnOk result (self.new ≡ self.old ++ given.now) }
+        ensures apart { OnOk result (are_apart given.now self.old ≡ true) }
+        ensures err { OnErr result (self.new ≡ self.old) }
+    {
+        self.frames.give(given)
+    }
+
     /// The rows of the library's frames, by frame and then in the order of binding.
-    pub fn rows(&self, library: &LibName) -> Result<Vec<FrameRow>, Memory>
-        ensures { IfOk result (λ rs. rs.items ≡ rows_in library.now self.now) }
+    pub fn rows(&self, library: &Rc<LibName>) -> Result<Vec<FrameRow>, Memory>
+        ensures { IfOk result (λ rs. rs.items ≡ rows_in library.now.value self.now) }
     {
         self.frames.rows(library)
     }

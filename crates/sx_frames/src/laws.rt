@@ -1,9 +1,10 @@
 //! Laws of frames. Each function here computes nothing: what it promises is the law.
 
-ghost use Rattle.std.specs.Prelude.{◌≡◌, ◌≢◌, ℕ, List, [], ◌∷◌, ◌++◌, map, filter};
+ghost use Rattle.std.specs.Prelude.{◌≡◌, ◌≢◌, ℕ, true, List, [], ◌∷◌, ◌++◌, map, filter};
 ghost use Rattle.sx_base.specs.declared.name.FrameNo.{FrameNo};
 ghost use Rattle.sx_tree.specs.declared.frame_row.FrameRow.{FrameRow};
 ghost use Rattle.sx_base.specs.declared.library.LibName.{LibName};
+ghost use Rattle.sx_frames.specs.Given.{are_apart};
 ghost use Rattle.sx_frames.specs.Listed.{rows_from, rows_in, AreOrdered};
 ghost use Rattle.sx_frames.specs.Rows.{Row};
 ghost use Rattle.sx_frames.specs.Scope.{Scope, same_frame, rows_at, with_row, row_in, adopted};
@@ -18,6 +19,11 @@ pub fn a_bind_is_a_row_more()
 pub fn adopted_rows_keep_their_order()
     ensures { (fs : Scope) (f : FrameNo) (rs : List FrameRow) →
         rows_at f (adopted fs rs) ≡ rows_at f fs ++ map row_in (filter (λ r. same_frame f r.frame) rs) }
+{}
+
+/// To give the frames of a library, of which none is there, is to adopt its rows.
+pub fn given_frames_are_adopted()
+    ensures { (fs : Scope) (rs : List FrameRow) → are_apart (adopted [] rs) fs ≡ true → fs ++ adopted [] rs ≡ adopted fs rs }
 {}
 
 /// The rows of a library are those of its frames, each frame's in the order of binding, and the

@@ -2,6 +2,7 @@
 
 ghost use Rattle.std.specs.Prelude.{◌≡◌, ◌∷◌, ◌++◌, [], true, false, IfOk, OnOk, OnErr};
 ghost use Rattle.sx_base.specs.Gives.{BareGives};
+ghost use Rattle.sx_frames.specs.Given.{are_apart};
 ghost use Rattle.sx_frames.specs.Listed.{rows_in};
 ghost use Rattle.sx_frames.specs.Scope.{has_frame, bound, adopted, are_new};
 ghost use Rattle.sx_scope.specs.Same.{same_binding};
@@ -10,10 +11,12 @@ ghost use Rattle.sx_scope.specs.Stands.{row_for, stands, is_for};
 use crate::same::symbol_of;
 use std::alloc::Global;
 use std::marker::Model;
+use std::rc::Rc;
 use sx_base::fault::BareStop;
 use sx_base::library::LibName;
 use sx_base::memory::Memory;
 use sx_base::name::{FrameNo, Label};
+use sx_frames::given::GivenFrames;
 use sx_frames::kept::KeptFrames;
 use sx_syntax::syn::Syn;
 use sx_tree::frame_row::FrameRow;
@@ -81,6 +84,17 @@ impl Frames {
         self.frames.adopt(rows)
     }
 
+    /// Adds the frames of another library, whose tables are shared. They come before all that are made in
+    /// any other way: behind such, or where that library's came before, they are refused as want of memory
+    /// is. A refusal changes nothing.
+    pub fn give(&mut self, given: &GivenFrames) -> Result<(), Memory>
+        ensures ok { OnOk result (self.new ≡ self.old ++ given.now) }
+        ensures apart { OnOk result (are_apart given.now self.old ≡ true) }
+        ensures err { OnErr result (self.new ≡ self.old) }
+    {
+        self.frames.give(given)
+    }
+
     /// Binds a leaf in a frame. It is `Duplicate` exactly where the frame has a row with the leaf's
     /// symbol and marks; a frame that isn't there is added. A refusal changes nothing.
     pub fn bind(&mut self, frame: FrameNo, id: &Syn, label: Label) -> Result<(), BareStop>
@@ -141,8 +155,8 @@ impl Frames {
     }
 
     /// The rows of the library's frames, by frame and then in the order of binding.
-    pub fn rows(&self, library: &LibName) -> Result<Vec<FrameRow>, Memory>
-        ensures { IfOk result (λ rs. rs.items ≡ rows_in library.now self.now) }
+    pub fn rows(&self, library: &Rc<LibName>) -> Result<Vec<FrameRow>, Memory>
+        ensures { IfOk result (λ rs. rs.items ≡ rows_in library.now.value self.now) }
     {
         self.frames.rows(library)
     }

@@ -32,14 +32,14 @@ fn number_of(label: Option<Label>) -> u64 {
 }
 
 /// Whether a leaf stands for the label of this number, with and without the memo.
-fn stands_for(frames: &mut Frames, id: &Syn, expected: u64) -> Result<bool, Memory> {
+pub(crate) fn stands_for(frames: &mut Frames, id: &Syn, expected: u64) -> Result<bool, Memory> {
     let kept = number_of(frames.stands_kept(id)?);
     let plain = number_of(frames.stands(id)?);
     Ok(kept == expected && plain == expected)
 }
 
 /// Whether a bind of a leaf in a frame ends so.
-fn bound(
+pub(crate) fn bound(
     library: &Rc<LibName>,
     frames: &mut Frames,
     id: &Syn,
@@ -252,7 +252,7 @@ fn remembered_answers_never_show(rt: HostRuntime) -> Result<(), Fail> {
 }
 
 /// A frame, a symbol and its label.
-type Listed = (u64, &'static str, u64);
+pub(crate) type Listed = (u64, &'static str, u64);
 
 fn bind_row(
     alloc: Global,
@@ -266,13 +266,12 @@ fn bind_row(
 
 fn bind_all(
     alloc: Global,
-    library: LibName,
+    library: &Rc<LibName>,
     frames: &mut Frames,
     rows: &[Listed],
 ) -> Result<bool, Memory> {
-    let library = Rc::new(alloc, library)?;
     for row in rows {
-        if !bind_row(alloc, &library, frames, row)? {
+        if !bind_row(alloc, library, frames, row)? {
             return Ok(false);
         }
     }
@@ -293,8 +292,12 @@ fn are_listed(rows: &[FrameRow], listed: &[Listed]) -> bool {
     rows.len() == listed.len()
 }
 
-fn has_rows(frames: &Frames, listed: &[Listed]) -> Result<bool, Memory> {
-    let rows = frames.rows(&LibName::Program)?;
+pub(crate) fn has_rows(
+    library: &Rc<LibName>,
+    frames: &Frames,
+    listed: &[Listed],
+) -> Result<bool, Memory> {
+    let rows = frames.rows(library)?;
     Ok(are_listed(rows.as_slice(), listed))
 }
 
@@ -304,13 +307,15 @@ fn come_as_in(
     rows: &[Listed],
     listed: &[Listed],
 ) -> Result<bool, Memory> {
-    if !bind_all(alloc, LibName::Program, frames, rows)? {
+    let program = Rc::new(alloc, LibName::Program)?;
+    let prelude = Rc::new(alloc, LibName::Prelude)?;
+    if !bind_all(alloc, &program, frames, rows)? {
         return Ok(false);
     }
-    if !bind_all(alloc, LibName::Prelude, frames, rows)? {
+    if !bind_all(alloc, &prelude, frames, rows)? {
         return Ok(false);
     }
-    has_rows(frames, listed)
+    has_rows(&program, frames, listed)
 }
 
 /// Whether rows that are bound for two libraries are listed so for one of them.

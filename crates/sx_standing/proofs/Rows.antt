@@ -1,10 +1,9 @@
 -- The row of a binder: what a frame answers is what the definition gives, at the binder's place.
-use Rattle.std.proofs.Common.{◌≡◌, Result, Err, ap, ◌∙◌}
+use Rattle.std.proofs.Common.{Result, Err, ap, ◌∙◌}
 use Rattle.sx_base.specs.Gives.{Stops, BareStops}
 use Rattle.sx_base.specs.declared.fault.Bare.{Bare}
 use Rattle.sx_base.specs.declared.fault.BareStop.{BareStop}
 use Rattle.sx_base.specs.declared.fault.BareStop.TheVariants as bare_stops
-use Rattle.sx_base.specs.declared.fault.Fault.{Fault}
 use Rattle.sx_base.specs.declared.fault.Stop.{Stop}
 use Rattle.sx_base.specs.declared.fault.Stop.TheVariants as stops
 use Rattle.sx_base.specs.declared.span.Span.{Span}

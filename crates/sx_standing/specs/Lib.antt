@@ -1,5 +1,7 @@
 pub mod State
 pub mod Standing
+pub mod Known
+pub mod Ready
 pub mod Binders
 pub mod Start
 pub mod Own

@@ -7,16 +7,15 @@ ghost use Rattle.sx_standing.specs.Start.{second_name, first_frame, import_row, 
 ghost use Rattle.sx_standing.specs.State.{AreMade};
 
 use crate::expansion::Expansion;
+use crate::known::KnownBindings;
+use crate::ready::ReadyRecord;
 use std::alloc::Global;
 use std::rc::Rc;
 use sx_base::library::LibName;
 use sx_base::memory::Memory;
 use sx_base::name::{FrameNo, Label, Name, Names};
 use sx_base::symbol::Symbol;
-use sx_core::binding::Binding;
-use sx_core::bindings::Bindings;
 use sx_core::labels::Labels;
-use sx_core::record::LibRecord;
 use sx_scope::scope::Frames;
 use sx_tree::frame_row::FrameRow;
 use sx_tree::marks::Marks;
@@ -24,7 +23,7 @@ use sx_tree::marks::Marks;
 /// At most so many uses of keywords are expanded in one library.
 const MOST_USES: u32 = 1_000_000;
 
-fn record_at(records: &[LibRecord], place: usize) -> Option<&LibRecord>
+fn record_at(records: &[ReadyRecord], place: usize) -> Option<&ReadyRecord>
     ensures { option_copied result ≡ slice_get records.now place }
 {
     if place < records.len() {
@@ -34,113 +33,59 @@ fn record_at(records: &[LibRecord], place: usize) -> Option<&LibRecord>
     }
 }
 
-/// Adds what another library binds. A label that is bound already, or that the library itself has named, is
-/// refused as want of memory is.
-#[tactic(auto, using(crate::proofs::Made::made_with, crate::proofs::Made::made_elsewhere))]
-fn add_elsewhere(
-    library: &Rc<LibName>,
-    bindings: &mut Bindings,
-    label: &Label,
-    binding: &Binding,
+/// Gives what a record of another library holds.
+fn give(
+    library: &LibName,
+    frames: &mut Frames,
+    bindings: &mut KnownBindings,
+    one: &ReadyRecord,
 ) -> Result<(), Memory>
-    requires { AreMade (second_name library.now.value) bindings.old }
-    ensures all { OnOk result (bindings.new ≡ bindings.old ++ (label.now, binding.now) ∷ []) }
-    ensures made { OnOk result (AreMade (second_name library.now.value) bindings.new) }
+    requires { AreMade (second_name library.now) bindings.old }
+    ensures rows { OnOk result (frames.new ≡ adopted frames.old one.now.frames) }
+    ensures bindings { OnOk result (bindings.new ≡ bindings.old ++ one.now.bindings) }
+    ensures made { OnOk result (AreMade (second_name library.now) bindings.new) }
 {
-    if *label.0.library == **library {
+    if !one.bindings.is_of_other(library) {
         return Err(Memory);
     }
-    if bindings.get(label).is_some() {
-        return Err(Memory);
-    }
-    let label = label.share()?;
-    let binding = binding.share()?;
-    bindings.add(label, binding)
+    frames.give(&one.frames)?;
+    bindings.give(&one.bindings)
 }
 
-fn add_bindings(
-    library: &Rc<LibName>,
-    bindings: &mut Bindings,
-    more: &[(Label, Binding)],
+fn give_in(
+    library: &LibName,
+    frames: &mut Frames,
+    bindings: &mut KnownBindings,
+    one: Option<&ReadyRecord>,
 ) -> Result<(), Memory>
-    requires { AreMade (second_name library.now.value) bindings.old }
-    ensures all { OnOk result (bindings.new ≡ bindings.old ++ more.now) }
-    ensures made { OnOk result (AreMade (second_name library.now.value) bindings.new) }
-{
-    for (label, binding) in more {
-        add_elsewhere(library, bindings, label, binding)?;
-    }
-    Ok(())
-}
-
-fn add_bindings_in(
-    library: &Rc<LibName>,
-    bindings: &mut Bindings,
-    one: Option<&LibRecord>,
-) -> Result<(), Memory>
-    requires { AreMade (second_name library.now.value) bindings.old }
-    ensures all { OnOk result (bindings.new ≡ bindings.old ++ bindings_in (option_copied one.entry)) }
-    ensures made { OnOk result (AreMade (second_name library.now.value) bindings.new) }
+    requires { AreMade (second_name library.now) bindings.old }
+    ensures rows { OnOk result (frames.new ≡ adopted frames.old (rows_in_record (option_copied one.entry))) }
+    ensures bindings { OnOk result (bindings.new ≡ bindings.old ++ bindings_in (option_copied one.entry)) }
+    ensures made { OnOk result (AreMade (second_name library.now) bindings.new) }
 {
     match one {
         None => Ok(()),
-        Some(one) => add_bindings(library, bindings, one.bindings.as_slice()),
+        Some(one) => give(library, frames, bindings, one),
     }
 }
 
-/// What the records at these places bind.
-fn chosen_bindings(
-    alloc: Global,
-    library: &Rc<LibName>,
-    records: &[LibRecord],
+/// Gives what the records at these places hold.
+fn give_all(
+    library: &LibName,
+    frames: &mut Frames,
+    bindings: &mut KnownBindings,
+    records: &[ReadyRecord],
     chosen: &[usize],
-) -> Result<Bindings, Memory>
-    ensures all { IfOk result (λ b. b ≡ bindings_of (records_at records.now chosen.now)) }
-    ensures made { IfOk result (λ b. AreMade (second_name library.now.value) b) }
+) -> Result<(), Memory>
+    requires { AreMade (second_name library.now) bindings.old }
+    ensures rows { OnOk result (frames.new ≡ adopted frames.old (rows_of (records_at records.now chosen.now))) }
+    ensures bindings { OnOk result (bindings.new ≡ bindings.old ++ bindings_of (records_at records.now chosen.now)) }
+    ensures made { OnOk result (AreMade (second_name library.now) bindings.new) }
 {
-    let mut bindings = Bindings::new(alloc);
     for place in chosen {
-        add_bindings_in(library, &mut bindings, record_at(records, *place))?;
-    }
-    Ok(bindings)
-}
-
-fn add_rows(alloc: Global, rows: &mut Vec<FrameRow>, more: &[FrameRow]) -> Result<(), Memory>
-    ensures { OnOk result (rows.new.items ≡ rows.old.items ++ more.now) }
-{
-    for row in more {
-        let row = row.share(alloc)?;
-        rows.push(row)?;
+        give_in(library, frames, bindings, record_at(records, *place))?;
     }
     Ok(())
-}
-
-fn add_rows_in(
-    alloc: Global,
-    rows: &mut Vec<FrameRow>,
-    one: Option<&LibRecord>,
-) -> Result<(), Memory>
-    ensures { OnOk result (rows.new.items ≡ rows.old.items ++ rows_in_record (option_copied one.entry)) }
-{
-    match one {
-        None => Ok(()),
-        Some(one) => add_rows(alloc, rows, one.frames.as_slice()),
-    }
-}
-
-/// The rows of the records at these places.
-fn chosen_rows(
-    alloc: Global,
-    records: &[LibRecord],
-    chosen: &[usize],
-) -> Result<Vec<FrameRow>, Memory>
-    ensures { IfOk result (λ rs. rs.items ≡ rows_of (records_at records.now chosen.now)) }
-{
-    let mut rows = Vec::new(alloc);
-    for place in chosen {
-        add_rows_in(alloc, &mut rows, record_at(records, *place))?;
-    }
-    Ok(rows)
 }
 
 /// The row of an imported name in the library's frame.
@@ -163,19 +108,35 @@ fn import_row(
     })
 }
 
-fn add_imports(
+fn import_rows(
     alloc: Global,
     frame: &FrameNo,
-    rows: &mut Vec<FrameRow>,
     imports: &[(Symbol, Label)],
-) -> Result<(), Memory>
-    ensures { OnOk result (rows.new.items ≡ rows.old.items ++ map (import_row frame.now) imports.now) }
+) -> Result<Vec<FrameRow>, Memory>
+    ensures { IfOk result (λ rs. rs.items ≡ map (import_row frame.now) imports.now) }
 {
+    let mut rows = Vec::new(alloc);
     for (symbol, label) in imports {
         let row = import_row(alloc, frame, symbol, label)?;
         rows.push(row)?;
     }
-    Ok(())
+    Ok(rows)
+}
+
+/// Adds the imported names in a frame that is new.
+fn adopt_imports(
+    alloc: Global,
+    frames: &mut Frames,
+    frame: &FrameNo,
+    imports: &[(Symbol, Label)],
+) -> Result<(), Memory>
+    ensures { OnOk result (frames.new ≡ adopted frames.old (map (import_row frame.now) imports.now)) }
+{
+    if frames.has_frame(frame) {
+        return Err(Memory);
+    }
+    let rows = import_rows(alloc, frame, imports)?;
+    frames.adopt(rows.as_slice())
 }
 
 /// The library's frame.
@@ -196,24 +157,15 @@ fn names_of(library: &Rc<LibName>) -> Result<Names, Memory>
     Ok(names)
 }
 
-fn frames_of(alloc: Global, rows: &[FrameRow]) -> Result<Frames, Memory>
-    ensures { IfOk result (λ f. f ≡ adopted [] rows.now) }
-{
-    let mut frames = Frames::new(alloc);
-    frames.adopt(rows)?;
-    Ok(frames)
-}
-
 impl Expansion {
     /// The state that the expansion of a library begins with. The records before the library stand among
-    /// the earlier ones at the places chosen, and the imports are names with their labels. Records of which
-    /// two bind one label, or have rows of one frame for one symbol with marks, and records that bind labels
-    /// which the library itself names, are refused as want of memory is.
-    #[tactic(auto, unfolding(crate::specs::Start::started))]
+    /// the earlier ones at the places chosen, and the imports are names with their labels. Two records of one
+    /// library, one of the library itself, and two imports of one name are refused as want of memory is.
+    #[tactic(auto, unfolding(crate::specs::Start::started), using(crate::proofs::Given::adopted_append))]
     pub fn start(
         alloc: Global,
         library: LibName,
-        records: &[LibRecord],
+        records: &[ReadyRecord],
         chosen: &[usize],
         imports: &[(Symbol, Label)],
     ) -> Result<Expansion, Memory>
@@ -222,10 +174,10 @@ impl Expansion {
         let library = Rc::new(alloc, library)?;
         let names = names_of(&library)?;
         let frame = frame_of(&library)?;
-        let bindings = chosen_bindings(alloc, &library, records, chosen)?;
-        let mut rows = chosen_rows(alloc, records, chosen)?;
-        add_imports(alloc, &frame, &mut rows, imports)?;
-        let frames = frames_of(alloc, rows.as_slice())?;
+        let mut frames = Frames::new(alloc);
+        let mut bindings = KnownBindings::new(alloc);
+        give_all(&library, &mut frames, &mut bindings, records, chosen)?;
+        adopt_imports(alloc, &mut frames, &frame, imports)?;
         Ok(Expansion {
             alloc,
             library,

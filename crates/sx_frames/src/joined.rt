@@ -1,0 +1,227 @@
+//! The frames of a library behind those of the libraries that it needs.
+
+ghost use Rattle.std.specs.Option.{option_copied};
+ghost use Rattle.std.specs.Prelude.{◌≡◌, ◌∷◌, ◌++◌, [], length, true, false, IfOk, OnOk, OnErr};
+ghost use Rattle.sx_base.specs.Gives.{BareGives};
+ghost use Rattle.sx_frames.specs.Given.{are_apart, are_own, has_part, part_of};
+ghost use Rattle.sx_frames.specs.Listed.{rows_in};
+ghost use Rattle.sx_frames.specs.Scope.{has_frame, rows_at, label_at, label_by, bound, adopted, are_new};
+
+use crate::frames::FrameMap;
+use crate::given::GivenFrames;
+use crate::key::Key;
+use indexmap::IndexMap;
+use std::alloc::Global;
+use std::marker::Model;
+use std::rc::Rc;
+use sx_base::fault::BareStop;
+use sx_base::library::LibName;
+use sx_base::memory::Memory;
+use sx_base::name::{FrameNo, Label};
+use sx_base::symbol::Symbol;
+use sx_tree::frame_row::FrameRow;
+use sx_tree::marks::Marks;
+use sx_tree::stamp::Stamp;
+
+type Given = IndexMap<Rc<LibName>, Rc<FrameMap>>;
+
+/// The frames of libraries that are complete, in the order of coming, and then frames that may grow. A frame
+/// is looked for where its library is, so a look-up costs the same, however many libraries there are.
+#[derive(Drop)]
+pub struct JoinedFrames {
+    alloc: Global,
+    given: Given,
+    own: FrameMap,
+}
+
+impl Model for JoinedFrames {
+    ghost use Rattle.std.specs.Prelude.{◌++◌};
+    ghost use Rattle.sx_frames.specs.Scope.{Scope, scope_code};
+    ghost use Rattle.sx_frames.specs.Given.{flat, ArePlaced};
+
+    ghost Value = { Scope };
+
+    ghost coded = { scope_code };
+
+    ghost view = { λ a. flat a.given.entries ++ a.own };
+
+    ghost invariant = { λ a. ArePlaced a.given.entries a.own };
+}
+
+/// The frames among which those of a library are.
+fn part<'a>(given: &'a Given, own: &'a FrameMap, library: &Rc<LibName>) -> &'a FrameMap
+    ensures { result.now ≡ part_of given.now.entries own.now library.now.value }
+{
+    match given.get(library) {
+        Some(part) => part,
+        None => own,
+    }
+}
+
+/// The frames among which a frame is.
+fn part_of_frame<'a>(given: &'a Given, own: &'a FrameMap, frame: &FrameNo) -> &'a FrameMap
+    ensures { result.now ≡ part_of given.now.entries own.now frame.now.0.library }
+{
+    part(given, own, &frame.0.library)
+}
+
+/// Whether frames of the library were given.
+fn is_given(given: &Given, library: &Rc<LibName>) -> bool
+    ensures { result ≡ has_part library.now.value given.now.entries }
+{
+    given.contains_key(library)
+}
+
+/// Whether the frame is of a library that was given.
+fn is_of_given(given: &Given, frame: &FrameNo) -> bool
+    ensures { result ≡ has_part frame.now.0.library given.now.entries }
+{
+    is_given(given, &frame.0.library)
+}
+
+/// Whether no row is of a library that was given.
+fn are_own(given: &Given, rows: &[FrameRow]) -> bool
+    ensures { result ≡ are_own rows.now given.now.entries }
+{
+    for row in rows {
+        if is_of_given(given, &row.frame) {
+            return false;
+        }
+    }
+    true
+}
+
+impl JoinedFrames {
+    /// No frames. It takes no memory.
+    pub fn new(alloc: Global) -> JoinedFrames
+        ensures { result ≡ [] }
+    {
+        JoinedFrames {
+            alloc,
+            given: IndexMap::new(alloc),
+            own: FrameMap::new(alloc),
+        }
+    }
+
+    /// Whether the frame is there. It takes no memory.
+    pub fn has_frame(&self, frame: &FrameNo) -> bool
+        ensures { result ≡ has_frame frame.now self.now }
+    {
+        part_of_frame(&self.given, &self.own, frame).has_frame(frame)
+    }
+
+    /// How many rows the frame has. It takes no memory.
+    pub fn size_at(&self, frame: &FrameNo) -> usize
+        ensures { result ≡ length (rows_at frame.now self.now) }
+    {
+        part_of_frame(&self.given, &self.own, frame).size_at(frame)
+    }
+
+    /// The label that the frame has for a symbol and marks. It takes no memory.
+    pub fn find(&self, frame: &FrameNo, key: &Key) -> Option<&Label>
+        ensures { option_copied result ≡ label_at self.now frame.now key.now.symbol key.now.marks }
+    {
+        part_of_frame(&self.given, &self.own, frame).find(frame, key)
+    }
+
+    /// Adds a frame without rows. A frame of a library that was given is refused as want of memory is. A
+    /// refusal changes nothing.
+    pub fn new_frame(&mut self, frame: FrameNo) -> Result<(), Memory>
+        requires { has_frame frame self.old ≡ false }
+        ensures ok { OnOk result (self.new ≡ self.old ++ (frame, []) ∷ []) }
+        ensures err { OnErr result (self.new ≡ self.old) }
+    {
+        if is_of_given(&self.given, &frame) {
+            return Err(Memory);
+        }
+        self.own.new_frame(frame)
+    }
+
+    /// Binds a symbol with marks to a label. It is `Duplicate` exactly where the frame has a row of
+    /// the same symbol and marks. A frame that isn't there is added. A frame of a library that was given is
+    /// complete: it is refused as want of memory is. A refusal changes nothing.
+    pub fn bind(
+        &mut self,
+        frame: &FrameNo,
+        symbol: Symbol,
+        marks: Marks,
+        label: Label,
+    ) -> Result<(), BareStop>
+        ensures row { BareGives (λ _. self.new) result (bound self.old frame.now (record { symbol = symbol; marks = marks; label = label })) }
+        ensures err { OnErr result (self.new ≡ self.old) }
+    {
+        if is_of_given(&self.given, frame) {
+            return Err(BareStop::Memory);
+        }
+        self.own.bind(frame, symbol, marks, label)
+    }
+
+    /// The label that the first stamp gives for which its frame has the symbol and the marks at
+    /// stamping.
+    pub fn label_by(&self, symbol: Symbol, stamps: Vec<Stamp>) -> Result<Option<Label>, Memory>
+        ensures { IfOk result (λ l. l ≡ label_by self.now symbol stamps.items) }
+    {
+        let marks = Marks::new(self.alloc);
+        let mut key = Key { symbol, marks };
+        for stamp in stamps {
+            let Stamp { frame, marks } = stamp;
+            key.marks = marks;
+            if let Some(label) = self.find(&frame, &key) {
+                let label = label.share()?;
+                return Ok(Some(label));
+            }
+        }
+        Ok(None)
+    }
+
+    /// Whether no row is of a frame that is there. It takes no memory.
+    pub fn are_new(&self, rows: &[FrameRow]) -> bool
+        ensures { result ≡ are_new rows.now self.now }
+    {
+        for row in rows {
+            if self.has_frame(&row.frame) {
+                return false;
+            }
+        }
+        true
+    }
+
+    /// Adds rows of frames that are new, in their order. A refusal changes nothing. Rows of a library that
+    /// was given are refused as want of memory is, and so are two rows with one frame, symbol and marks.
+    pub fn adopt(&mut self, rows: &[FrameRow]) -> Result<(), Memory>
+        requires { are_new rows.now self.old ≡ true }
+        ensures ok { OnOk result (self.new ≡ adopted self.old rows.now) }
+        ensures err { OnErr result (self.new ≡ self.old) }
+    {
+        if !are_own(&self.given, rows) {
+            return Err(Memory);
+        }
+        self.own.adopt(rows)
+    }
+
+    /// Adds the frames of another library, whose tables are shared. They come before those that may grow:
+    /// where there are such, or the library was given before, it is refused as want of memory is. A refusal
+    /// changes nothing.
+    pub fn give(&mut self, given: &GivenFrames) -> Result<(), Memory>
+        ensures ok { OnOk result (self.new ≡ self.old ++ given.now) }
+        ensures apart { OnOk result (are_apart given.now self.old ≡ true) }
+        ensures err { OnErr result (self.new ≡ self.old) }
+    {
+        if self.own.count() > 0 || is_given(&self.given, &given.library) {
+            return Err(Memory);
+        }
+        let library = given.library.clone()?;
+        let frames = given.frames.clone()?;
+        match self.given.insert(library, frames) {
+            Ok(_) => Ok(()),
+            Err(_) => Err(Memory),
+        }
+    }
+
+    /// The rows of the library's frames, by frame and then in the order of binding.
+    pub fn rows(&self, library: &Rc<LibName>) -> Result<Vec<FrameRow>, Memory>
+        ensures { IfOk result (λ rs. rs.items ≡ rows_in library.now.value self.now) }
+    {
+        part(&self.given, &self.own, library).rows(library)
+    }
+}
