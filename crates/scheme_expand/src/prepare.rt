@@ -18,13 +18,13 @@ use sx_base::items::Items;
 use sx_base::memory::Memory;
 use sx_base::steps::Steps;
 use sx_base::symbol::Symbol;
-use sx_library::library::share_library;
 use sx_library::loaded::{first_fault, program_text};
 use sx_load::found::{Found, Loading, Source};
 use sx_load::halt::Halt;
 use sx_load::load::load;
 use sx_outside::Files;
 use sx_report::report::{Fate, Told, report_text};
+use sx_standing::share::share_library;
 use sx_words::job::Job;
 
 /// What is to be written of a program without fault.

@@ -25,6 +25,7 @@ use sx_base::symbol::Symbol;
 use sx_core::code::Core;
 use sx_core::record::LibRecord;
 use sx_standing::expansion::Expansion;
+use sx_standing::ready::ReadyRecord;
 use sx_syntax::syn::Syn;
 
 /// The state of one library's expansion, and whether a call was refused. After a refusal it is of no use.
@@ -50,13 +51,13 @@ impl Model for Expander {
 
 impl Expander {
     /// An expander for a library. The records before it stand among the earlier ones at the places chosen;
-    /// the imports are names with their labels. Records that bind one label twice, or a label or frame of
-    /// this library, are refused as want of memory is.
+    /// the imports are names with their labels. Two records of one library, one of this library, and two
+    /// imports of one name are refused as want of memory is.
     pub fn new(
         alloc: Global,
         name: LibName,
         path: Symbol,
-        earlier: &[LibRecord],
+        earlier: &[ReadyRecord],
         chosen: &[usize],
         imports: &[(Symbol, Label)],
     ) -> Result<Expander, Stop>
@@ -145,7 +146,7 @@ fn begun(
     alloc: Global,
     name: LibName,
     path: Symbol,
-    earlier: &[LibRecord],
+    earlier: &[ReadyRecord],
     chosen: &[usize],
     imports: &[(Symbol, Label)],
 ) -> Result<Expander, Memory>

@@ -19,4 +19,5 @@ pub mod body;
 pub mod expander;
 pub mod expression;
 pub mod inside;
+pub mod libraries;
 pub mod top;

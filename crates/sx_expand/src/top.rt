@@ -4,11 +4,12 @@ ghost use Rattle.std.specs.Prelude.{◌≡◌, [], IfOk, OnOk};
 ghost use Rattle.sx_base.specs.Act.{GivesAfter};
 ghost use Rattle.sx_base.specs.Gives.{Gives};
 ghost use Rattle.sx_expand.specs.Expression.{inside};
-ghost use Rattle.sx_expand.specs.Top.{export, all_exports, exports, has_library, with_label_of, with_labels_of, code_of, with_lines_of, refs_of, record_of, record_in, kind_of, body_at, first_pass, finished, top};
+ghost use Rattle.sx_expand.specs.Top.{export, all_exports, exports, with_label_of, with_labels_of, code_of, with_lines_of, refs_of, record_of, record_in, kind_of, body_at, first_pass, finished, top};
 
 use crate::body::{finish_all, splice};
 use crate::expression::stamp_all;
 use crate::inside::ROOM;
+use crate::libraries::Libraries;
 use std::alloc::Global;
 use std::sync::ledger::Ledger;
 use sx_base::fault::{FaultKind, Stop};
@@ -25,6 +26,7 @@ use sx_core::references::references;
 use sx_heads::kept::KeptHeads;
 use sx_heads::taken::{BodyAt, BodyKind, Taken};
 use sx_standing::expansion::Expansion;
+use sx_standing::share::share_library;
 use sx_syntax::syn::Syn;
 
 /// What a body of a library or program has besides its forms.
@@ -88,47 +90,10 @@ fn exports<N: Ledger>(
     Ok(done)
 }
 
-fn share_symbols(alloc: Global, symbols: &[Symbol]) -> Result<Items<Symbol>, Memory>
-    ensures { IfOk result (λ xs. xs ≡ symbols.now) }
-{
-    let mut all = Items::new(alloc);
-    for symbol in symbols {
-        let symbol = symbol.share()?;
-        all.push(symbol)?;
-    }
-    Ok(all)
-}
-
-fn share_library(alloc: Global, library: &LibName) -> Result<LibName, Memory>
-    ensures { IfOk result (λ l. l ≡ library.now) }
-{
-    match library {
-        LibName::Core => Ok(LibName::Core),
-        LibName::Derived => Ok(LibName::Derived),
-        LibName::Prelude => Ok(LibName::Prelude),
-        LibName::Program => Ok(LibName::Program),
-        LibName::User(parts) => {
-            let parts = share_symbols(alloc, parts.as_slice())?;
-            Ok(LibName::User(parts))
-        }
-    }
-}
-
-fn has_library(libraries: &[LibName], library: &LibName) -> bool
-    ensures { result ≡ has_library libraries.now library.now }
-{
-    for other in libraries {
-        if *library == *other {
-            return true;
-        }
-    }
-    false
-}
-
 fn add_label(
     alloc: Global,
     own: &LibName,
-    done: &mut Items<LibName>,
+    done: &mut Libraries,
     label: &Label,
 ) -> Result<(), Memory>
     ensures { OnOk result (done.new ≡ with_label_of own.now done.old label.now) }
@@ -136,17 +101,13 @@ fn add_label(
     if *label.0.library == *own {
         return Ok(());
     }
-    if has_library(done.as_slice(), &label.0.library) {
-        return Ok(());
-    }
-    let library = share_library(alloc, &label.0.library)?;
-    done.push(library)
+    done.add(alloc, &label.0.library)
 }
 
 fn add_labels(
     alloc: Global,
     own: &LibName,
-    done: &mut Items<LibName>,
+    done: &mut Libraries,
     labels: &[Label],
 ) -> Result<(), Memory>
     ensures { OnOk result (done.new ≡ with_labels_of own.now done.old labels.now) }
@@ -170,12 +131,12 @@ fn code_of(line: &Line) -> &Core
 fn refs_of(alloc: Global, own: &LibName, lines: &[Line]) -> Result<Items<LibName>, Memory>
     ensures { IfOk result (λ ks. ks ≡ refs_of own.now lines.now) }
 {
-    let mut done = Items::new(alloc);
+    let mut done = Libraries::new(alloc);
     for line in lines {
         let labels = references(alloc, code_of(line))?;
         add_labels(alloc, own, &mut done, labels.as_slice())?;
     }
-    Ok(done)
+    done.into_items(alloc)
 }
 
 fn record_of(

@@ -1,3 +1,5 @@
 pub mod ExportLemmas
+pub mod FirstLemmas
 pub mod NameLemmas
+pub mod PlaceLemmas
 pub mod LoadedLemmas

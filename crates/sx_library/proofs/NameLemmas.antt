@@ -1,20 +1,20 @@
--- Looking for a record among those at places that are chosen.
+-- Looking for the record of a library among those that are needed.
 use Rattle.std.proofs.Common.{◌≡◌, ℕ, ◌+◌, ◌<◌, ◌≤◌, Bool, true, false, List, ◌∷◌, length, get_or, drop, Option, Some, None, refl, sym, ap, ◌∙◌}
 use Rattle.std.specs.Prelude.{slice_get, if◌then◌else◌}
-use Rattle.std.proofs.lemmas.List.{drop_all}
 use Rattle.sx_base.specs.Same.{same_library}
 use Rattle.sx_base.specs.declared.library.LibName.{LibName}
 use Rattle.sx_core.specs.declared.record.LibRecord.{LibRecord}
-use Rattle.sx_import.proofs.TurnLemmas.{cons_at}
+use Rattle.sx_load.specs.Found.{places_from}
 use Rattle.sx_standing.specs.Start.{or_skip, records_at}
 use Rattle.sx_library.specs.Imports.{named}
 use Rattle.sx_library.specs.Chosen.{named_at}
+use Rattle.sx_library.proofs.PlaceLemmas.{places_on, no_places}
 
-abbrev or_later : Option LibRecord → Option LibRecord → Option LibRecord
+abbrev pub or_later : Option LibRecord → Option LibRecord → Option LibRecord
 or_later None later = later
 or_later (Some r) later = Some r
 
-first_named : (name : LibName) (here : Option LibRecord) (rest : List LibRecord) → named name (or_skip here rest) ≡ or_later (named_at name here) (named name rest)
+pub first_named : (name : LibName) (here : Option LibRecord) (rest : List LibRecord) → named name (or_skip here rest) ≡ or_later (named_at name here) (named name rest)
 first_named name None rest = refl
 first_named name (Some r) rest = by (same_library r.name name) refl
   where
@@ -22,18 +22,24 @@ first_named name (Some r) rest = by (same_library r.name name) refl
     by true e = rw e refl
     by false e = rw e refl
 
-module _ (name : LibName) (records : List LibRecord) (chosen : List ℕ) (i : ℕ) (whole : Option LibRecord) where
-  here : (place : ℕ) → i < length chosen → place ≡ get_or chosen i place
-      → named name (records_at records (drop i chosen)) ≡ or_later (named_at name (slice_get records place)) (named name (records_at records (drop (i + 1) chosen)))
-  here place h e = ap (λ ps. named name (records_at records ps)) (cons_at chosen i place h e) ∙ first_named name (slice_get records place) (records_at records (drop (i + 1) chosen))
+module _ (name : LibName) (records : List LibRecord) (ms : List Bool) (i : ℕ) (whole : Option LibRecord) where
+  abbrev among : List ℕ → Option LibRecord
+  among ps = named name (records_at records ps)
 
-  pub named_on : (place : ℕ) → i < length chosen → place ≡ get_or chosen i place → named_at name (slice_get records place) ≡ None
-      → named name (records_at records (drop i chosen)) ≡ whole → named name (records_at records (drop (i + 1) chosen)) ≡ whole
-  named_on place h e none so_far = sym (here place h e ∙ ap (λ o. or_later o (named name (records_at records (drop (i + 1) chosen)))) none) ∙ so_far
+  abbrev later : Option LibRecord
+  later = among (places_from (i + 1) (drop (i + 1) ms))
 
-  pub named_here : (place : ℕ) (r : LibRecord) → i < length chosen → place ≡ get_or chosen i place → named_at name (slice_get records place) ≡ Some r
-      → named name (records_at records (drop i chosen)) ≡ whole → whole ≡ Some r
-  named_here place r h e there so_far = sym so_far ∙ here place h e ∙ ap (λ o. or_later o (named name (records_at records (drop (i + 1) chosen)))) there
+  here : i < length ms → get_or ms i false ≡ true → among (places_from i (drop i ms)) ≡ or_later (named_at name (slice_get records i)) later
+  here h e = ap among (places_on ms i true h e) ∙ first_named name (slice_get records i) (records_at records (places_from (i + 1) (drop (i + 1) ms)))
 
-  pub named_end : length chosen ≤ i → named name (records_at records (drop i chosen)) ≡ whole → whole ≡ None
-  named_end h so_far = sym so_far ∙ ap (λ ps. named name (records_at records ps)) (drop_all i chosen h)
+  pub named_on : i < length ms → get_or ms i false ≡ true → named_at name (slice_get records i) ≡ None → among (places_from i (drop i ms)) ≡ whole → later ≡ whole
+  named_on h e none so_far = sym (here h e ∙ ap (λ o. or_later o later) none) ∙ so_far
+
+  pub not_asked : i < length ms → get_or ms i false ≡ false → among (places_from i (drop i ms)) ≡ whole → later ≡ whole
+  not_asked h e so_far = sym (ap among (places_on ms i false h e)) ∙ so_far
+
+  pub named_here : (r : LibRecord) → i < length ms → get_or ms i false ≡ true → named_at name (slice_get records i) ≡ Some r → among (places_from i (drop i ms)) ≡ whole → whole ≡ Some r
+  named_here r h e there so_far = sym so_far ∙ here h e ∙ ap (λ o. or_later o later) there
+
+  pub named_end : length ms ≤ i → among (places_from i (drop i ms)) ≡ whole → whole ≡ None
+  named_end h so_far = sym so_far ∙ ap among (no_places ms i h)

@@ -1,4 +1,5 @@
 pub mod Imports
 pub mod Library
 pub mod Chosen
+pub mod Records
 pub mod Loaded

@@ -1,14 +1,13 @@
 //! The names that the imports of a form give.
 
-ghost use Rattle.std.specs.Option.{option_copied};
-ghost use Rattle.std.specs.Prelude.{◌≡◌, [], IfOk, slice_get, option_map};
+ghost use Rattle.std.specs.Prelude.{◌≡◌, [], IfOk, option_map};
 ghost use Rattle.sx_base.specs.Gives.{Gives};
 ghost use Rattle.sx_import.specs.Turns.{turns};
 ghost use Rattle.sx_library.specs.Imports.{named, record_referred, record_exports, referred, refer, exported, import_into, form_names};
-ghost use Rattle.sx_library.specs.Chosen.{named_at};
+ghost use Rattle.sx_library.specs.Records.{needed_records};
 ghost use Rattle.sx_load.specs.Load.{fitting, builtin_version};
-ghost use Rattle.sx_standing.specs.Start.{records_at};
 
+use crate::records::Records;
 use std::alloc::Global;
 use sx_base::fault::{FaultKind, Stop};
 use sx_base::items::Items;
@@ -29,69 +28,37 @@ use sx_load::refer::{VERSION, about, check_version, is_builtin};
 #[tactic(auto, unfolding(crate::specs::Imports::form_names))]
 pub fn form_names(
     alloc: Global,
-    records: &[LibRecord],
-    chosen: &[usize],
+    records: &Records,
+    needs: &[bool],
     imports: &[Import],
 ) -> Result<Names, Stop>
-    ensures { Gives (λ names. names) result (form_names (records_at records.now chosen.now) imports.now) }
+    ensures { Gives (λ names. names) result (form_names (needed_records records.now needs.now) imports.now) }
 {
-    refer_all(alloc, records, chosen, imports)?;
-    import_all(alloc, records, chosen, imports)
+    refer_all(alloc, records, needs, imports)?;
+    import_all(alloc, records, needs, imports)
 }
 
 fn refer_all(
     alloc: Global,
-    records: &[LibRecord],
-    chosen: &[usize],
+    records: &Records,
+    needs: &[bool],
     imports: &[Import],
 ) -> Result<(), Stop>
-    ensures { Gives (λ u. u) result (turns (refer (records_at records.now chosen.now)) tt imports.now) }
+    ensures { Gives (λ u. u) result (turns (refer (needed_records records.now needs.now)) tt imports.now) }
 {
     for import in imports {
-        referred(alloc, records, chosen, &import.set)?;
+        referred(alloc, records, needs, &import.set)?;
     }
     Ok(())
 }
 
-// The record at a place, where it is that of a library.
-fn named_at<'a>(records: &'a [LibRecord], place: usize, name: &LibName) -> Option<&'a LibRecord>
-    ensures { option_copied result ≡ named_at name.now (slice_get records.now place) }
-{
-    if place >= records.len() {
-        return None;
-    }
-    let record = &records[place];
-    if record.name == *name {
-        Some(record)
-    } else {
-        None
-    }
-}
-
-// The record of a library.
-fn named<'a>(records: &'a [LibRecord], chosen: &[usize], name: &LibName) -> Option<&'a LibRecord>
-    ensures { option_copied result ≡ named name.now (records_at records.now chosen.now) }
-{
-    for place in chosen {
-        if let Some(record) = named_at(records, *place, name) {
-            return Some(record);
-        }
-    }
-    None
-}
-
-fn referred(
-    alloc: Global,
-    records: &[LibRecord],
-    chosen: &[usize],
-    set: &ImportSet,
-) -> Result<(), Stop>
-    ensures { Gives (λ u. u) result (referred (records_at records.now chosen.now) set.now) }
+fn referred(alloc: Global, records: &Records, needs: &[bool], set: &ImportSet) -> Result<(), Stop>
+    ensures { Gives (λ u. u) result (referred (needed_records records.now needs.now) set.now) }
 {
     if is_builtin(&set.library) {
         check_version(alloc, &VERSION, set)
     } else {
-        record_referred(alloc, set, named(records, chosen, &set.library))
+        record_referred(alloc, set, records.named(needs, &set.library))
     }
 }
 
@@ -106,44 +73,44 @@ fn record_referred(alloc: Global, set: &ImportSet, one: Option<&LibRecord>) -> R
 
 fn import_all(
     alloc: Global,
-    records: &[LibRecord],
-    chosen: &[usize],
+    records: &Records,
+    needs: &[bool],
     imports: &[Import],
 ) -> Result<Names, Stop>
-    ensures { Gives (λ names. names) result (turns (import_into (records_at records.now chosen.now)) [] imports.now) }
+    ensures { Gives (λ names. names) result (turns (import_into (needed_records records.now needs.now)) [] imports.now) }
 {
     let mut names = Table::new(alloc);
     for import in imports {
-        import_into(alloc, records, chosen, &mut names, import)?;
+        import_into(alloc, records, needs, &mut names, import)?;
     }
     Ok(names)
 }
 
 fn import_into(
     alloc: Global,
-    records: &[LibRecord],
-    chosen: &[usize],
+    records: &Records,
+    needs: &[bool],
     names: &mut Names,
     import: &Import,
 ) -> Result<(), Stop>
-    ensures { Gives (λ _. names.new) result (import_into (records_at records.now chosen.now) names.old import.now) }
+    ensures { Gives (λ _. names.new) result (import_into (needed_records records.now needs.now) names.old import.now) }
 {
-    let exports = exported(alloc, records, chosen, &import.set.library)?;
+    let exports = exported(alloc, records, needs, &import.set.library)?;
     let more = import_names(alloc, &import.set, &import.span, exports.as_slice())?;
     join_names(alloc, names, more.as_slice(), &import.span)
 }
 
 fn exported(
     alloc: Global,
-    records: &[LibRecord],
-    chosen: &[usize],
+    records: &Records,
+    needs: &[bool],
     library: &LibName,
 ) -> Result<Items<(Symbol, Label)>, Memory>
-    ensures { IfOk result (λ names. names ≡ exported (records_at records.now chosen.now) library.now) }
+    ensures { IfOk result (λ names. names ≡ exported (needed_records records.now needs.now) library.now) }
 {
     match exports(alloc, library)? {
         Some(names) => Ok(names),
-        None => record_exports(alloc, named(records, chosen, library)),
+        None => record_exports(alloc, records.named(needs, library)),
     }
 }
 

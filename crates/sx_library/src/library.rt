@@ -2,10 +2,12 @@
 
 ghost use Rattle.std.specs.Prelude.{◌≡◌, [], IfOk, map};
 ghost use Rattle.sx_base.specs.Gives.{Gives, StopsWith};
-ghost use Rattle.sx_standing.specs.Start.{records_at};
+ghost use Rattle.sx_load.specs.Found.{places_from};
+ghost use Rattle.sx_library.specs.Records.{needed_records};
 ghost use Rattle.sx_library.specs.Library.{at_datum, tree_at, trees_at, export_tree, expand_library};
 
 use crate::imports::form_names;
+use crate::records::Records;
 use std::alloc::Global;
 use std::sync::ledger::Ledger;
 use sx_base::datum::Datum;
@@ -22,34 +24,50 @@ use sx_forms::form::LibraryForm;
 use sx_import::names::rows;
 use sx_import::set::NameAt;
 use sx_import::table::Table;
+use sx_standing::share::share_library;
 use sx_syntax::syn::Syn;
 use sx_tree::marks::Marks;
 
 /// The record of a library or a program, from its form and the data of its body. The records before it
-/// stand among `records` at the places `chosen`. First each library that it imports must fit, then each
+/// are those of `records` that `needs` marks. First each library that it imports must fit, then each
 /// name, and then the body is expanded.
 #[tactic(auto, unfolding(crate::specs::Library::expand_library))]
 pub fn expand_library<N: Ledger>(
     alloc: Global,
-    records: &[LibRecord],
-    chosen: &[usize],
+    records: &Records,
+    needs: &[bool],
     path: &Symbol,
     form: &LibraryForm,
     body: &[Datum],
     nodes: &mut Steps<N>,
 ) -> Result<LibRecord, Stop>
-    ensures { Gives (λ r. r) result (expand_library (records_at records.now chosen.now) path.now form.now body.now) }
+    ensures { Gives (λ r. r) result (expand_library (needed_records records.now needs.now) path.now form.now body.now) }
 {
     let place = &form.name_span;
-    let names = form_names(alloc, records, chosen, form.imports.as_slice())?;
+    let names = form_names(alloc, records, needs, form.imports.as_slice())?;
     let forms = trees_at(alloc, place, body)?;
     let names = rows(alloc, &names)?;
     let exports = export_trees(alloc, &form.exports)?;
     let name = share_library(alloc, &form.name)?;
     let version = share_version(alloc, form.version.as_slice())?;
     let path = path.share()?;
-    let expander = Expander::new(alloc, name, path, records, chosen, names.as_slice())?;
+    let chosen = places_of(alloc, needs)?;
+    let before = records.as_slice();
+    let expander = Expander::new(alloc, name, path, before, &chosen, names.as_slice())?;
     expander.top(forms.as_slice(), place, exports.as_slice(), version, nodes)
+}
+
+// The places of marks.
+fn places_of(alloc: Global, needs: &[bool]) -> Result<Vec<usize>, Memory>
+    ensures { IfOk result (λ places. places.items ≡ places_from 0 needs.now) }
+{
+    let mut places = Vec::new(alloc);
+    for (place, mark) in needs.iter().enumerate() {
+        if *mark {
+            places.push(place)?;
+        }
+    }
+    Ok(places)
 }
 
 fn share_version(alloc: Global, version: &[u64]) -> Result<Items<u64>, Memory>
@@ -60,33 +78,6 @@ fn share_version(alloc: Global, version: &[u64]) -> Result<Items<u64>, Memory>
         all.push(*number)?;
     }
     Ok(all)
-}
-
-fn share_parts(alloc: Global, parts: &[Symbol]) -> Result<Items<Symbol>, Memory>
-    ensures { IfOk result (λ xs. xs ≡ parts.now) }
-{
-    let mut all = Items::new(alloc);
-    for part in parts {
-        let part = part.share()?;
-        all.push(part)?;
-    }
-    Ok(all)
-}
-
-/// The same name of a library.
-pub fn share_library(alloc: Global, library: &LibName) -> Result<LibName, Memory>
-    ensures { IfOk result (λ l. l ≡ library.now) }
-{
-    match library {
-        LibName::Core => Ok(LibName::Core),
-        LibName::Derived => Ok(LibName::Derived),
-        LibName::Prelude => Ok(LibName::Prelude),
-        LibName::Program => Ok(LibName::Program),
-        LibName::User(parts) => {
-            let parts = share_parts(alloc, parts.as_slice())?;
-            Ok(LibName::User(parts))
-        }
-    }
 }
 
 // The data of a body as syntax trees.

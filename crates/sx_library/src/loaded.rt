@@ -3,15 +3,14 @@
 ghost use Rattle.std.specs.Prelude.{◌≡◌, ◌∷◌, ◌++◌, [], IfOk, Ok, Err};
 ghost use Rattle.std.specs.String.{string_bytes};
 ghost use Rattle.sx_base.specs.Gives.{Gives, Stops};
-ghost use Rattle.sx_load.specs.Found.{needed, places_from};
 ghost use Rattle.sx_library.specs.Loaded.{expand_found, expand_next, all_records, planned_text, text_of};
 
 use crate::library::expand_library;
+use crate::records::Records;
 use std::alloc::Global;
 use std::sync::ledger::Ledger;
 use sx_base::datum::Datum;
 use sx_base::fault::{Fault, Stop};
-use sx_base::memory::Memory;
 use sx_base::steps::Steps;
 use sx_core::record::LibRecord;
 use sx_core_text::whole::core_text;
@@ -20,35 +19,21 @@ use sx_import::table::Table;
 use sx_load::found::{Found, Loading};
 use sx_planned::planned;
 
-// The places of the libraries that one needs.
-fn needed(alloc: Global, found: &Found) -> Result<Vec<usize>, Memory>
-    ensures { IfOk result (λ places. places.items ≡ needed found.now) }
-{
-    let mut places = Vec::new(alloc);
-    for (place, mark) in found.needs.as_slice().iter().enumerate() {
-        if *mark {
-            places.push(place)?;
-        }
-    }
-    Ok(places)
-}
-
 // The record of a library or program behind those that it needs.
 fn expand_found<N: Ledger>(
     alloc: Global,
-    records: &[LibRecord],
+    records: &Records,
     found: &Found,
     body: &[Datum],
     nodes: &mut Steps<N>,
 ) -> Result<LibRecord, Stop>
     ensures { Gives (λ r. r) result (expand_found records.now found.now body.now) }
 {
-    let chosen = needed(alloc, found)?;
     let opened = &found.opened;
     expand_library(
         alloc,
         records,
-        &chosen,
+        found.needs.as_slice(),
         &opened.path,
         &opened.form,
         body,
@@ -58,15 +43,15 @@ fn expand_found<N: Ledger>(
 
 fn expand_next<N: Ledger>(
     alloc: Global,
-    records: &mut Vec<LibRecord>,
+    records: &mut Records,
     found: &Found,
     nodes: &mut Steps<N>,
 ) -> Result<(), Stop>
-    ensures { Gives (λ _. records.new.items) result (expand_next records.old.items ([], found.now)) }
+    ensures { Gives (λ _. records.new) result (expand_next records.old ([], found.now)) }
 {
     let body = library_body(found.opened.data.as_slice());
     let record = expand_found(alloc, records, found, body, nodes)?;
-    records.push(record)?;
+    records.push(alloc, record)?;
     Ok(())
 }
 
@@ -75,10 +60,10 @@ fn all_records<N: Ledger>(
     alloc: Global,
     libraries: &Table<Found>,
     nodes: &mut Steps<N>,
-) -> Result<Vec<LibRecord>, Stop>
-    ensures { Gives (λ rs. rs.items) result (all_records libraries.now) }
+) -> Result<Records, Stop>
+    ensures { Gives (λ rs. rs) result (all_records libraries.now) }
 {
-    let mut records = Vec::new(alloc);
+    let mut records = Records::new(alloc);
     for place in 0..libraries.size() {
         let Some((_, found)) = libraries.at(place) else {
             return Err(Stop::Memory);
@@ -109,6 +94,7 @@ pub fn program_text<N: Ledger>(
     let records = all_records(alloc, &loading.done, nodes)?;
     let body = program_body(found.opened.data.as_slice());
     let program = expand_found(alloc, &records, found, body, nodes)?;
+    let records = records.into_records(alloc)?;
     planned_text(alloc, &records, &program)
 }
 

@@ -1,5 +1,5 @@
 use Rattle.std.proofs.lemmas.Result.{err_from_is_err_and}
-use Rattle.sx_standing.specs.Start.{records_at}
+use Rattle.sx_library.specs.Records.{needed_records}
 use Rattle.sx_library.specs.Imports.{import_into}
 use Rattle.sx_import.proofs.TurnLemmas.{turns_on, turns_stop, turns_end}
 use Rattle.sx_library.proofs.imports.import_all.Goals as goal
@@ -7,11 +7,11 @@ use Rattle.sx_library.proofs.imports.import_all.Goals as goal
 pub returns-in_err-import_into : goal.returns-in_err-import_into
 returns-in_err-import_into c =
     let p = err_from_is_err_and c.from_residual.result c.from_residual.ensures.1 in
-    rw (p.1, p.2) (turns_stop (import_into (records_at c.args.records.now c.args.chosen.now)) c.args.imports.now c.loop-import.import-index c.import-item.result c.loop-import.names _ c.in_err-import_into.field-0.0 c.loop-import-test.true c.import-item.is c.in_err-import_into.ensures c.loop-import.invariant)
+    rw (p.1, p.2) (turns_stop (import_into (needed_records c.args.records.now c.args.needs.now)) c.args.imports.now c.loop-import.import-index c.import-item.result c.loop-import.names _ c.in_err-import_into.field-0.0 c.loop-import-test.true c.import-item.is c.in_err-import_into.ensures c.loop-import.invariant)
 
 pub loop-import-preserved : goal.loop-import-preserved
 loop-import-preserved c =
-    turns_on (import_into (records_at c.args.records.now c.args.chosen.now)) c.args.imports.now c.loop-import.import-index c.import-item.result c.loop-import.names _ _ c.loop-import-test.true c.import-item.is c.in_ok-import_into.ensures c.loop-import.invariant
+    turns_on (import_into (needed_records c.args.records.now c.args.needs.now)) c.args.imports.now c.loop-import.import-index c.import-item.result c.loop-import.names _ _ c.loop-import-test.true c.import-item.is c.in_ok-import_into.ensures c.loop-import.invariant
 
 pub returns : goal.returns
-returns c = turns_end (import_into (records_at c.args.records.now c.args.chosen.now)) c.args.imports.now c.loop-import.import-index c.loop-import.names _ c.loop-import-test.false c.loop-import.invariant
+returns c = turns_end (import_into (needed_records c.args.records.now c.args.needs.now)) c.args.imports.now c.loop-import.import-index c.loop-import.names _ c.loop-import-test.false c.loop-import.invariant

@@ -1,8 +1,8 @@
 use Rattle.std.proofs.Common.{◌≡◌, [], drop}
 use Rattle.sx_import.specs.Turns.{turns}
-use Rattle.sx_standing.specs.Start.{records_at}
+use Rattle.sx_library.specs.Records.{needed_records}
 use Rattle.sx_library.specs.Imports.{import_into}
 use Rattle.sx_library.proofs.imports.import_all.Given as goal
 
 abbrev pub invariant-loop-import : goal.invariant-loop-import
-invariant-loop-import l = turns (import_into (records_at l.records l.chosen)) l.names (drop l.import-index l.imports) ≡ turns (import_into (records_at l.records l.chosen)) [] l.imports
+invariant-loop-import l = turns (import_into (needed_records l.records l.needs)) l.names (drop l.import-index l.imports) ≡ turns (import_into (needed_records l.records l.needs)) [] l.imports

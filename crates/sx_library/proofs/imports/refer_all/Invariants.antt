@@ -1,8 +1,8 @@
 use Rattle.std.proofs.Common.{◌≡◌, drop}
 use Rattle.sx_import.specs.Turns.{turns}
-use Rattle.sx_standing.specs.Start.{records_at}
+use Rattle.sx_library.specs.Records.{needed_records}
 use Rattle.sx_library.specs.Imports.{refer}
 use Rattle.sx_library.proofs.imports.refer_all.Given as goal
 
 abbrev pub invariant-loop-import : goal.invariant-loop-import
-invariant-loop-import l = turns (refer (records_at l.records l.chosen)) tt (drop l.import-index l.imports) ≡ turns (refer (records_at l.records l.chosen)) tt l.imports
+invariant-loop-import l = turns (refer (needed_records l.records l.needs)) tt (drop l.import-index l.imports) ≡ turns (refer (needed_records l.records l.needs)) tt l.imports

@@ -4,4 +4,4 @@ use Rattle.sx_library.specs.Loaded.{expand_next, all_records}
 use Rattle.sx_library.proofs.loaded.all_records.Given as goal
 
 abbrev pub invariant-loop-place : goal.invariant-loop-place
-invariant-loop-place g l = turns expand_next l.records.items (drop l.place l.libraries) ≡ all_records l.libraries
+invariant-loop-place g l = turns expand_next l.records (drop l.place l.libraries) ≡ all_records l.libraries

@@ -1,0 +1,177 @@
+//! Records of libraries in the order of loading, each found by its name.
+
+ghost use Rattle.std.specs.Option.{option_copied};
+ghost use Rattle.std.specs.Prelude.{◌≡◌, [], ◌∷◌, ◌++◌, IfOk, OnOk, OnErr, slice_get};
+ghost use Rattle.sx_load.specs.Found.{is_marked};
+ghost use Rattle.sx_library.specs.Chosen.{named_at};
+ghost use Rattle.sx_library.specs.Imports.{named};
+ghost use Rattle.sx_library.specs.Records.{first_place, place_in, with_place, needed_records};
+
+use indexmap::IndexMap;
+use std::alloc::Global;
+use std::marker::Model;
+use sx_base::library::LibName;
+use sx_base::memory::Memory;
+use sx_core::record::LibRecord;
+use sx_standing::ready::ReadyRecord;
+use sx_standing::share::share_library;
+
+/// Records, and for each name the place of its first. So looking for a library costs the same, however many
+/// libraries there are.
+#[derive(Drop)]
+pub struct Records {
+    list: Vec<ReadyRecord>,
+    places: IndexMap<LibName, usize>,
+}
+
+impl Model for Records {
+    ghost use Rattle.std.specs.Prelude.{List};
+    ghost use Rattle.std.specs.Coded.{coded_list};
+    ghost use Rattle.sx_core.specs.declared.record.LibRecord.{LibRecord};
+    ghost use Rattle.sx_core.specs.contracts.record.LibRecord as records;
+    ghost use Rattle.sx_library.specs.Records.{ArePlaces};
+
+    ghost Value = { List LibRecord };
+
+    ghost coded = { coded_list records.the_row.coded };
+
+    ghost view = { λ r. r.list.items };
+
+    ghost invariant = { λ r. ArePlaces r.places.entries r.list.items };
+}
+
+impl Records {
+    /// No records. It takes no memory.
+    pub fn new(alloc: Global) -> Records
+        ensures { result ≡ [] }
+    {
+        Records {
+            list: Vec::new(alloc),
+            places: IndexMap::new(alloc),
+        }
+    }
+
+    /// Puts a record at the end. A refusal changes nothing.
+    pub fn push(&mut self, alloc: Global, last: LibRecord) -> Result<(), Memory>
+        ensures ok { OnOk result (self.new ≡ self.old ++ last ∷ []) }
+        ensures err { OnErr result (self.new ≡ self.old) }
+    {
+        let place = self.list.len();
+        let name = share_library(alloc, &last.name)?;
+        let ready = ReadyRecord::new(alloc, last)?;
+        self.list.push(ready)?;
+        match put_place(&mut self.places, name, place) {
+            Ok(()) => Ok(()),
+            Err(memory) => {
+                self.list.pop();
+                Err(memory)
+            }
+        }
+    }
+
+    pub fn as_slice(&self) -> &[ReadyRecord]
+        ensures { result.now ≡ self.now }
+    {
+        &self.list
+    }
+
+    /// The records alone.
+    pub fn into_records(self, alloc: Global) -> Result<Vec<LibRecord>, Memory>
+        ensures { IfOk result (λ rs. rs.items ≡ self) }
+    {
+        let mut records = Vec::new(alloc);
+        for ready in self.list {
+            records.push(ready.into_record())?;
+        }
+        Ok(records)
+    }
+
+    fn at(&self, place: usize) -> Option<&LibRecord>
+        ensures { option_copied result ≡ slice_get self.now place }
+    {
+        if place < self.list.len() {
+            Some(self.list[place].record())
+        } else {
+            None
+        }
+    }
+
+    // The place of the first record of a library.
+    fn place_of(&self, name: &LibName) -> Option<usize>
+        ensures { result ≡ first_place name.now self.now }
+    {
+        match self.places.get(name) {
+            Some(place) => Some(*place),
+            None => None,
+        }
+    }
+
+    // The record at a place, where it is that of a library.
+    fn named_at(&self, place: usize, name: &LibName) -> Option<&LibRecord>
+        ensures { option_copied result ≡ named_at name.now (slice_get self.now place) }
+    {
+        let Some(record) = self.at(place) else {
+            return None;
+        };
+        if record.name == *name {
+            Some(record)
+        } else {
+            None
+        }
+    }
+
+    // The record of a library, by asking each that is needed.
+    fn sought(&self, needs: &[bool], name: &LibName) -> Option<&LibRecord>
+        ensures { option_copied result ≡ named name.now (needed_records self.now needs.now) }
+    {
+        for (place, mark) in needs.iter().enumerate() {
+            if *mark {
+                if let Some(record) = self.named_at(place, name) {
+                    return Some(record);
+                }
+            }
+        }
+        None
+    }
+
+    /// The record of a library, among those that are needed.
+    pub fn named(&self, needs: &[bool], name: &LibName) -> Option<&LibRecord>
+        ensures { option_copied result ≡ named name.now (needed_records self.now needs.now) }
+    {
+        let Some(place) = self.place_of(name) else {
+            return None;
+        };
+        if is_marked(needs, place) {
+            self.at(place)
+        } else {
+            // Loading gives no library two records, so this isn't come to.
+            self.sought(needs, name)
+        }
+    }
+}
+
+fn is_marked(marks: &[bool], place: usize) -> bool
+    ensures { result ≡ is_marked (slice_get marks.now place) }
+{
+    if place < marks.len() {
+        marks[place]
+    } else {
+        false
+    }
+}
+
+// The first place of a name stays.
+fn put_place(
+    places: &mut IndexMap<LibName, usize>,
+    name: LibName,
+    place: usize,
+) -> Result<(), Memory>
+    ensures ok { OnOk result (places.new.entries ≡ with_place places.old.entries name place) }
+    ensures err { OnErr result (places.new.entries ≡ places.old.entries) }
+{
+    if places.get(&name).is_some() {
+        return Ok(());
+    }
+    places.insert(name, place)?;
+    Ok(())
+}
