@@ -1,0 +1,11 @@
+pub mod RowLemmas
+pub mod MarkLemmas
+pub mod Invariant
+pub mod OpenLemmas
+pub mod KnownLemmas
+pub mod ReferLemmas
+pub mod LoadLemmas
+pub mod SourceLemmas
+pub mod LookLemmas
+pub mod ReadLemmas
+pub mod ReadingLemmas

@@ -1,0 +1,67 @@
+//! Laws of loading, in the words of R6RS 7.1 and 7.2.
+//!
+//! The definition of loading goes down into the files that a file imports, and back. Here it is told what
+//! stands where it ends:
+//!
+//! ```text
+//! p.sps            (import (rnrs) (util all)) ..
+//! util/all.sls     (library (util all) (export ..) (import (util stack) (util loop)))
+//!
+//! place 0          (util stack)
+//! place 1          (util loop)
+//! place 2          (util all), which needs 0 and 1
+//! the program      which needs 0, 1 and 2
+//! ```
+//!
+//! The promise: each library is loaded once, after those that it imports, each of which has a version that
+//! fits; and it needs just these and what they need. Where loading stops with a fault, this holds of the
+//! libraries that were loaded before. What is kept of a path is what the files hold there, and a path where
+//! a file is was read once.
+//!
+//! Here are no calls to make: each function stands for the laws that it ensures.
+#![tactic(auto)]
+
+ghost use Rattle.std.specs.Prelude.{◌≡◌, ℕ, List, length, Ok, Err};
+ghost use Rattle.sx_base.specs.declared.fault.Fault.{Fault};
+ghost use Rattle.sx_outside.specs.Contents.{Paths};
+ghost use Rattle.sx_load.specs.Load.{load};
+ghost use Rattle.sx_load.specs.declared.found.Found.{Found};
+ghost use Rattle.sx_load.specs.declared.found.Loading.{Loading};
+ghost use Rattle.sx_load_laws.specs.Laws.{AreLoadedOnce, AreAfterTheirImports, IsAfterItsImports, AllNeedsAreClosed, NeedsAreClosed, OnlyImportsAreNeeded, OnlyTheirImportsAreNeeded};
+ghost use Rattle.sx_load_laws.specs.Sources.{AreAsHeld, AreFoundOnce, AreFoundOnceButLast};
+
+/// Each library is loaded once. A place is how many libraries were loaded before.
+pub fn each_library_once()
+    ensures libraries { (files : Paths) (roots : List (List ℕ)) (path : List ℕ) (program : Found) (s : Loading) → load files roots path ≡ Ok (program, s) → AreLoadedOnce s.done }
+    ensures program { (files : Paths) (roots : List (List ℕ)) (path : List ℕ) (program : Found) (s : Loading) → load files roots path ≡ Ok (program, s) → program.place ≡ length s.done }
+    ensures stopped { (files : Paths) (roots : List (List ℕ)) (path : List ℕ) (s : Loading) (f : Fault) → load files roots path ≡ Err (s, f) → AreLoadedOnce s.done }
+{}
+
+/// Each library, and the program, comes after the libraries that it imports, and these have versions that fit.
+pub fn after_its_imports()
+    ensures libraries { (files : Paths) (roots : List (List ℕ)) (path : List ℕ) (program : Found) (s : Loading) → load files roots path ≡ Ok (program, s) → AreAfterTheirImports s.done }
+    ensures program { (files : Paths) (roots : List (List ℕ)) (path : List ℕ) (program : Found) (s : Loading) → load files roots path ≡ Ok (program, s) → IsAfterItsImports s.done program }
+    ensures stopped { (files : Paths) (roots : List (List ℕ)) (path : List ℕ) (s : Loading) (f : Fault) → load files roots path ≡ Err (s, f) → AreAfterTheirImports s.done }
+{}
+
+/// What a library or the program needs was loaded before it, and what that needs it needs too.
+pub fn needs_are_closed()
+    ensures libraries { (files : Paths) (roots : List (List ℕ)) (path : List ℕ) (program : Found) (s : Loading) → load files roots path ≡ Ok (program, s) → AllNeedsAreClosed s.done }
+    ensures program { (files : Paths) (roots : List (List ℕ)) (path : List ℕ) (program : Found) (s : Loading) → load files roots path ≡ Ok (program, s) → NeedsAreClosed s.done program }
+    ensures stopped { (files : Paths) (roots : List (List ℕ)) (path : List ℕ) (s : Loading) (f : Fault) → load files roots path ≡ Err (s, f) → AllNeedsAreClosed s.done }
+{}
+
+/// Nothing is needed but what is imported, and what that needs.
+pub fn only_imports_are_needed()
+    ensures libraries { (files : Paths) (roots : List (List ℕ)) (path : List ℕ) (program : Found) (s : Loading) → load files roots path ≡ Ok (program, s) → OnlyTheirImportsAreNeeded s.done }
+    ensures program { (files : Paths) (roots : List (List ℕ)) (path : List ℕ) (program : Found) (s : Loading) → load files roots path ≡ Ok (program, s) → OnlyImportsAreNeeded s.done program }
+    ensures stopped { (files : Paths) (roots : List (List ℕ)) (path : List ℕ) (s : Loading) (f : Fault) → load files roots path ≡ Err (s, f) → OnlyTheirImportsAreNeeded s.done }
+{}
+
+/// What is kept of each path that was read is what the files hold there, and a path where a file is was read once.
+pub fn each_file_read_once()
+    ensures held { (files : Paths) (roots : List (List ℕ)) (path : List ℕ) (program : Found) (s : Loading) → load files roots path ≡ Ok (program, s) → AreAsHeld files s.sources }
+    ensures once { (files : Paths) (roots : List (List ℕ)) (path : List ℕ) (program : Found) (s : Loading) → load files roots path ≡ Ok (program, s) → AreFoundOnce s.sources }
+    ensures held_until { (files : Paths) (roots : List (List ℕ)) (path : List ℕ) (s : Loading) (f : Fault) → load files roots path ≡ Err (s, f) → AreAsHeld files s.sources }
+    ensures once_until { (files : Paths) (roots : List (List ℕ)) (path : List ℕ) (s : Loading) (f : Fault) → load files roots path ≡ Err (s, f) → AreFoundOnceButLast s.sources }
+{}
