@@ -1,21 +1,25 @@
-//! Work on syntax objects, frames, cells, patterns and core text whose time `bench/syntax.sh`,
-//! `bench/scope.sh`, `bench/values.sh`, `bench/patterns.sh` and `bench/printer.sh` take.
+//! Work on syntax objects, frames, cells, patterns, core text and core code whose time `bench/syntax.sh`,
+//! `bench/scope.sh`, `bench/values.sh`, `bench/patterns.sh`, `bench/printer.sh` and `bench/eval.sh` take.
 //!
 //! The words are what to do and how many elements the list has, as `walk 1000`. `build` makes the list
 //! alone; `change` enters and leaves a mark on it 1,000 times; `walk` enters a mark and opens the list
 //! from its first element to its last, each element too. With `fill`, `find`, `ask`, `layer`, `look` and
 //! `recall` the number is that of names or frames, as `scopes` says, with `store`, `measure` and `read`
-//! that of pairs, as `values` says, with `match` and `instance` that of elements, as `patterns` says, and
-//! with `lines` and `print` that of lines, as `texts` says. The program writes its words.
+//! that of pairs, as `values` says, with `match` and `instance` that of elements, as `patterns` says,
+//! with `lines` and `print` that of lines, as `texts` says, and with `down` and `deep` that of units of fuel,
+//! as `evaluations` says. The program writes its words.
 #![tactic(auto)]
 
+mod evaluations;
 mod patterns;
+mod primitives;
 mod scopes;
 mod texts;
 mod values;
 
 ghost use Rattle.std.specs.Prelude.{◌≡◌, ◌<◌};
 
+use crate::evaluations::EvalWork;
 use crate::patterns::PatternWork;
 use crate::scopes::FrameWork;
 use crate::texts::TextWork;
@@ -50,6 +54,7 @@ enum Work {
     Cells(CellWork),
     Patterns(PatternWork),
     Texts(TextWork),
+    Evals(EvalWork),
 }
 
 fn work_of(word: &str) -> Option<Work> {
@@ -70,6 +75,8 @@ fn work_of(word: &str) -> Option<Work> {
         "instance" => Some(Work::Patterns(PatternWork::Fill)),
         "lines" => Some(Work::Texts(TextWork::Lines)),
         "print" => Some(Work::Texts(TextWork::Print)),
+        "down" => Some(Work::Evals(EvalWork::Down)),
+        "deep" => Some(Work::Evals(EvalWork::Deep)),
         _ => None,
     }
 }
@@ -145,6 +152,7 @@ fn done(alloc: Global, work: Work, count: u32) -> Result<bool, BareStop> {
         Work::Cells(work) => values::run(alloc, work, count),
         Work::Patterns(work) => patterns::run(alloc, work, count),
         Work::Texts(work) => texts::run(alloc, work, count),
+        Work::Evals(work) => evaluations::run(alloc, work, count),
     }
 }
 
