@@ -3,7 +3,7 @@
 ghost use Rattle.std.specs.Prelude.{◌≡◌, IfOk, OnOk, OnErr, true, false, Ok};
 ghost use Rattle.sx_base.specs.Act.{GivesAfter};
 ghost use Rattle.sx_base.specs.Gives.{Gives};
-ghost use Rattle.sx_standing.specs.Start.{records_at};
+ghost use Rattle.sx_standing.specs.Ready.{needed_records};
 ghost use Rattle.sx_expand.specs.Expanding.{ready, expression, lambda_body, library_record};
 
 use crate::body::body;
@@ -25,7 +25,7 @@ use sx_base::symbol::Symbol;
 use sx_core::code::Core;
 use sx_core::record::LibRecord;
 use sx_standing::expansion::Expansion;
-use sx_standing::ready::ReadyRecord;
+use sx_standing::ready::ReadyRecords;
 use sx_syntax::syn::Syn;
 
 /// The state of one library's expansion, and whether a call was refused. After a refusal it is of no use.
@@ -50,20 +50,20 @@ impl Model for Expander {
 }
 
 impl Expander {
-    /// An expander for a library. The records before it stand among the earlier ones at the places chosen;
-    /// the imports are names with their labels. Two records of one library, one of this library, and two
-    /// imports of one name are refused as want of memory is.
+    /// An expander for a library. The records before it are those of the earlier ones that are marked; the
+    /// imports are names with their labels. An earlier record of this library and two imports of one name are
+    /// refused as want of memory is.
     pub fn new(
         alloc: Global,
         name: LibName,
         path: Symbol,
-        earlier: &[ReadyRecord],
-        chosen: &[usize],
+        earlier: &ReadyRecords,
+        needs: &[bool],
         imports: &[(Symbol, Label)],
     ) -> Result<Expander, Stop>
-        ensures { Gives (λ e. e) result (Ok (ready name path (records_at earlier.now chosen.now) imports.now)) }
+        ensures { Gives (λ e. e) result (Ok (ready name path (needed_records needs.now earlier.now) imports.now)) }
     {
-        match begun(alloc, name, path, earlier, chosen, imports) {
+        match begun(alloc, name, path, earlier, needs, imports) {
             Ok(expander) => Ok(expander),
             Err(memory) => Err(Stop::from(memory)),
         }
@@ -146,13 +146,13 @@ fn begun(
     alloc: Global,
     name: LibName,
     path: Symbol,
-    earlier: &[ReadyRecord],
-    chosen: &[usize],
+    earlier: &ReadyRecords,
+    needs: &[bool],
     imports: &[(Symbol, Label)],
 ) -> Result<Expander, Memory>
-    ensures { IfOk result (λ e. e ≡ ready name path (records_at earlier.now chosen.now) imports.now) }
+    ensures { IfOk result (λ e. e ≡ ready name path (needed_records needs.now earlier.now) imports.now) }
 {
-    let state = Expansion::start(alloc, name, earlier, chosen, imports)?;
+    let state = Expansion::start(alloc, name, earlier, needs, imports)?;
     let frame = state.first_frame()?;
     Ok(Expander {
         state,

@@ -22,6 +22,7 @@ use sx_core::record::LibRecord;
 use sx_core_text::whole::core_text;
 use sx_expand::expander::Expander;
 use sx_reader::read::read_all;
+use sx_standing::ready::ReadyRecords;
 use sx_syntax::syn::Syn;
 
 const FILE: &str = "p.sps";
@@ -45,7 +46,8 @@ fn start(alloc: Global) -> Result<Expander, Stop>
 {
     let imports = imports(alloc)?;
     let path = file(alloc)?;
-    Expander::new(alloc, LibName::Program, path, &[], &[], imports.as_slice())
+    let earlier = ReadyRecords::new(alloc)?;
+    Expander::new(alloc, LibName::Program, path, &earlier, &[], imports.as_slice())
 }
 
 fn place(alloc: Global) -> Result<Span, Memory> {

@@ -1,9 +1,7 @@
 -- The frames of complete libraries before those that grow.
-use Rattle.std.specs.Prelude.{◌≡◌, Bool, true, false, cond, ◌&&◌, List, [], ◌∷◌, ◌++◌, length, Option, None, Some, is_some, Result, Ok, Err, OnOk, OnErr, refl}
-use Rattle.std.proofs.Common.{sym, ◌∙◌, ap, subst, arith, true≢false, append-nil, append_assoc}
+use Rattle.std.specs.Prelude.{◌≡◌, Bool, true, false, cond, ◌&&◌, List, [], ◌∷◌, ◌++◌, Option, None, Some, is_some, Result, Ok, Err, OnOk, OnErr, refl}
+use Rattle.std.proofs.Common.{sym, ◌∙◌, ap, subst, true≢false, append-nil, append_assoc}
 use Rattle.std.specs.Map.{lookup}
-use Rattle.std.specs.declared.alloc.Global.{Global}
-use Rattle.std.specs.declared.rc.Rc.{Rc}
 use Rattle.sx_base.specs.Gives.{BareGives}
 use Rattle.sx_base.specs.Same.{same_library, same_library_decides, same_name_cases}
 use Rattle.sx_base.specs.declared.fault.Bare.{Bare}
@@ -109,18 +107,18 @@ with_row-before f r (e ∷ es) ys h = by (same_frame f e.0) h (with_row-before f
 
 -- ---- the parts of libraries
 
-abbrev pub is_key : LibName → Rc LibName Global → Bool
-is_key l k = same_library l k.value
+abbrev pub is_key : LibName → LibName → Bool
+is_key l k = same_library l k
 
-abbrev pub or_own : Scope → Option (Rc Scope Global) → Scope
+abbrev pub or_own : Scope → Option Scope → Scope
 or_own own None = own
-or_own own (Some p) = p.value
+or_own own (Some p) = p
 
-is_some-cond : (b : Bool) (p : Rc Scope Global) (o : Option (Rc Scope Global)) → cond b true (is_some o) ≡ is_some (cond b (Some p) o)
+is_some-cond : (b : Bool) (p : Scope) (o : Option Scope) → cond b true (is_some o) ≡ is_some (cond b (Some p) o)
 is_some-cond true p o = refl
 is_some-cond false p o = refl
 
-or_own-cond : (own : Scope) (b : Bool) (p : Rc Scope Global) (o : Option (Rc Scope Global)) → cond b p.value (or_own own o) ≡ or_own own (cond b (Some p) o)
+or_own-cond : (own : Scope) (b : Bool) (p : Scope) (o : Option Scope) → cond b p (or_own own o) ≡ or_own own (cond b (Some p) o)
 or_own-cond own true p o = refl
 or_own-cond own false p o = refl
 
@@ -130,18 +128,18 @@ has_part-lookup l (p ∷ ps) = ap (cond (is_key l p.0) true) (has_part-lookup l 
 
 pub part_of-lookup : (ps : Parts) (own : Scope) (l : LibName) → part_of ps own l ≡ or_own own (lookup (is_key l) ps)
 part_of-lookup [] own l = refl
-part_of-lookup (p ∷ ps) own l = ap (cond (is_key l p.0) p.1.value) (part_of-lookup ps own l) ∙ or_own-cond own (is_key l p.0) p.1 (lookup (is_key l) ps)
+part_of-lookup (p ∷ ps) own l = ap (cond (is_key l p.0) p.1) (part_of-lookup ps own l) ∙ or_own-cond own (is_key l p.0) p.1 (lookup (is_key l) ps)
 
 pub no_part : (l : LibName) (ps : Parts) → has_part l ps ≡ false → lookup (is_key l) ps ≡ None
 no_part l ps h = by (lookup (is_key l) ps) (sym (has_part-lookup l ps) ∙ h)
   where
-    by : (o : Option (Rc Scope Global)) → is_some o ≡ false → o ≡ None
+    by : (o : Option Scope) → is_some o ≡ false → o ≡ None
     by None e = refl
     by (Some x) e = absurd (true≢false e)
 
 -- a library without a part is none of the parts'
-not_first : (l : LibName) (p : Rc LibName Global × Rc Scope Global) (ps : Parts) → has_part l (p ∷ ps) ≡ false → (same_library l p.0.value ≡ false) × (has_part l ps ≡ false)
-not_first l p ps h = by (same_library l p.0.value) h
+pub not_first : (l : LibName) (p : LibName × Scope) (ps : Parts) → has_part l (p ∷ ps) ≡ false → (same_library l p.0 ≡ false) × (has_part l ps ≡ false)
+not_first l p ps h = by (same_library l p.0) h
   where
     by : (b : Bool) → cond b true (has_part l ps) ≡ false → (b ≡ false) × (has_part l ps ≡ false)
     by true k = absurd (true≢false k)
@@ -151,29 +149,29 @@ pub absent-flat : (f : FrameNo) (ps : Parts) (own : Scope) → ArePlaced ps own 
 absent-flat f [] own h k = refl
 absent-flat f (p ∷ ps) own h k =
     let d = not_first f.0.library p ps k in
-    has_frame-before f p.1.value (flat ps) (absent-of p.0.value f p.1.value h.0 d.0) ∙ absent-flat f ps own h.2 d.1
+    has_frame-before f p.1 (flat ps) (absent-of p.0 f p.1 h.0 d.0) ∙ absent-flat f ps own h.2 d.1
 
 pub rows_at-part : (f : FrameNo) (ps : Parts) (own : Scope) → ArePlaced ps own → rows_at f (flat ps ++ own) ≡ rows_at f (part_of ps own f.0.library)
 rows_at-part f [] own h = refl
-rows_at-part f (p ∷ ps) own h = ap (rows_at f) (append_assoc p.1.value (flat ps) own) ∙ by (same_library f.0.library p.0.value) refl (rows_at-part f ps own h.2)
+rows_at-part f (p ∷ ps) own h = ap (rows_at f) (append_assoc p.1 (flat ps) own) ∙ by (same_library f.0.library p.0) refl (rows_at-part f ps own h.2)
   where
-    by : (b : Bool) → same_library f.0.library p.0.value ≡ b → rows_at f (flat ps ++ own) ≡ rows_at f (part_of ps own f.0.library)
-        → rows_at f (p.1.value ++ (flat ps ++ own)) ≡ rows_at f (cond b p.1.value (part_of ps own f.0.library))
-    by true e i = rows_at-behind f p.1.value (flat ps ++ own) (absent-elsewhere p.0.value f (flat ps ++ own) h.1 e)
-    by false e i = rows_at-before f p.1.value (flat ps ++ own) (absent-of p.0.value f p.1.value h.0 e) ∙ i
+    by : (b : Bool) → same_library f.0.library p.0 ≡ b → rows_at f (flat ps ++ own) ≡ rows_at f (part_of ps own f.0.library)
+        → rows_at f (p.1 ++ (flat ps ++ own)) ≡ rows_at f (cond b p.1 (part_of ps own f.0.library))
+    by true e i = rows_at-behind f p.1 (flat ps ++ own) (absent-elsewhere p.0 f (flat ps ++ own) h.1 e)
+    by false e i = rows_at-before f p.1 (flat ps ++ own) (absent-of p.0 f p.1 h.0 e) ∙ i
 
 pub has_frame-part : (f : FrameNo) (ps : Parts) (own : Scope) → ArePlaced ps own → has_frame f (flat ps ++ own) ≡ has_frame f (part_of ps own f.0.library)
 has_frame-part f [] own h = refl
-has_frame-part f (p ∷ ps) own h = ap (has_frame f) (append_assoc p.1.value (flat ps) own) ∙ by (same_library f.0.library p.0.value) refl (has_frame-part f ps own h.2)
+has_frame-part f (p ∷ ps) own h = ap (has_frame f) (append_assoc p.1 (flat ps) own) ∙ by (same_library f.0.library p.0) refl (has_frame-part f ps own h.2)
   where
-    by : (b : Bool) → same_library f.0.library p.0.value ≡ b → has_frame f (flat ps ++ own) ≡ has_frame f (part_of ps own f.0.library)
-        → has_frame f (p.1.value ++ (flat ps ++ own)) ≡ has_frame f (cond b p.1.value (part_of ps own f.0.library))
-    by true e i = has_frame-behind f p.1.value (flat ps ++ own) (absent-elsewhere p.0.value f (flat ps ++ own) h.1 e)
-    by false e i = has_frame-before f p.1.value (flat ps ++ own) (absent-of p.0.value f p.1.value h.0 e) ∙ i
+    by : (b : Bool) → same_library f.0.library p.0 ≡ b → has_frame f (flat ps ++ own) ≡ has_frame f (part_of ps own f.0.library)
+        → has_frame f (p.1 ++ (flat ps ++ own)) ≡ has_frame f (cond b p.1 (part_of ps own f.0.library))
+    by true e i = has_frame-behind f p.1 (flat ps ++ own) (absent-elsewhere p.0 f (flat ps ++ own) h.1 e)
+    by false e i = has_frame-before f p.1 (flat ps ++ own) (absent-of p.0 f p.1 h.0 e) ∙ i
 
 -- ---- frames that grow, behind the parts
 
-elsewhere-append : (l : LibName) (xs ys : Scope) → AreElsewhere l xs → AreElsewhere l ys → AreElsewhere l (xs ++ ys)
+pub elsewhere-append : (l : LibName) (xs ys : Scope) → AreElsewhere l xs → AreElsewhere l ys → AreElsewhere l (xs ++ ys)
 elsewhere-append l [] ys h k = k
 elsewhere-append l (e ∷ es) ys h k = (h.0, elsewhere-append l es ys h.1 k)
 
@@ -193,15 +191,15 @@ pub placed-row : (ps : Parts) (own : Scope) (f : FrameNo) (r : Row) → ArePlace
 placed-row [] own f r h k = tt
 placed-row (p ∷ ps) own f r h k =
     let d = not_first f.0.library p ps k in
-    let e = elsewhere-parts p.0.value (flat ps) own h.1 in
-    (h.0, elsewhere-append p.0.value (flat ps) (with_row own f r) e.0 (elsewhere-row p.0.value own f r e.1 d.0), placed-row ps own f r h.2 d.1)
+    let e = elsewhere-parts p.0 (flat ps) own h.1 in
+    (h.0, elsewhere-append p.0 (flat ps) (with_row own f r) e.0 (elsewhere-row p.0 own f r e.1 d.0), placed-row ps own f r h.2 d.1)
 
 pub placed-frame : (ps : Parts) (own : Scope) (f : FrameNo) (rs : List Row) → ArePlaced ps own → has_part f.0.library ps ≡ false → ArePlaced ps (own ++ (f, rs) ∷ [])
 placed-frame [] own f rs h k = tt
 placed-frame (p ∷ ps) own f rs h k =
     let d = not_first f.0.library p ps k in
-    let e = elsewhere-parts p.0.value (flat ps) own h.1 in
-    (h.0, elsewhere-append p.0.value (flat ps) (own ++ (f, rs) ∷ []) e.0 (elsewhere-append p.0.value own ((f, rs) ∷ []) e.1 (d.0, tt)), placed-frame ps own f rs h.2 d.1)
+    let e = elsewhere-parts p.0 (flat ps) own h.1 in
+    (h.0, elsewhere-append p.0 (flat ps) (own ++ (f, rs) ∷ []) e.0 (elsewhere-append p.0 own ((f, rs) ∷ []) e.1 (d.0, tt)), placed-frame ps own f rs h.2 d.1)
 
 -- after a call that bound a row, or changed nothing
 pub placed_bound : {X : Type 0} (ps : Parts) (fs gs : Scope) (f : FrameNo) (row : Row) (r : Result X BareStop)
@@ -271,20 +269,13 @@ are_new-right (r ∷ rs) xs ys h = by (has_frame r.frame (xs ++ ys)) refl h (are
 
 -- ---- a part more
 
-elsewhere-of : (l m : LibName) (fs : Scope) → AreOf l fs → same_library l m ≡ false → AreElsewhere m fs
+pub elsewhere-of : (l m : LibName) (fs : Scope) → AreOf l fs → same_library l m ≡ false → AreElsewhere m fs
 elsewhere-of l m [] h k = tt
 elsewhere-of l m (e ∷ es) h k = (ap (λ x. same_library x m) ((same_library_decides e.0.0.library l).0 h.0) ∙ k, elsewhere-of l m es h.1 k)
 
-pub flat-more : (ps : Parts) (p : Rc LibName Global × Rc Scope Global) → flat (ps ++ p ∷ []) ≡ flat ps ++ p.1.value
-flat-more [] p = append-nil p.1.value
-flat-more (q ∷ ps) p = ap (λ (y : Scope). q.1.value ++ y) (flat-more ps p) ∙ sym (append_assoc q.1.value (flat ps) p.1.value)
-
-pub placed-more : (ps : Parts) (p : Rc LibName Global × Rc Scope Global) → ArePlaced ps [] → AreOf p.0.value p.1.value → has_part p.0.value ps ≡ false → ArePlaced (ps ++ p ∷ []) []
-placed-more [] p h k d = (k, tt, tt)
-placed-more (q ∷ ps) p h k d =
-    let f = not_first p.0.value q ps d in
-    let more = elsewhere-append q.0.value (flat ps) p.1.value (elsewhere-parts q.0.value (flat ps) [] h.1).0 (elsewhere-of p.0.value q.0.value p.1.value k f.0) in
-    (h.0, subst (λ (y : Scope). AreElsewhere q.0.value y) (sym (append-nil (flat (ps ++ p ∷ [])) ∙ flat-more ps p)) more, placed-more ps p h.2 k f.1)
+pub flat-more : (ps : Parts) (p : LibName × Scope) → flat (ps ++ p ∷ []) ≡ flat ps ++ p.1
+flat-more [] p = append-nil p.1
+flat-more (q ∷ ps) p = ap (λ (y : Scope). q.1 ++ y) (flat-more ps p) ∙ sym (append_assoc q.1 (flat ps) p.1)
 
 pub apart-of : (l : LibName) (gs : Scope) (ps : Parts) (own : Scope) → AreOf l gs → ArePlaced ps own → has_part l ps ≡ false → are_apart gs (flat ps) ≡ true
 apart-of l [] ps own h k d = refl
@@ -307,11 +298,11 @@ placed-behind l (e ∷ es) ys h = ap (put_place l e) (placed-behind l es ys h)
 
 pub rows_in-part : (l : LibName) (ps : Parts) (own : Scope) → ArePlaced ps own → rows_in l (flat ps ++ own) ≡ rows_in l (part_of ps own l)
 rows_in-part l [] own h = refl
-rows_in-part l (p ∷ ps) own h = ap (rows_in l) (append_assoc p.1.value (flat ps) own) ∙ by (same_library l p.0.value) refl (rows_in-part l ps own h.2)
+rows_in-part l (p ∷ ps) own h = ap (rows_in l) (append_assoc p.1 (flat ps) own) ∙ by (same_library l p.0) refl (rows_in-part l ps own h.2)
   where
-    by : (b : Bool) → same_library l p.0.value ≡ b → rows_in l (flat ps ++ own) ≡ rows_in l (part_of ps own l) → rows_in l (p.1.value ++ (flat ps ++ own)) ≡ rows_in l (cond b p.1.value (part_of ps own l))
-    by true e i = ap joined (placed-behind l p.1.value (flat ps ++ own) (subst (λ x. AreElsewhere x (flat ps ++ own)) (sym ((same_library_decides l p.0.value).0 e)) h.1))
-    by false e i = ap joined (placed-before l p.1.value (flat ps ++ own) (elsewhere-of p.0.value l p.1.value h.0 (other_library l p.0.value e))) ∙ i
+    by : (b : Bool) → same_library l p.0 ≡ b → rows_in l (flat ps ++ own) ≡ rows_in l (part_of ps own l) → rows_in l (p.1 ++ (flat ps ++ own)) ≡ rows_in l (cond b p.1 (part_of ps own l))
+    by true e i = ap joined (placed-behind l p.1 (flat ps ++ own) (subst (λ x. AreElsewhere x (flat ps ++ own)) (sym ((same_library_decides l p.0).0 e)) h.1))
+    by false e i = ap joined (placed-before l p.1 (flat ps ++ own) (elsewhere-of p.0 l p.1 h.0 (other_library l p.0 e))) ∙ i
 
 -- ---- the frames that the rows of one library make
 
@@ -335,33 +326,3 @@ of_adopted l fs (r ∷ rs) h k = by (same_library r.frame.0.library l) refl k (o
 pub none_are_there : (rs : List FrameRow) → are_new rs [] ≡ true
 none_are_there [] = refl
 none_are_there (r ∷ rs) = none_are_there rs
-
--- ---- frames that are given
-
-no_frames : (fs : Scope) → length fs ≡ 0 → fs ≡ []
-no_frames [] h = refl
-no_frames (e ∷ es) h = absurd (omega (arith, h))
-
--- the parts `ps` before, and after with one of library `l` and frames `gs` more
-module _ (ps qs : Parts) (k : Rc LibName Global) (v : Rc Scope Global) (l : LibName) (own gs : Scope)
-    (more : qs ≡ ps ++ (k, v) ∷ []) (key : k.value ≡ l) (frames : v.value ≡ gs) (empty : length own ≡ 0) where
-  none : own ≡ []
-  none = no_frames own empty
-
-  before : flat ps ++ own ≡ flat ps
-  before = ap (λ (y : Scope). flat ps ++ y) none ∙ append-nil (flat ps)
-
-  pub given_behind : (now : Scope) → flat ps ++ own ≡ now → flat qs ++ own ≡ now ++ gs
-  given_behind now view =
-      ap (λ (y : Scope). flat qs ++ y) none ∙ append-nil (flat qs) ∙ ap flat more ∙ flat-more ps (k, v)
-      ∙ (λ i. (sym before ∙ view) i ++ frames i)
-
-  pub given_placed : ArePlaced ps own → AreOf l gs → has_part l ps ≡ false → ArePlaced qs own
-  given_placed h k' d =
-      let first : ArePlaced ps [] = subst (λ (y : Scope). ArePlaced ps y) none h in
-      let of : AreOf k.value v.value = subst (λ x. AreOf x v.value) (sym key) (subst (λ (y : Scope). AreOf l y) (sym frames) k') in
-      let new : has_part k.value ps ≡ false = ap (λ x. has_part x ps) key ∙ d in
-      subst (λ (y : Scope). ArePlaced qs y) (sym none) (subst (λ (y : Parts). ArePlaced y []) (sym more) (placed-more ps (k, v) first of new))
-
-  pub given_apart : (now : Scope) → flat ps ++ own ≡ now → ArePlaced ps own → AreOf l gs → has_part l ps ≡ false → are_apart gs now ≡ true
-  given_apart now view h k' d = ap (are_apart gs) (sym (sym before ∙ view)) ∙ apart-of l gs ps own k' h d

@@ -3,6 +3,7 @@ pub mod ScopeLemmas
 pub mod ListedLemmas
 pub mod MemoLemmas
 pub mod GivenLemmas
+pub mod NeededLemmas
 pub mod GrowLemmas
 pub mod FrameLaws
 pub mod ApartLaws

@@ -1,11 +1,11 @@
 -- The frames of libraries that are complete, before those that grow.
 use Rattle.std.specs.Prelude.{◌≡◌, Bool, true, false, ◌&&◌, List, [], ◌∷◌, ◌++◌, if◌then◌else◌}
-use Rattle.std.specs.declared.alloc.Global.{Global}
-use Rattle.std.specs.declared.rc.Rc.{Rc}
+use Rattle.std.specs.Coded.{Coded, coded×, coded_list}
 use Rattle.sx_base.specs.Same.{same_library}
 use Rattle.sx_base.specs.declared.library.LibName.{LibName}
+use Rattle.sx_base.specs.contracts.library.LibName as libraries
 use Rattle.sx_tree.specs.declared.frame_row.FrameRow.{FrameRow}
-use Rattle.sx_frames.specs.Scope.{Scope, has_frame}
+use Rattle.sx_frames.specs.Scope.{Scope, scope_code, has_frame}
 
 -- whether no frame of the first is one of the second
 abbrev pub are_apart : Scope → Scope → Bool
@@ -27,24 +27,34 @@ abbrev pub AreElsewhere : LibName → Scope → Type 0
 AreElsewhere l [] = Unit {0}
 AreElsewhere l (e ∷ es) = (same_library e.0.0.library l ≡ false) × AreElsewhere l es
 
+-- a library and its frames
+abbrev pub Part : Type 0
+Part = LibName × Scope
+
+abbrev pub part_code : Coded Part
+part_code = coded× libraries.the_row.coded scope_code
+
 -- the frames of each library
 abbrev pub Parts : Type 0
-Parts = List (Rc LibName Global × Rc Scope Global)
+Parts = List Part
+
+abbrev pub parts_code : Coded Parts
+parts_code = coded_list part_code
 
 -- those frames, library by library
 abbrev pub flat : Parts → Scope
 flat [] = []
-flat (p ∷ ps) = p.1.value ++ flat ps
+flat (p ∷ ps) = p.1 ++ flat ps
 
 -- whether a library has a part
 abbrev pub has_part : LibName → Parts → Bool
 has_part l [] = false
-has_part l (p ∷ ps) = if same_library l p.0.value then true else has_part l ps
+has_part l (p ∷ ps) = if same_library l p.0 then true else has_part l ps
 
 -- the frames among which those of a library are: its part, or those that may grow
 abbrev pub part_of : Parts → Scope → LibName → Scope
 part_of [] own l = own
-part_of (p ∷ ps) own l = if same_library l p.0.value then p.1.value else part_of ps own l
+part_of (p ∷ ps) own l = if same_library l p.0 then p.1 else part_of ps own l
 
 -- whether no row is of a library that has a part
 abbrev pub are_own : List FrameRow → Parts → Bool
@@ -54,4 +64,4 @@ are_own (r ∷ rs) ps = if has_part r.frame.0.library ps then false else are_own
 -- each part has the frames of its library, and no other has any
 abbrev pub ArePlaced : Parts → Scope → Type 0
 ArePlaced [] own = Unit {0}
-ArePlaced (p ∷ ps) own = AreOf p.0.value p.1.value × AreElsewhere p.0.value (flat ps ++ own) × ArePlaced ps own
+ArePlaced (p ∷ ps) own = AreOf p.0 p.1 × AreElsewhere p.0 (flat ps ++ own) × ArePlaced ps own

@@ -1,6 +1,7 @@
 pub mod Rows
 pub mod Scope
 pub mod Given
+pub mod Needed
 pub mod Listed
 pub mod Kept
 pub mod Right

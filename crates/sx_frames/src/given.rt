@@ -12,8 +12,7 @@ use sx_base::library::LibName;
 use sx_base::memory::Memory;
 use sx_tree::frame_row::FrameRow;
 
-/// The frames of a library that is complete, in tables that are made once. To give them to those that need
-/// the library costs the same, however many there are.
+/// A library that is complete and its frames, in tables that are made once for all that need it.
 #[derive(Drop)]
 pub struct GivenFrames {
     pub(crate) library: Rc<LibName>,
@@ -21,14 +20,13 @@ pub struct GivenFrames {
 }
 
 impl Model for GivenFrames {
-    ghost use Rattle.sx_frames.specs.Scope.{Scope, scope_code};
-    ghost use Rattle.sx_frames.specs.Given.{AreOf};
+    ghost use Rattle.sx_frames.specs.Given.{AreOf, Part, part_code};
 
-    ghost Value = { Scope };
+    ghost Value = { Part };
 
-    ghost coded = { scope_code };
+    ghost coded = { part_code };
 
-    ghost view = { λ g. g.frames.value };
+    ghost view = { λ g. (g.library.value, g.frames.value) };
 
     ghost invariant = { λ g. AreOf g.library.value g.frames.value };
 }
@@ -53,7 +51,7 @@ impl GivenFrames {
         library: Rc<LibName>,
         rows: &[FrameRow],
     ) -> Result<GivenFrames, Memory>
-        ensures { IfOk result (λ g. g ≡ adopted [] rows.now) }
+        ensures { IfOk result (λ g. g ≡ (library.value, adopted [] rows.now)) }
     {
         if !are_rows_of(&library, rows) {
             return Err(Memory);

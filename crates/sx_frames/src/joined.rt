@@ -3,18 +3,20 @@
 ghost use Rattle.std.specs.Option.{option_copied};
 ghost use Rattle.std.specs.Prelude.{◌≡◌, ◌∷◌, ◌++◌, [], length, true, false, IfOk, OnOk, OnErr};
 ghost use Rattle.sx_base.specs.Gives.{BareGives};
-ghost use Rattle.sx_frames.specs.Given.{are_apart, are_own, has_part, part_of};
+ghost use Rattle.sx_frames.specs.Given.{are_own, flat, has_part, part_of};
+ghost use Rattle.sx_frames.specs.Needed.{needed_parts, parts_given, AreApart};
 ghost use Rattle.sx_frames.specs.Listed.{rows_in};
 ghost use Rattle.sx_frames.specs.Scope.{has_frame, rows_at, label_at, label_by, bound, adopted, are_new};
 
 use crate::frames::FrameMap;
-use crate::given::GivenFrames;
 use crate::key::Key;
-use indexmap::IndexMap;
+use crate::needed::NeededFrames;
+use crate::shared::SharedFrames;
 use std::alloc::Global;
 use std::marker::Model;
 use std::rc::Rc;
 use sx_base::fault::BareStop;
+use sx_base::items::Items;
 use sx_base::library::LibName;
 use sx_base::memory::Memory;
 use sx_base::name::{FrameNo, Label};
@@ -23,9 +25,9 @@ use sx_tree::frame_row::FrameRow;
 use sx_tree::marks::Marks;
 use sx_tree::stamp::Stamp;
 
-type Given = IndexMap<Rc<LibName>, Rc<FrameMap>>;
+type Given = Option<NeededFrames>;
 
-/// The frames of libraries that are complete, in the order of coming, and then frames that may grow. A frame
+/// The frames of libraries that are complete, of a table that is shared, and then frames that may grow. A frame
 /// is looked for where its library is, so a look-up costs the same, however many libraries there are.
 #[derive(Drop)]
 pub struct JoinedFrames {
@@ -38,20 +40,24 @@ impl Model for JoinedFrames {
     ghost use Rattle.std.specs.Prelude.{◌++◌};
     ghost use Rattle.sx_frames.specs.Scope.{Scope, scope_code};
     ghost use Rattle.sx_frames.specs.Given.{flat, ArePlaced};
+    ghost use Rattle.sx_frames.specs.Needed.{parts_given};
 
     ghost Value = { Scope };
 
     ghost coded = { scope_code };
 
-    ghost view = { λ a. flat a.given.entries ++ a.own };
+    ghost view = { λ a. flat (parts_given a.given) ++ a.own };
 
-    ghost invariant = { λ a. ArePlaced a.given.entries a.own };
+    ghost invariant = { λ a. ArePlaced (parts_given a.given) a.own };
 }
 
 /// The frames among which those of a library are.
 fn part<'a>(given: &'a Given, own: &'a FrameMap, library: &Rc<LibName>) -> &'a FrameMap
-    ensures { result.now ≡ part_of given.now.entries own.now library.now.value }
+    ensures { result.now ≡ part_of (parts_given given.now) own.now library.now.value }
 {
+    let Some(given) = given else {
+        return own;
+    };
     match given.get(library) {
         Some(part) => part,
         None => own,
@@ -60,28 +66,31 @@ fn part<'a>(given: &'a Given, own: &'a FrameMap, library: &Rc<LibName>) -> &'a F
 
 /// The frames among which a frame is.
 fn part_of_frame<'a>(given: &'a Given, own: &'a FrameMap, frame: &FrameNo) -> &'a FrameMap
-    ensures { result.now ≡ part_of given.now.entries own.now frame.now.0.library }
+    ensures { result.now ≡ part_of (parts_given given.now) own.now frame.now.0.library }
 {
     part(given, own, &frame.0.library)
 }
 
 /// Whether frames of the library were given.
 fn is_given(given: &Given, library: &Rc<LibName>) -> bool
-    ensures { result ≡ has_part library.now.value given.now.entries }
+    ensures { result ≡ has_part library.now.value (parts_given given.now) }
 {
-    given.contains_key(library)
+    match given {
+        Some(given) => given.has(library),
+        None => false,
+    }
 }
 
 /// Whether the frame is of a library that was given.
 fn is_of_given(given: &Given, frame: &FrameNo) -> bool
-    ensures { result ≡ has_part frame.now.0.library given.now.entries }
+    ensures { result ≡ has_part frame.now.0.library (parts_given given.now) }
 {
     is_given(given, &frame.0.library)
 }
 
 /// Whether no row is of a library that was given.
 fn are_own(given: &Given, rows: &[FrameRow]) -> bool
-    ensures { result ≡ are_own rows.now given.now.entries }
+    ensures { result ≡ are_own rows.now (parts_given given.now) }
 {
     for row in rows {
         if is_of_given(given, &row.frame) {
@@ -98,7 +107,19 @@ impl JoinedFrames {
     {
         JoinedFrames {
             alloc,
-            given: IndexMap::new(alloc),
+            given: None,
+            own: FrameMap::new(alloc),
+        }
+    }
+
+    /// The frames of those libraries of a table that are marked. It takes no memory.
+    pub fn over(alloc: Global, shared: Rc<SharedFrames>, needs: Rc<Items<bool>>) -> JoinedFrames
+        ensures frames { result ≡ flat (needed_parts needs.value shared.value) }
+        ensures apart { AreApart [] (needed_parts needs.value shared.value) }
+    {
+        JoinedFrames {
+            alloc,
+            given: Some(NeededFrames::new(shared, needs)),
             own: FrameMap::new(alloc),
         }
     }
@@ -197,25 +218,6 @@ impl JoinedFrames {
             return Err(Memory);
         }
         self.own.adopt(rows)
-    }
-
-    /// Adds the frames of another library, whose tables are shared. They come before those that may grow:
-    /// where there are such, or the library was given before, it is refused as want of memory is. A refusal
-    /// changes nothing.
-    pub fn give(&mut self, given: &GivenFrames) -> Result<(), Memory>
-        ensures ok { OnOk result (self.new ≡ self.old ++ given.now) }
-        ensures apart { OnOk result (are_apart given.now self.old ≡ true) }
-        ensures err { OnErr result (self.new ≡ self.old) }
-    {
-        if self.own.count() > 0 || is_given(&self.given, &given.library) {
-            return Err(Memory);
-        }
-        let library = given.library.clone()?;
-        let frames = given.frames.clone()?;
-        match self.given.insert(library, frames) {
-            Ok(_) => Ok(()),
-            Err(_) => Err(Memory),
-        }
     }
 
     /// The rows of the library's frames, by frame and then in the order of binding.

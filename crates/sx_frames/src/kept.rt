@@ -5,13 +5,14 @@ ghost use Rattle.std.specs.Prelude.{◌≡◌, ◌∷◌, ◌++◌, [], true, fa
 ghost use Rattle.sx_base.specs.Gives.{BareGives};
 ghost use Rattle.sx_frames.specs.Listed.{rows_in};
 ghost use Rattle.sx_frames.specs.Right.{sizes_before, same_sizes};
-ghost use Rattle.sx_frames.specs.Given.{are_apart};
+ghost use Rattle.sx_frames.specs.Given.{flat};
+ghost use Rattle.sx_frames.specs.Needed.{needed_parts, AreApart};
 ghost use Rattle.sx_frames.specs.Scope.{has_frame, label_by, bound, adopted, are_new};
 
-use crate::given::GivenFrames;
 use crate::joined::JoinedFrames;
 use crate::key::Key;
 use crate::memo::{Answer, Memo};
+use crate::shared::SharedFrames;
 use std::alloc::Global;
 use std::marker::Model;
 use std::rc::Rc;
@@ -119,6 +120,18 @@ impl KeptFrames {
         }
     }
 
+    /// The frames of those libraries of a table that are marked. It takes no memory.
+    pub fn over(alloc: Global, shared: Rc<SharedFrames>, needs: Rc<Items<bool>>) -> KeptFrames
+        ensures frames { result ≡ flat (needed_parts needs.value shared.value) }
+        ensures apart { AreApart [] (needed_parts needs.value shared.value) }
+    {
+        KeptFrames {
+            alloc,
+            frames: JoinedFrames::over(alloc, shared, needs),
+            memo: Memo::new(alloc),
+        }
+    }
+
     /// Whether the frame is there. It takes no memory.
     pub fn has_frame(&self, frame: &FrameNo) -> bool
         ensures { result ≡ has_frame frame.now self.now }
@@ -165,16 +178,6 @@ impl KeptFrames {
         ensures err { OnErr result (self.new ≡ self.old) }
     {
         self.frames.adopt(rows)
-    }
-
-    /// Adds the frames of another library, whose tables are shared. It is refused where one of them is
-    /// there, or frames of that library were given before. A refusal changes nothing.
-    pub fn give(&mut self, given: &GivenFrames) -> Result<(), Memory>
-        ensures ok { OnOk result (self.new ≡ self.old ++ given.now) }
-        ensures apart { OnOk result (are_apart given.now self.old ≡ true) }
-        ensures err { OnErr result (self.new ≡ self.old) }
-    {
-        self.frames.give(given)
     }
 
     /// The rows of the library's frames, by frame and then in the order of binding.

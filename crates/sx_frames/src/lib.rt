@@ -18,12 +18,14 @@
 //! a refusal nothing has changed. Rows lie in tables that are indexed by symbol and marks, so a stamp
 //! costs two look-ups, whatever the size of its frame. `kept` also remembers answers, each with the
 //! sizes of the frames that gave nothing before it was found; since frames only grow, an answer whose
-//! sizes are still those is the answer of now. The frames of a library that is complete lie in tables that
-//! all who need it share (`given`), behind which grow those of the library that is expanded (`joined`); a
-//! frame is looked for where its library is. None of this shows in a contract.
+//! sizes are still those is the answer of now. The frames of a library that is complete lie in a table that is
+//! made once (`given`), and those of all such libraries in one table of the run (`shared`). Who needs some of
+//! them marks them there (`needed`), so that to need a library costs nothing, and behind them grow the frames of
+//! the library that is expanded (`joined`). A frame is looked for where its library is. None of this shows in
+//! a contract.
 //!
-//! The definitions are in `specs/Scope`, `specs/Listed` and `specs/Given`, and the laws that tell what they mean in
-//! `laws`. The crate knows symbols, marks and stamps alone; sx_scope asks it for leaves of trees.
+//! The definitions are in `specs/Scope`, `specs/Listed`, `specs/Given` and `specs/Needed`, and the laws that tell
+//! what they mean in `laws`. The crate knows symbols, marks and stamps alone; sx_scope asks it for leaves of trees.
 #![tactic(auto)]
 
 pub mod frames;
@@ -33,4 +35,6 @@ pub mod kept;
 pub mod key;
 pub mod laws;
 pub mod memo;
+pub mod needed;
+pub mod shared;
 pub mod table;

@@ -1,8 +1,9 @@
 -- The first record of a library: a table gives its place, and where it is needed it is the one that is looked for.
-use Rattle.std.proofs.Common.{◌≡◌, ℕ, suc, zero, ◌+◌, ◌<◌, Bool, true, false, cond, List, [], ◌∷◌, ◌++◌, length, Option, Some, None, Decides, refl, sym, ap, ◌∙◌, true≢false, arith}
+use Rattle.std.proofs.Common.{◌≡◌, ℕ, suc, zero, ◌+◌, ◌<◌, Bool, true, false, cond, List, [], ◌∷◌, ◌++◌, length, take, Option, Some, None, Decides, refl, sym, ap, ◌∙◌, true≢false, arith}
 use Rattle.std.specs.Prelude.{slice_get, is_some, if◌then◌else◌}
 use Rattle.std.specs.Option.{option_map}
 use Rattle.std.proofs.lemmas.Bool.Decides.{same_from_decides}
+use Rattle.std.proofs.Math.Seq.{take-append_seam, take-length}
 use Rattle.indexmap.specs.IndexMap.{IndexMap, insert_entry}
 use Rattle.indexmap.proofs.CallerLemmas.{insert_entry-new}
 use Rattle.sx_base.specs.Same.{same_library, same_library_decides}
@@ -76,6 +77,14 @@ pub put_new : {S : Type 0} (m : IndexMap LibName ℕ S) (name : LibName) (place 
 put_new m name place h =
     insert_entry-new same_library m name place (none_if (place_in name m.entries) h)
     ∙ sym (ap (λ b. cond {A = List (LibName × ℕ)} b m.entries (m.entries ++ (name, place) ∷ [])) h)
+
+-- a table is cut back to what it was before a row more
+pub taken_back : (rows : List (LibName × ℕ)) (name : LibName) (place : ℕ) → take (length rows) (with_place rows name place) ≡ rows
+taken_back rows name place = by (is_some (place_in name rows))
+  where
+    by : (b : Bool) → take (length rows) (cond b rows (rows ++ (name, place) ∷ [])) ≡ rows
+    by true = take-length rows
+    by false = take-append_seam rows ((name, place) ∷ [])
 
 -- the table with the row of one record more, if it has no row of that library
 pub places_more : (rows : List (LibName × ℕ)) (rs : List LibRecord) (r : LibRecord) → ArePlaces rows rs → ArePlaces (with_place rows r.name (length rs)) (rs ++ r ∷ [])

@@ -1,8 +1,11 @@
 -- The places of marks, one mark after another.
-use Rattle.std.proofs.Common.{◌≡◌, ℕ, suc, ◌+◌, ◌<◌, ◌≤◌, Bool, true, false, List, [], ◌∷◌, ◌++◌, length, get_or, drop, sym, ap, ◌∙◌, add-one, drop-cons, append_assoc}
-use Rattle.std.specs.Prelude.{if◌then◌else◌}
-use Rattle.std.proofs.lemmas.List.{drop_all, append-nil}
+use Rattle.std.proofs.Common.{◌≡◌, ℕ, suc, ◌+◌, ◌<◌, ◌≤◌, Bool, true, false, cond, List, [], ◌∷◌, length, get_or, drop, refl, ap, ◌∙◌, add-one, drop-cons}
+use Rattle.std.specs.Prelude.{slice_get, if◌then◌else◌}
+use Rattle.std.proofs.lemmas.List.{drop_all}
+use Rattle.sx_core.specs.declared.record.LibRecord.{LibRecord}
 use Rattle.sx_load.specs.Found.{places_from}
+use Rattle.sx_standing.specs.Ready as of_marks
+use Rattle.sx_standing.specs.Start.{or_skip, records_at}
 
 module _ (ms : List Bool) (i : ℕ) where
   pub places_on : (m : Bool) → i < length ms → get_or ms i false ≡ m → places_from i (drop i ms) ≡ (if m then i ∷ places_from (i + 1) (drop (i + 1) ms) else places_from (i + 1) (drop (i + 1) ms))
@@ -13,12 +16,29 @@ module _ (ms : List Bool) (i : ℕ) where
   unfolding places_from
   no_places h = ap (places_from i) (drop_all i ms h)
 
-module _ (ms : List Bool) (i : ℕ) (done whole : List ℕ) where
-  pub place_yes : i < length ms → get_or ms i false ≡ true → done ++ places_from i (drop i ms) ≡ whole → (done ++ i ∷ []) ++ places_from (i + 1) (drop (i + 1) ms) ≡ whole
-  place_yes h e so_far = append_assoc done (i ∷ []) (places_from (i + 1) (drop (i + 1) ms)) ∙ ap (λ ps. done ++ ps) (sym (places_on ms i true h e)) ∙ so_far
+-- ---- the records at the places of marks are those that are marked
 
-  pub place_no : i < length ms → get_or ms i false ≡ false → done ++ places_from i (drop i ms) ≡ whole → done ++ places_from (i + 1) (drop (i + 1) ms) ≡ whole
-  place_no h e so_far = ap (λ ps. done ++ ps) (sym (places_on ms i false h e)) ∙ so_far
+places_behind : (r : LibRecord) (rs : List LibRecord) (i : ℕ) (ms : List Bool) → records_at (r ∷ rs) (places_from (suc i) ms) ≡ records_at rs (places_from i ms)
+unfolding places_from
+places_behind r rs i [] = refl
+places_behind r rs i (m ∷ ms) = by m (places_behind r rs (suc i) ms)
+  where
+    by : (b : Bool) → records_at (r ∷ rs) (places_from (suc (suc i)) ms) ≡ records_at rs (places_from (suc i) ms)
+        → records_at (r ∷ rs) (cond b (suc i ∷ places_from (suc (suc i)) ms) (places_from (suc (suc i)) ms)) ≡ records_at rs (cond b (i ∷ places_from (suc i) ms) (places_from (suc i) ms))
+    by true h = ap (or_skip (slice_get rs i)) h
+    by false h = h
 
-  pub place_end : length ms ≤ i → done ++ places_from i (drop i ms) ≡ whole → done ≡ whole
-  place_end h so_far = sym (append-nil done) ∙ ap (λ ps. done ++ ps) (sym (no_places ms i h)) ∙ so_far
+none_at : (ps : List ℕ) → records_at [] ps ≡ []
+none_at [] = refl
+none_at (p ∷ ps) = none_at ps
+
+pub at_marks : (ms : List Bool) (rs : List LibRecord) → records_at rs (places_from 0 ms) ≡ of_marks.needed_records ms rs
+unfolding places_from
+at_marks [] rs = refl
+at_marks (m ∷ ms) [] = none_at (places_from 0 (m ∷ ms))
+at_marks (m ∷ ms) (r ∷ rs) = by m (places_behind r rs 0 ms ∙ at_marks ms rs)
+  where
+    by : (b : Bool) → records_at (r ∷ rs) (places_from 1 ms) ≡ of_marks.needed_records ms rs
+        → records_at (r ∷ rs) (cond b (0 ∷ places_from 1 ms) (places_from 1 ms)) ≡ cond b (r ∷ of_marks.needed_records ms rs) (of_marks.needed_records ms rs)
+    by true h = ap (λ (x : List LibRecord). r ∷ x) h
+    by false h = h

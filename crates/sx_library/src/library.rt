@@ -1,8 +1,8 @@
 //! The record of a library or a program.
 
-ghost use Rattle.std.specs.Prelude.{◌≡◌, [], IfOk, map};
+ghost use Rattle.std.specs.Prelude.{◌≡◌, [], IfOk, Ok, map};
 ghost use Rattle.sx_base.specs.Gives.{Gives, StopsWith};
-ghost use Rattle.sx_load.specs.Found.{places_from};
+ghost use Rattle.sx_expand.specs.Expanding.{ready};
 ghost use Rattle.sx_library.specs.Records.{needed_records};
 ghost use Rattle.sx_library.specs.Library.{at_datum, tree_at, trees_at, export_tree, expand_library};
 
@@ -15,6 +15,7 @@ use sx_base::fault::{Bare, BareStop, Fault, Stop};
 use sx_base::items::Items;
 use sx_base::library::LibName;
 use sx_base::memory::Memory;
+use sx_base::name::Label;
 use sx_base::span::Span;
 use sx_base::steps::Steps;
 use sx_base::symbol::Symbol;
@@ -51,23 +52,22 @@ pub fn expand_library<N: Ledger>(
     let name = share_library(alloc, &form.name)?;
     let version = share_version(alloc, form.version.as_slice())?;
     let path = path.share()?;
-    let chosen = places_of(alloc, needs)?;
-    let before = records.as_slice();
-    let expander = Expander::new(alloc, name, path, before, &chosen, names.as_slice())?;
+    let expander = expander_behind(alloc, name, path, records, needs, names.as_slice())?;
     expander.top(forms.as_slice(), place, exports.as_slice(), version, nodes)
 }
 
-// The places of marks.
-fn places_of(alloc: Global, needs: &[bool]) -> Result<Vec<usize>, Memory>
-    ensures { IfOk result (λ places. places.items ≡ places_from 0 needs.now) }
+// An expander behind the records that are marked.
+fn expander_behind(
+    alloc: Global,
+    name: LibName,
+    path: Symbol,
+    records: &Records,
+    needs: &[bool],
+    names: &[(Symbol, Label)],
+) -> Result<Expander, Stop>
+    ensures { Gives (λ e. e) result (Ok (ready name path (needed_records records.now needs.now) names.now)) }
 {
-    let mut places = Vec::new(alloc);
-    for (place, mark) in needs.iter().enumerate() {
-        if *mark {
-            places.push(place)?;
-        }
-    }
-    Ok(places)
+    Expander::new(alloc, name, path, records.ready(), needs, names)
 }
 
 fn share_version(alloc: Global, version: &[u64]) -> Result<Items<u64>, Memory>

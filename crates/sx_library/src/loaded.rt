@@ -63,7 +63,7 @@ fn all_records<N: Ledger>(
 ) -> Result<Records, Stop>
     ensures { Gives (λ rs. rs) result (all_records libraries.now) }
 {
-    let mut records = Records::new(alloc);
+    let mut records = Records::new(alloc)?;
     for place in 0..libraries.size() {
         let Some((_, found)) = libraries.at(place) else {
             return Err(Stop::Memory);
@@ -94,7 +94,7 @@ pub fn program_text<N: Ledger>(
     let records = all_records(alloc, &loading.done, nodes)?;
     let body = program_body(found.opened.data.as_slice());
     let program = expand_found(alloc, &records, found, body, nodes)?;
-    let records = records.into_records(alloc)?;
+    let records = records.into_records();
     planned_text(alloc, &records, &program)
 }
 

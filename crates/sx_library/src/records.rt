@@ -13,14 +13,14 @@ use std::marker::Model;
 use sx_base::library::LibName;
 use sx_base::memory::Memory;
 use sx_core::record::LibRecord;
-use sx_standing::ready::ReadyRecord;
+use sx_standing::ready::ReadyRecords;
 use sx_standing::share::share_library;
 
 /// Records, and for each name the place of its first. So looking for a library costs the same, however many
 /// libraries there are.
 #[derive(Drop)]
 pub struct Records {
-    list: Vec<ReadyRecord>,
+    list: ReadyRecords,
     places: IndexMap<LibName, usize>,
 }
 
@@ -35,62 +35,62 @@ impl Model for Records {
 
     ghost coded = { coded_list records.the_row.coded };
 
-    ghost view = { λ r. r.list.items };
+    ghost view = { λ r. r.list };
 
-    ghost invariant = { λ r. ArePlaces r.places.entries r.list.items };
+    ghost invariant = { λ r. ArePlaces r.places.entries r.list };
 }
 
 impl Records {
-    /// No records. It takes no memory.
-    pub fn new(alloc: Global) -> Records
-        ensures { result ≡ [] }
+    /// No records.
+    pub fn new(alloc: Global) -> Result<Records, Memory>
+        ensures { IfOk result (λ r. r ≡ []) }
     {
-        Records {
-            list: Vec::new(alloc),
+        let list = ReadyRecords::new(alloc)?;
+        Ok(Records {
+            list,
             places: IndexMap::new(alloc),
-        }
+        })
     }
 
-    /// Puts a record at the end. A refusal changes nothing.
+    /// Puts a record at the end. A second record of one library is refused as want of memory is. After a refusal
+    /// the records are as before, and all else is refused.
     pub fn push(&mut self, alloc: Global, last: LibRecord) -> Result<(), Memory>
         ensures ok { OnOk result (self.new ≡ self.old ++ last ∷ []) }
         ensures err { OnErr result (self.new ≡ self.old) }
     {
-        let place = self.list.len();
+        let place = self.list.as_slice().len();
+        let count = self.places.len();
         let name = share_library(alloc, &last.name)?;
-        let ready = ReadyRecord::new(alloc, last)?;
-        self.list.push(ready)?;
-        match put_place(&mut self.places, name, place) {
+        put_place(&mut self.places, name, place)?;
+        match self.list.push(alloc, last) {
             Ok(()) => Ok(()),
             Err(memory) => {
-                self.list.pop();
+                self.places.truncate(count);
                 Err(memory)
             }
         }
     }
 
-    pub fn as_slice(&self) -> &[ReadyRecord]
+    /// The records, ready for the expansion of one more.
+    pub fn ready(&self) -> &ReadyRecords
         ensures { result.now ≡ self.now }
     {
         &self.list
     }
 
-    /// The records alone.
-    pub fn into_records(self, alloc: Global) -> Result<Vec<LibRecord>, Memory>
-        ensures { IfOk result (λ rs. rs.items ≡ self) }
+    /// The records alone. It takes no memory.
+    pub fn into_records(self) -> Vec<LibRecord>
+        ensures { result.items ≡ self }
     {
-        let mut records = Vec::new(alloc);
-        for ready in self.list {
-            records.push(ready.into_record())?;
-        }
-        Ok(records)
+        self.list.into_records()
     }
 
     fn at(&self, place: usize) -> Option<&LibRecord>
         ensures { option_copied result ≡ slice_get self.now place }
     {
-        if place < self.list.len() {
-            Some(self.list[place].record())
+        let records = self.list.as_slice();
+        if place < records.len() {
+            Some(&records[place])
         } else {
             None
         }

@@ -2,8 +2,9 @@
 
 ghost use Rattle.std.specs.Prelude.{◌≡◌, ◌∷◌, ◌++◌, [], true, false, IfOk, OnOk, OnErr};
 ghost use Rattle.sx_base.specs.Gives.{BareGives};
-ghost use Rattle.sx_frames.specs.Given.{are_apart};
+ghost use Rattle.sx_frames.specs.Given.{flat};
 ghost use Rattle.sx_frames.specs.Listed.{rows_in};
+ghost use Rattle.sx_frames.specs.Needed.{needed_parts, AreApart};
 ghost use Rattle.sx_frames.specs.Scope.{has_frame, bound, adopted, are_new};
 ghost use Rattle.sx_scope.specs.Same.{same_binding};
 ghost use Rattle.sx_scope.specs.Stands.{row_for, stands, is_for};
@@ -13,11 +14,12 @@ use std::alloc::Global;
 use std::marker::Model;
 use std::rc::Rc;
 use sx_base::fault::BareStop;
+use sx_base::items::Items;
 use sx_base::library::LibName;
 use sx_base::memory::Memory;
 use sx_base::name::{FrameNo, Label};
-use sx_frames::given::GivenFrames;
 use sx_frames::kept::KeptFrames;
+use sx_frames::shared::SharedFrames;
 use sx_syntax::syn::Syn;
 use sx_tree::frame_row::FrameRow;
 
@@ -47,6 +49,18 @@ impl Frames {
         Frames {
             alloc,
             frames: KeptFrames::new(alloc),
+        }
+    }
+
+    /// The frames of those libraries of a table that are marked, which come before all that are made in any
+    /// other way. It takes no memory.
+    pub fn over(alloc: Global, shared: Rc<SharedFrames>, needs: Rc<Items<bool>>) -> Frames
+        ensures frames { result ≡ flat (needed_parts needs.value shared.value) }
+        ensures apart { AreApart [] (needed_parts needs.value shared.value) }
+    {
+        Frames {
+            alloc,
+            frames: KeptFrames::over(alloc, shared, needs),
         }
     }
 
@@ -82,17 +96,6 @@ impl Frames {
         ensures err { OnErr result (self.new ≡ self.old) }
     {
         self.frames.adopt(rows)
-    }
-
-    /// Adds the frames of another library, whose tables are shared. They come before all that are made in
-    /// any other way: behind such, or where that library's came before, they are refused as want of memory
-    /// is. A refusal changes nothing.
-    pub fn give(&mut self, given: &GivenFrames) -> Result<(), Memory>
-        ensures ok { OnOk result (self.new ≡ self.old ++ given.now) }
-        ensures apart { OnOk result (are_apart given.now self.old ≡ true) }
-        ensures err { OnErr result (self.new ≡ self.old) }
-    {
-        self.frames.give(given)
     }
 
     /// Binds a leaf in a frame. It is `Duplicate` exactly where the frame has a row with the leaf's

@@ -6,10 +6,12 @@ use std::alloc::Global;
 use std::process::Abort;
 use std::rc::Rc;
 use std::test::Fail;
+use sx_base::items::Items;
 use sx_base::library::LibName;
 use sx_base::memory::Memory;
 use sx_base::symbol::Symbol;
 use sx_frames::given::GivenFrames;
+use sx_frames::shared::SharedFrames;
 use sx_scope::scope::Frames;
 use sx_tree::frame_row::FrameRow;
 use sx_tree::marks::Marks;
@@ -21,11 +23,12 @@ const Z: Spelt = ("z", &[], &[(7, &[]), (3, &[])]);
 /// A frame, a symbol and its label: what the library that is given binds.
 const GIVEN: [Listed; 3] = [(7, "z", 1), (3, "y", 2), (3, "z", 4)];
 
-/// The library that is expanded, and the one that is given.
+/// The library that is expanded, the one that is given, and one that no one needs.
 #[derive(Drop)]
 struct Libraries {
     own: Rc<LibName>,
     other: Rc<LibName>,
+    left: Rc<LibName>,
 }
 
 fn row_of(alloc: Global, library: &Rc<LibName>, row: &Listed) -> Result<FrameRow, Memory> {
@@ -74,42 +77,69 @@ fn both_are_listed(at: &Libraries, frames: &Frames) -> Result<bool, Memory> {
     Ok(own && other)
 }
 
-/// Whether what a library gave is complete, and is given before others grow.
-fn rest_is_refused(
+/// Whether a library that isn't needed has nothing.
+fn left_is_not_found(
     alloc: Global,
     at: &Libraries,
     frames: &mut Frames,
-    given: &GivenFrames,
 ) -> Result<bool, Memory> {
-    let id = leaf(alloc, &at.other, &Y)?;
-    let again = frames.give(given).is_err();
-    let label = label(&at.other, 5)?;
-    let grows = frames.bind(frame(&at.other, 8)?, &id, label).is_ok();
-    Ok(again && !grows)
+    Ok(finds(alloc, &at.left, frames, &Y, 0)? && has_rows(&at.left, frames, &[])?)
 }
 
-fn gives_in(alloc: Global, frames: &mut Frames) -> Result<bool, Memory> {
-    let at = Libraries {
-        own: Rc::new(alloc, LibName::Program)?,
-        other: Rc::new(alloc, LibName::Prelude)?,
-    };
-    let given = given(alloc, &at.other)?;
-    frames.give(&given)?;
+/// Whether what a library gave is complete.
+fn more_is_refused(alloc: Global, at: &Libraries, frames: &mut Frames) -> Result<bool, Memory> {
+    let id = leaf(alloc, &at.other, &Y)?;
+    let label = label(&at.other, 5)?;
+    Ok(frames.bind(frame(&at.other, 8)?, &id, label).is_err())
+}
+
+fn gives_in(alloc: Global, at: &Libraries, frames: &mut Frames) -> Result<bool, Memory> {
     Ok(
-        both_are_found(alloc, &at, frames)?
-            && both_are_listed(&at, frames)?
-            && rest_is_refused(alloc, &at, frames, &given)?
-            && both_are_listed(&at, frames)?,
+        both_are_found(alloc, at, frames)?
+            && both_are_listed(at, frames)?
+            && left_is_not_found(alloc, at, frames)?
+            && more_is_refused(alloc, at, frames)?
+            && both_are_listed(at, frames)?,
     )
 }
 
+fn three(alloc: Global) -> Result<Libraries, Memory> {
+    Ok(Libraries {
+        own: Rc::new(alloc, LibName::Program)?,
+        other: Rc::new(alloc, LibName::Prelude)?,
+        left: Rc::new(alloc, LibName::Derived)?,
+    })
+}
+
+/// Puts the frames of both libraries into a table; whether it takes none of them again.
+fn put_both(alloc: Global, at: &Libraries, shared: &mut SharedFrames) -> Result<bool, Memory> {
+    let left = given(alloc, &at.left)?;
+    let other = given(alloc, &at.other)?;
+    shared.push(&left)?;
+    shared.push(&other)?;
+    Ok(shared.push(&left).is_err() && shared.has(&at.other))
+}
+
+/// The marks of the second library alone.
+fn second(alloc: Global) -> Result<Rc<Items<bool>>, Memory> {
+    let mut marks = Items::new(alloc);
+    marks.push(false)?;
+    marks.push(true)?;
+    let marks = Rc::new(alloc, marks)?;
+    Ok(marks)
+}
+
 fn gives(alloc: Global) -> Result<bool, Memory> {
-    let mut frames = Frames::new(alloc);
-    gives_in(alloc, &mut frames)
+    let at = three(alloc)?;
+    let mut shared = SharedFrames::new(alloc);
+    let once = put_both(alloc, &at, &mut shared)?;
+    let shared = Rc::new(alloc, shared)?;
+    let mut frames = Frames::over(alloc, shared, second(alloc)?);
+    Ok(once && gives_in(alloc, &at, &mut frames)?)
 }
 
 #[test]
-fn what_a_library_gives_is_found_and_is_complete(rt: HostRuntime) -> Result<(), Fail> {
+fn what_a_needed_library_gives_is_found_and_is_complete(rt: HostRuntime) -> Result<(), Fail> {
     assert!(rt; gives(rt.alloc())?);
     Ok(())
 }

@@ -1,5 +1,6 @@
 pub mod Parts
+pub mod NeededLemmas
 pub mod Made
 pub mod Rows
-pub mod Given
+pub mod Adopted
 pub mod Starts

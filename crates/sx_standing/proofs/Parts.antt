@@ -1,11 +1,7 @@
 -- The bindings of complete libraries before those that come later.
 use Rattle.std.specs.Prelude.{◌≡◌, Bool, true, false, not, cond, [], ◌∷◌, ◌++◌, Option, None, Some, is_some, Result, Ok, Err, OnOk, OnErr, refl}
-use Rattle.std.proofs.Common.{sym, ◌∙◌, ap, subst, true≢false, append-nil, append_assoc}
+use Rattle.std.proofs.Common.{sym, ◌∙◌, ap, subst, true≢false, append_assoc}
 use Rattle.std.specs.Map.{lookup}
-use Rattle.std.specs.declared.alloc.Global.{Global}
-use Rattle.std.specs.declared.rc.Rc.{Rc}
-use Rattle.indexmap.specs.IndexMap.{IndexMap, insert_entry}
-use Rattle.indexmap.proofs.CallerLemmas.{insert_entry-new}
 use Rattle.sx_base.specs.Named.{Named}
 use Rattle.sx_base.specs.Same.{same_library, same_library_decides, same_name_cases}
 use Rattle.sx_base.specs.declared.library.LibName.{LibName}
@@ -95,18 +91,18 @@ unbound-right l (b ∷ bs) ys h = unbound-right l bs ys (by (same_label l b.0) h
 
 -- ---- the parts of libraries
 
-abbrev pub is_key : LibName → Rc LibName Global → Bool
-is_key l k = same_library l k.value
+abbrev pub is_key : LibName → LibName → Bool
+is_key l k = same_library l k
 
-abbrev pub or_own : Bound → Option (Rc Bound Global) → Bound
+abbrev pub or_own : Bound → Option Bound → Bound
 or_own own None = own
-or_own own (Some p) = p.value
+or_own own (Some p) = p
 
-is_some-cond : (b : Bool) (p : Rc Bound Global) (o : Option (Rc Bound Global)) → cond b true (is_some o) ≡ is_some (cond b (Some p) o)
+is_some-cond : (b : Bool) (p : Bound) (o : Option Bound) → cond b true (is_some o) ≡ is_some (cond b (Some p) o)
 is_some-cond true p o = refl
 is_some-cond false p o = refl
 
-or_own-cond : (own : Bound) (b : Bool) (p : Rc Bound Global) (o : Option (Rc Bound Global)) → cond b p.value (or_own own o) ≡ or_own own (cond b (Some p) o)
+or_own-cond : (own : Bound) (b : Bool) (p : Bound) (o : Option Bound) → cond b p (or_own own o) ≡ or_own own (cond b (Some p) o)
 or_own-cond own true p o = refl
 or_own-cond own false p o = refl
 
@@ -116,25 +112,18 @@ has_part-lookup l (p ∷ ps) = ap (cond (is_key l p.0) true) (has_part-lookup l 
 
 pub part_of-lookup : (ps : Parts) (own : Bound) (l : LibName) → part_of ps own l ≡ or_own own (lookup (is_key l) ps)
 part_of-lookup [] own l = refl
-part_of-lookup (p ∷ ps) own l = ap (cond (is_key l p.0) p.1.value) (part_of-lookup ps own l) ∙ or_own-cond own (is_key l p.0) p.1 (lookup (is_key l) ps)
+part_of-lookup (p ∷ ps) own l = ap (cond (is_key l p.0) p.1) (part_of-lookup ps own l) ∙ or_own-cond own (is_key l p.0) p.1 (lookup (is_key l) ps)
 
 pub no_part : (l : LibName) (ps : Parts) → has_part l ps ≡ false → lookup (is_key l) ps ≡ None
 no_part l ps h = by (lookup (is_key l) ps) (sym (has_part-lookup l ps) ∙ h)
   where
-    by : (o : Option (Rc Bound Global)) → is_some o ≡ false → o ≡ None
+    by : (o : Option Bound) → is_some o ≡ false → o ≡ None
     by None e = refl
     by (Some x) e = absurd (true≢false e)
 
--- the part that a look-up found
-pub found_part : (l : LibName) (ps : Parts) (own : Bound) (p : Rc Bound Global) → Some p ≡ lookup (is_key l) ps → p.value ≡ part_of ps own l
-found_part l ps own p h = sym (part_of-lookup ps own l ∙ ap (or_own own) (sym h))
-
-pub found_none : (l : LibName) (ps : Parts) (own : Bound) → None ≡ lookup (is_key l) ps → own ≡ part_of ps own l
-found_none l ps own h = sym (part_of-lookup ps own l ∙ ap (or_own own) (sym h))
-
 -- a library without a part is none of the parts'
-not_first : (l : LibName) (p : Rc LibName Global × Rc Bound Global) (ps : Parts) → has_part l (p ∷ ps) ≡ false → (same_library l p.0.value ≡ false) × (has_part l ps ≡ false)
-not_first l p ps h = by (same_library l p.0.value) h
+pub not_first : (l : LibName) (p : LibName × Bound) (ps : Parts) → has_part l (p ∷ ps) ≡ false → (same_library l p.0 ≡ false) × (has_part l ps ≡ false)
+not_first l p ps h = by (same_library l p.0) h
   where
     by : (b : Bool) → cond b true (has_part l ps) ≡ false → (b ≡ false) × (has_part l ps ≡ false)
     by true k = absurd (true≢false k)
@@ -142,16 +131,16 @@ not_first l p ps h = by (same_library l p.0.value) h
 
 pub bound-part : (l : Label) (ps : Parts) (own : Bound) → ArePlaced ps own → bound_to (flat ps ++ own) l ≡ bound_to (part_of ps own l.0.library) l
 bound-part l [] own h = refl
-bound-part l (p ∷ ps) own h = ap (λ (bs : Bound). bound_to bs l) (append_assoc p.1.value (flat ps) own) ∙ by (same_library l.0.library p.0.value) refl (bound-part l ps own h.2)
+bound-part l (p ∷ ps) own h = ap (λ (bs : Bound). bound_to bs l) (append_assoc p.1 (flat ps) own) ∙ by (same_library l.0.library p.0) refl (bound-part l ps own h.2)
   where
-    by : (b : Bool) → same_library l.0.library p.0.value ≡ b → bound_to (flat ps ++ own) l ≡ bound_to (part_of ps own l.0.library) l
-        → bound_to (p.1.value ++ (flat ps ++ own)) l ≡ bound_to (cond b p.1.value (part_of ps own l.0.library)) l
-    by true e i = bound-behind l p.1.value (flat ps ++ own) (unbound-elsewhere p.0.value l (flat ps ++ own) h.1 e)
-    by false e i = bound-before l p.1.value (flat ps ++ own) (unbound-of p.0.value l p.1.value h.0 e) ∙ i
+    by : (b : Bool) → same_library l.0.library p.0 ≡ b → bound_to (flat ps ++ own) l ≡ bound_to (part_of ps own l.0.library) l
+        → bound_to (p.1 ++ (flat ps ++ own)) l ≡ bound_to (cond b p.1 (part_of ps own l.0.library)) l
+    by true e i = bound-behind l p.1 (flat ps ++ own) (unbound-elsewhere p.0 l (flat ps ++ own) h.1 e)
+    by false e i = bound-before l p.1 (flat ps ++ own) (unbound-of p.0 l p.1 h.0 e) ∙ i
 
 -- ---- bindings that come later
 
-elsewhere-append : (k : LibName) (xs ys : Bound) → AreElsewhere k xs → AreElsewhere k ys → AreElsewhere k (xs ++ ys)
+pub elsewhere-append : (k : LibName) (xs ys : Bound) → AreElsewhere k xs → AreElsewhere k ys → AreElsewhere k (xs ++ ys)
 elsewhere-append k [] ys h t = t
 elsewhere-append k (b ∷ bs) ys h t = (h.0, elsewhere-append k bs ys h.1 t)
 
@@ -163,40 +152,11 @@ pub placed-row : (ps : Parts) (own : Bound) (l : Label) (v : Binding) → ArePla
 placed-row [] own l v h k = tt
 placed-row (p ∷ ps) own l v h k =
     let d = not_first l.0.library p ps k in
-    let e = elsewhere-parts p.0.value (flat ps) own h.1 in
-    (h.0, elsewhere-append p.0.value (flat ps) (own ++ (l, v) ∷ []) e.0 (elsewhere-append p.0.value own ((l, v) ∷ []) e.1 (d.0, tt)), placed-row ps own l v h.2 d.1)
+    let e = elsewhere-parts p.0 (flat ps) own h.1 in
+    (h.0, elsewhere-append p.0 (flat ps) (own ++ (l, v) ∷ []) e.0 (elsewhere-append p.0 own ((l, v) ∷ []) e.1 (d.0, tt)), placed-row ps own l v h.2 d.1)
 
 -- after a call that bound a label, or changed nothing
 pub placed_after : {X E : Type 0} (ps : Parts) (own new : Bound) (l : Label) (v : Binding) (r : Result X E)
     → OnOk r (new ≡ own ++ (l, v) ∷ []) → OnErr r (new ≡ own) → ArePlaced ps own → has_part l.0.library ps ≡ false → ArePlaced ps new
 placed_after ps own new l v (Ok x) e u h d = subst (λ (y : Bound). ArePlaced ps y) (sym e) (placed-row ps own l v h d)
 placed_after ps own new l v (Err x) e u h d = subst (λ (y : Bound). ArePlaced ps y) (sym u) h
-
--- ---- a part more
-
-pub flat-more : (ps : Parts) (p : Rc LibName Global × Rc Bound Global) → flat (ps ++ p ∷ []) ≡ flat ps ++ p.1.value
-flat-more [] p = append-nil p.1.value
-flat-more (q ∷ ps) p = ap (λ (y : Bound). q.1.value ++ y) (flat-more ps p) ∙ sym (append_assoc q.1.value (flat ps) p.1.value)
-
-pub placed-more : (ps : Parts) (p : Rc LibName Global × Rc Bound Global) → ArePlaced ps [] → AreOf p.0.value p.1.value → has_part p.0.value ps ≡ false → ArePlaced (ps ++ p ∷ []) []
-placed-more [] p h k d = (k, tt, tt)
-placed-more (q ∷ ps) p h k d =
-    let f = not_first p.0.value q ps d in
-    let more = elsewhere-append q.0.value (flat ps) p.1.value (elsewhere-parts q.0.value (flat ps) [] h.1).0 (elsewhere-of p.0.value q.0.value p.1.value k f.0) in
-    (h.0, subst (λ (y : Bound). AreElsewhere q.0.value y) (sym (append-nil (flat (ps ++ p ∷ [])) ∙ flat-more ps p)) more, placed-more ps p h.2 k f.1)
-
-abbrev pub same_key : Rc LibName Global → Rc LibName Global → Bool
-same_key a b = same_library a.value b.value
-
-pub inserted : {S : Type 0} (m : IndexMap (Rc LibName Global) (Rc Bound Global) S) (k : Rc LibName Global) (v : Rc Bound Global) (new : Parts)
-    → has_part k.value m.entries ≡ false → new ≡ insert_entry same_key m.entries k v → new ≡ m.entries ++ (k, v) ∷ []
-inserted m k v new none e = e ∙ insert_entry-new same_key m k v (no_part k.value m.entries none)
-
-pub placed_given : (ps new : Parts) (own : Bound) (k : Rc LibName Global) (v : Rc Bound Global)
-    → ArePlaced ps own → own ≡ [] → has_part k.value ps ≡ false → AreOf k.value v.value → new ≡ ps ++ (k, v) ∷ [] → ArePlaced new own
-placed_given ps new own k v h e d of is =
-    subst (λ (x : Parts). ArePlaced x own) (sym is) (subst (λ (y : Bound). ArePlaced (ps ++ (k, v) ∷ []) y) (sym e) (placed-more ps (k, v) (subst (ArePlaced ps) e h) of d))
-
-pub flat_given : (ps new : Parts) (own : Bound) (k : Rc LibName Global) (v : Rc Bound Global) → own ≡ [] → new ≡ ps ++ (k, v) ∷ [] → flat new ++ own ≡ (flat ps ++ own) ++ v.value
-flat_given ps new own k v e is =
-    ap (λ (y : Bound). flat new ++ y) e ∙ append-nil (flat new) ∙ ap flat is ∙ flat-more ps (k, v) ∙ ap (λ (y : Bound). y ++ v.value) (sym (append-nil (flat ps)) ∙ ap (λ (y : Bound). flat ps ++ y) (sym e))

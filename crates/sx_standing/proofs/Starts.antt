@@ -1,55 +1,54 @@
--- What records hold, joined in their order.
-use Rattle.std.proofs.Common.{◌≡◌, ℕ, ◌+◌, ◌<◌, ◌≤◌, List, [], ◌∷◌, ◌++◌, Option, None, Some, length, drop, get_or, refl, append_assoc, ap, sym, ◌∙◌, add-one, drop-cons}
-use Rattle.std.specs.Prelude.{Result, Ok, Err, OnOk, slice_get}
-use Rattle.std.proofs.lemmas.List.{drop_all, append-nil}
-use Rattle.sx_base.specs.declared.name.Label.{Label}
+-- What records hold that are marked, joined in their order.
+use Rattle.std.proofs.Common.{◌≡◌, Bool, true, false, cond, List, [], ◌∷◌, ◌++◌, map, refl, append_assoc, append-nil, ap, subst, sym, ◌∙◌}
+use Rattle.sx_frames.specs.Given as of_frames
+use Rattle.sx_frames.specs.Needed as of_scopes
 use Rattle.sx_frames.specs.Scope.{Scope, adopted}
-use Rattle.sx_core.specs.declared.binding.Binding.{Binding}
 use Rattle.sx_core.specs.declared.record.LibRecord.{LibRecord}
-use Rattle.sx_standing.specs.Start.{or_skip, bindings_in, rows_in_record, bindings_of, rows_of, records_at}
-use Rattle.sx_standing.proofs.Given.{adopted_append}
+use Rattle.sx_standing.specs.Known.{Bound, Parts, flat}
+use Rattle.sx_standing.specs.Needed.{needed_parts}
+use Rattle.sx_standing.specs.Ready.{frames_part, bindings_part, needed_records}
+use Rattle.sx_standing.specs.Start.{bindings_of, rows_of}
+use Rattle.sx_frames.proofs.ApartLaws.{given_are_adopted}
+use Rattle.sx_standing.proofs.Adopted.{adopted_append}
 
-bindings_first : (o : Option LibRecord) (rs : List LibRecord) → bindings_of (or_skip o rs) ≡ bindings_in o ++ bindings_of rs
-bindings_first None rs = refl
-bindings_first (Some r) rs = refl
+pub frames-needed : (ms : List Bool) (rs : List LibRecord) → of_scopes.needed_parts ms (map frames_part rs) ≡ map frames_part (needed_records ms rs)
+frames-needed [] rs = refl
+frames-needed (m ∷ ms) [] = refl
+frames-needed (m ∷ ms) (r ∷ rs) = by m (frames-needed ms rs)
+  where
+    by : (b : Bool) → of_scopes.needed_parts ms (map frames_part rs) ≡ map frames_part (needed_records ms rs)
+        → cond b (frames_part r ∷ of_scopes.needed_parts ms (map frames_part rs)) (of_scopes.needed_parts ms (map frames_part rs)) ≡ map frames_part (cond b (r ∷ needed_records ms rs) (needed_records ms rs))
+    by true i = ap (λ (ps : of_frames.Parts). frames_part r ∷ ps) i
+    by false i = i
 
-rows_first : (o : Option LibRecord) (rs : List LibRecord) → rows_of (or_skip o rs) ≡ rows_in_record o ++ rows_of rs
-rows_first None rs = refl
-rows_first (Some r) rs = refl
+pub bindings-needed : (ms : List Bool) (rs : List LibRecord) → needed_parts ms (map bindings_part rs) ≡ map bindings_part (needed_records ms rs)
+bindings-needed [] rs = refl
+bindings-needed (m ∷ ms) [] = refl
+bindings-needed (m ∷ ms) (r ∷ rs) = by m (bindings-needed ms rs)
+  where
+    by : (b : Bool) → needed_parts ms (map bindings_part rs) ≡ map bindings_part (needed_records ms rs)
+        → cond b (bindings_part r ∷ needed_parts ms (map bindings_part rs)) (needed_parts ms (map bindings_part rs)) ≡ map bindings_part (cond b (r ∷ needed_records ms rs) (needed_records ms rs))
+    by true i = ap (λ (ps : Parts). bindings_part r ∷ ps) i
+    by false i = i
 
-module _ (records : List LibRecord) (chosen : List ℕ) (i : ℕ) where
-  -- the place at i, and those behind it
-  chosen_here : i < length chosen → drop i chosen ≡ get_or chosen i 0 ∷ drop (i + 1) chosen
-  chosen_here h = rw add-one (drop-cons chosen i 0 h)
+pub bindings-flat : (rs : List LibRecord) → flat (map bindings_part rs) ≡ bindings_of rs
+bindings-flat [] = refl
+bindings-flat (r ∷ rs) = ap (λ (bs : Bound). r.bindings ++ bs) (bindings-flat rs)
 
-  pub bindings_step : (place : ℕ) (done total new : List (Label × Binding)) → i < length chosen → place ≡ get_or chosen i 0
-      → new ≡ done ++ bindings_in (slice_get records place) → done ++ bindings_of (records_at records (drop i chosen)) ≡ total
-      → new ++ bindings_of (records_at records (drop (i + 1) chosen)) ≡ total
-  bindings_step place done total new h e more so_far =
-      let rest : List LibRecord = records_at records (drop (i + 1) chosen) in
-      let cons : drop i chosen ≡ place ∷ drop (i + 1) chosen = chosen_here h ∙ ap (λ x. x ∷ drop (i + 1) chosen) (sym e) in
-      ap (λ b. b ++ bindings_of rest) more ∙ append_assoc done (bindings_in (slice_get records place)) (bindings_of rest)
-      ∙ ap (λ b. done ++ b) (sym (bindings_first (slice_get records place) rest)) ∙ ap (λ c. done ++ bindings_of (records_at records c)) (sym cons) ∙ so_far
+-- frames of records, each apart from those before it, are those that adopting all their rows gives
+pub frames-flat : (fs : Scope) (rs : List LibRecord) → of_scopes.AreApart fs (map frames_part rs) → fs ++ of_frames.flat (map frames_part rs) ≡ adopted fs (rows_of rs)
+frames-flat fs [] h = append-nil fs
+frames-flat fs (r ∷ rs) h =
+    let own : Scope = adopted [] r.frames in
+    sym (append_assoc fs own (of_frames.flat (map frames_part rs))) ∙ frames-flat (fs ++ own) rs h.1
+    ∙ ap (λ (x : Scope). adopted x (rows_of rs)) (given_are_adopted fs r.frames h.0) ∙ sym (adopted_append fs r.frames (rows_of rs))
 
-  pub rows_step : (place : ℕ) (done total new : Scope) → i < length chosen → place ≡ get_or chosen i 0
-      → new ≡ adopted done (rows_in_record (slice_get records place)) → adopted done (rows_of (records_at records (drop i chosen))) ≡ total
-      → adopted new (rows_of (records_at records (drop (i + 1) chosen))) ≡ total
-  rows_step place done total new h e more so_far =
-      let rest : List LibRecord = records_at records (drop (i + 1) chosen) in
-      let cons : drop i chosen ≡ place ∷ drop (i + 1) chosen = chosen_here h ∙ ap (λ x. x ∷ drop (i + 1) chosen) (sym e) in
-      ap (λ (fs : Scope). adopted fs (rows_of rest)) more ∙ sym (adopted_append done (rows_in_record (slice_get records place)) (rows_of rest))
-      ∙ ap (adopted done) (sym (rows_first (slice_get records place) rest)) ∙ ap (λ c. adopted done (rows_of (records_at records c))) (sym cons) ∙ so_far
+-- the tables of records, and what they hold for those that are marked
+pub frames-ready : (ms : List Bool) (rs : List LibRecord) (ps : of_frames.Parts) → ps ≡ map frames_part rs → of_scopes.AreApart [] (of_scopes.needed_parts ms ps)
+    → of_frames.flat (of_scopes.needed_parts ms ps) ≡ adopted [] (rows_of (needed_records ms rs))
+frames-ready ms rs ps is h =
+    let all : of_scopes.needed_parts ms ps ≡ map frames_part (needed_records ms rs) = ap (of_scopes.needed_parts ms) is ∙ frames-needed ms rs in
+    ap of_frames.flat all ∙ frames-flat [] (needed_records ms rs) (subst (λ (x : of_frames.Parts). of_scopes.AreApart [] x) all h)
 
-  pub bindings_end : (done total : List (Label × Binding)) → length chosen ≤ i → done ++ bindings_of (records_at records (drop i chosen)) ≡ total → total ≡ done
-  bindings_end done total h so_far =
-      let none : drop i chosen ≡ [] = drop_all i chosen h in
-      sym so_far ∙ ap (λ c. done ++ bindings_of (records_at records c)) none ∙ append-nil done
-
-  pub rows_end : (done total : Scope) → length chosen ≤ i → adopted done (rows_of (records_at records (drop i chosen))) ≡ total → total ≡ done
-  rows_end done total h so_far =
-      let none : drop i chosen ≡ [] = drop_all i chosen h in
-      sym so_far ∙ ap (λ c. adopted done (rows_of (records_at records c))) none
-
-pub on_ok : {X E P : Type 0} (r : Result X E) → P → OnOk r P
-on_ok (Ok x) p = p
-on_ok (Err x) p = tt
+pub bindings-ready : (ms : List Bool) (rs : List LibRecord) (ps : Parts) → ps ≡ map bindings_part rs → flat (needed_parts ms ps) ≡ bindings_of (needed_records ms rs)
+bindings-ready ms rs ps is = ap (λ (x : Parts). flat (needed_parts ms x)) is ∙ ap flat (bindings-needed ms rs) ∙ bindings-flat (needed_records ms rs)

@@ -1,10 +1,11 @@
 -- What the labels of libraries that are complete are bound to, before those that are bound later.
 use Rattle.std.specs.Prelude.{◌≡◌, Bool, true, false, List, [], ◌∷◌, ◌++◌, if◌then◌else◌}
-use Rattle.std.specs.declared.alloc.Global.{Global}
-use Rattle.std.specs.declared.rc.Rc.{Rc}
+use Rattle.std.specs.Coded.{Coded, coded×, coded_list}
 use Rattle.sx_base.specs.Same.{same_library}
 use Rattle.sx_base.specs.declared.library.LibName.{LibName}
+use Rattle.sx_base.specs.contracts.library.LibName as libraries
 use Rattle.sx_base.specs.declared.name.Label.{Label}
+use Rattle.sx_core.specs.Bindings.{bindings_code}
 use Rattle.sx_core.specs.declared.binding.Binding.{Binding}
 
 abbrev pub Bound : Type 0
@@ -20,26 +21,36 @@ abbrev pub AreElsewhere : LibName → Bound → Type 0
 AreElsewhere l [] = Unit {0}
 AreElsewhere l (b ∷ bs) = (same_library b.0.0.library l ≡ false) × AreElsewhere l bs
 
+-- a library and what its labels are bound to
+abbrev pub Part : Type 0
+Part = LibName × Bound
+
+abbrev pub part_code : Coded Part
+part_code = coded× libraries.the_row.coded bindings_code
+
 -- what the labels of each library are bound to
 abbrev pub Parts : Type 0
-Parts = List (Rc LibName Global × Rc Bound Global)
+Parts = List Part
+
+abbrev pub parts_code : Coded Parts
+parts_code = coded_list part_code
 
 -- those bindings, library by library
 abbrev pub flat : Parts → Bound
 flat [] = []
-flat (p ∷ ps) = p.1.value ++ flat ps
+flat (p ∷ ps) = p.1 ++ flat ps
 
 -- whether a library has a part
 abbrev pub has_part : LibName → Parts → Bool
 has_part l [] = false
-has_part l (p ∷ ps) = if same_library l p.0.value then true else has_part l ps
+has_part l (p ∷ ps) = if same_library l p.0 then true else has_part l ps
 
 -- the bindings among which those of a library's labels are: its part, or those that came later
 abbrev pub part_of : Parts → Bound → LibName → Bound
 part_of [] own l = own
-part_of (p ∷ ps) own l = if same_library l p.0.value then p.1.value else part_of ps own l
+part_of (p ∷ ps) own l = if same_library l p.0 then p.1 else part_of ps own l
 
 -- each part is of its library, and nothing behind it is
 abbrev pub ArePlaced : Parts → Bound → Type 0
 ArePlaced [] own = Unit {0}
-ArePlaced (p ∷ ps) own = AreOf p.0.value p.1.value × AreElsewhere p.0.value (flat ps ++ own) × ArePlaced ps own
+ArePlaced (p ∷ ps) own = AreOf p.0 p.1 × AreElsewhere p.0 (flat ps ++ own) × ArePlaced ps own

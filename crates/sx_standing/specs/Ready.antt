@@ -1,10 +1,24 @@
--- The frames and bindings of a record, as they are given.
-use Rattle.std.specs.Prelude.{◌≡◌, List, []}
-use Rattle.sx_base.specs.declared.name.Label.{Label}
-use Rattle.sx_frames.specs.Scope.{Scope, adopted}
-use Rattle.sx_core.specs.declared.binding.Binding.{Binding}
+-- Records whose frames and bindings lie in tables of the run, and those that a library needs.
+use Rattle.std.specs.Prelude.{◌≡◌, Bool, List, [], ◌∷◌, map, if◌then◌else◌}
+use Rattle.sx_frames.specs.Given as of_frames
+use Rattle.sx_frames.specs.Scope.{adopted}
 use Rattle.sx_core.specs.declared.record.LibRecord.{LibRecord}
+use Rattle.sx_standing.specs.Known.{Part, Parts}
 
--- the frames that the record's rows make, and what it binds
-abbrev pub AreOfRecord : LibRecord → Scope → List (Label × Binding) → Type 0
-AreOfRecord r fs bs = (fs ≡ adopted [] r.frames) × (bs ≡ r.bindings)
+-- the frames that a record's rows make
+abbrev pub frames_part : LibRecord → of_frames.Part
+frames_part r = (r.name, adopted [] r.frames)
+
+-- what a record binds
+abbrev pub bindings_part : LibRecord → Part
+bindings_part r = (r.name, r.bindings)
+
+-- the tables have the frames and the bindings of each record
+abbrev pub AreReady : List LibRecord → of_frames.Parts → Parts → Type 0
+AreReady rs fs bs = (fs ≡ map frames_part rs) × (bs ≡ map bindings_part rs)
+
+-- the records that are marked; those beyond the marks are not
+abbrev pub needed_records : List Bool → List LibRecord → List LibRecord
+needed_records [] rs = []
+needed_records (m ∷ ms) [] = []
+needed_records (m ∷ ms) (r ∷ rs) = if m then r ∷ needed_records ms rs else needed_records ms rs

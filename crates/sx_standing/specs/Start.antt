@@ -19,14 +19,6 @@ abbrev pub records_at : List LibRecord → List ℕ → List LibRecord
 records_at rs [] = []
 records_at rs (i ∷ is) = or_skip (slice_get rs i) (records_at rs is)
 
-abbrev pub bindings_in : Option LibRecord → List (Label × Binding)
-bindings_in None = []
-bindings_in (Some r) = r.bindings
-
-abbrev pub rows_in_record : Option LibRecord → List FrameRow
-rows_in_record None = []
-rows_in_record (Some r) = r.frames
-
 abbrev pub bindings_of : List LibRecord → List (Label × Binding)
 bindings_of [] = []
 bindings_of (r ∷ rs) = r.bindings ++ bindings_of rs

@@ -1,141 +1,71 @@
 //! What labels are bound to: the bindings of libraries that are complete, which others share, and later ones.
 
 ghost use Rattle.std.specs.Option.{option_copied};
-ghost use Rattle.std.specs.Prelude.{◌≡◌, ◌∷◌, ◌++◌, [], None, true, IfOk, OnOk, OnErr};
+ghost use Rattle.std.specs.Prelude.{◌≡◌, ◌∷◌, ◌++◌, [], None, false, OnOk, OnErr};
 ghost use Rattle.sx_core.specs.Bindings.{bound_to};
-ghost use Rattle.sx_standing.specs.Known.{AreOf, AreElsewhere, part_of};
+ghost use Rattle.sx_base.specs.declared.library.LibName.{LibName};
+ghost use Rattle.sx_standing.specs.Known.{flat, has_part, part_of, AreElsewhere};
+ghost use Rattle.sx_standing.specs.Needed.{needed_parts, parts_given};
 
-use indexmap::IndexMap;
+use crate::needed::NeededBindings;
+use crate::shared::SharedBindings;
 use std::alloc::Global;
 use std::marker::Model;
 use std::rc::Rc;
+use sx_base::items::Items;
 use sx_base::library::LibName;
 use sx_base::memory::Memory;
 use sx_base::name::Label;
 use sx_core::binding::Binding;
 use sx_core::bindings::Bindings;
 
-/// What the labels of a library that is complete are bound to, in a table that is made once. To give it to
-/// those that need the library costs the same, however many bindings there are.
-#[derive(Drop)]
-pub struct GivenBindings {
-    library: Rc<LibName>,
-    rows: Rc<Bindings>,
-}
+type Given = Option<NeededBindings>;
 
-impl Model for GivenBindings {
-    ghost use Rattle.std.specs.Prelude.{List};
-    ghost use Rattle.sx_base.specs.declared.name.Label.{Label};
-    ghost use Rattle.sx_core.specs.declared.binding.Binding.{Binding};
-    ghost use Rattle.sx_core.specs.Bindings.{bindings_code};
-    ghost use Rattle.sx_standing.specs.Known.{AreOf};
-
-    ghost Value = { List (Label × Binding) };
-
-    ghost coded = { bindings_code };
-
-    ghost view = { λ g. g.rows.value };
-
-    ghost invariant = { λ g. AreOf g.library.value g.rows.value };
-}
-
-/// Binds a label of the library. One that is bound already, or is of another library, is refused as want of
-/// memory is.
-fn add_row(
-    library: &LibName,
-    bindings: &mut Bindings,
-    label: &Label,
-    binding: &Binding,
-) -> Result<(), Memory>
-    requires { AreOf library.now bindings.old }
-    ensures row { OnOk result (bindings.new ≡ bindings.old ++ (label.now, binding.now) ∷ []) }
-    ensures of { OnOk result (AreOf library.now bindings.new) }
-{
-    if *label.0.library != *library {
-        return Err(Memory);
-    }
-    if bindings.get(label).is_some() {
-        return Err(Memory);
-    }
-    let label = label.share()?;
-    let binding = binding.share()?;
-    bindings.add(label, binding)
-}
-
-/// What the rows bind.
-fn bindings_of(
-    alloc: Global,
-    library: &LibName,
-    rows: &[(Label, Binding)],
-) -> Result<Bindings, Memory>
-    ensures rows { IfOk result (λ b. b ≡ rows.now) }
-    ensures of { IfOk result (λ b. AreOf library.now b) }
-{
-    let mut bindings = Bindings::new(alloc);
-    for (label, binding) in rows {
-        add_row(library, &mut bindings, label, binding)?;
-    }
-    Ok(bindings)
-}
-
-impl GivenBindings {
-    /// What the labels of a library are bound to. A row of another library's label is refused as want of memory
-    /// is, and so are two rows of one label.
-    pub fn new(
-        alloc: Global,
-        library: Rc<LibName>,
-        rows: &[(Label, Binding)],
-    ) -> Result<GivenBindings, Memory>
-        ensures { IfOk result (λ g. g ≡ rows.now) }
-    {
-        let rows = bindings_of(alloc, &library, rows)?;
-        let rows = Rc::new(alloc, rows)?;
-        Ok(GivenBindings { library, rows })
-    }
-
-    /// Whether they are of a library other than this one, so that none of its labels is there.
-    pub(crate) fn is_of_other(&self, library: &LibName) -> bool
-        ensures { result ≡ true → AreElsewhere library.now self.now }
-    {
-        *self.library != *library
-    }
-}
-
-type Given = IndexMap<Rc<LibName>, Rc<Bindings>>;
-
-/// The bindings of libraries that are complete, in the order of coming, and then those that came later. A label
+/// The bindings of libraries that are complete, of a table that is shared, and then those that came later. A label
 /// is looked for where its library is, so a look-up costs the same, however many libraries there are.
 #[derive(Drop)]
 pub struct KnownBindings {
     given: Given,
     own: Bindings,
-    /// Whether a binding came that no library gave.
-    grown: bool,
 }
 
 impl Model for KnownBindings {
-    ghost use Rattle.std.specs.Prelude.{◌≡◌, ◌++◌, List, [], false};
+    ghost use Rattle.std.specs.Prelude.{◌++◌, List};
     ghost use Rattle.sx_base.specs.declared.name.Label.{Label};
     ghost use Rattle.sx_core.specs.declared.binding.Binding.{Binding};
     ghost use Rattle.sx_core.specs.Bindings.{bindings_code};
     ghost use Rattle.sx_standing.specs.Known.{flat, ArePlaced};
+    ghost use Rattle.sx_standing.specs.Needed.{parts_given};
 
     ghost Value = { List (Label × Binding) };
 
     ghost coded = { bindings_code };
 
-    ghost view = { λ b. flat b.given.entries ++ b.own };
+    ghost view = { λ b. flat (parts_given b.given) ++ b.own };
 
-    ghost invariant = { λ b. ArePlaced b.given.entries b.own × (b.grown ≡ false → b.own ≡ []) };
+    ghost invariant = { λ b. ArePlaced (parts_given b.given) b.own };
 }
 
 /// The bindings among which those of a library's labels are.
 fn part<'a>(given: &'a Given, own: &'a Bindings, library: &Rc<LibName>) -> &'a Bindings
-    ensures { result.now ≡ part_of given.now.entries own.now library.now.value }
+    ensures { result.now ≡ part_of (parts_given given.now) own.now library.now.value }
 {
+    let Some(given) = given else {
+        return own;
+    };
     match given.get(library) {
         Some(part) => part,
         None => own,
+    }
+}
+
+/// Whether a library is one that was given.
+fn is_given(given: &Given, library: &Rc<LibName>) -> bool
+    ensures { result ≡ has_part library.now.value (parts_given given.now) }
+{
+    match given {
+        Some(given) => given.has(library),
+        None => false,
     }
 }
 
@@ -145,9 +75,19 @@ impl KnownBindings {
         ensures { result ≡ [] }
     {
         KnownBindings {
-            given: IndexMap::new(alloc),
+            given: None,
             own: Bindings::new(alloc),
-            grown: false,
+        }
+    }
+
+    /// The bindings of those libraries of a table that are marked. It takes no memory.
+    pub fn over(alloc: Global, shared: Rc<SharedBindings>, needs: Rc<Items<bool>>) -> KnownBindings
+        ensures bindings { result ≡ flat (needed_parts needs.value shared.value) }
+        ensures elsewhere { (l : LibName) → has_part l shared.value ≡ false → AreElsewhere l result }
+    {
+        KnownBindings {
+            given: Some(NeededBindings::new(shared, needs)),
+            own: Bindings::new(alloc),
         }
     }
 
@@ -165,28 +105,9 @@ impl KnownBindings {
         ensures ok { OnOk result (self.new ≡ self.old ++ (label, binding) ∷ []) }
         ensures err { OnErr result (self.new ≡ self.old) }
     {
-        if self.given.contains_key(&label.0.library) {
+        if is_given(&self.given, &label.0.library) {
             return Err(Memory);
         }
-        self.grown = true;
         self.own.add(label, binding)
-    }
-
-    /// Adds the bindings of another library, whose table is shared. They come before those that are added one by
-    /// one: behind such, or where that library's came before, they are refused as want of memory is. A refusal
-    /// changes nothing.
-    pub fn give(&mut self, given: &GivenBindings) -> Result<(), Memory>
-        ensures ok { OnOk result (self.new ≡ self.old ++ given.now) }
-        ensures err { OnErr result (self.new ≡ self.old) }
-    {
-        if self.grown || self.given.contains_key(&given.library) {
-            return Err(Memory);
-        }
-        let library = given.library.clone()?;
-        let rows = given.rows.clone()?;
-        match self.given.insert(library, rows) {
-            Ok(_) => Ok(()),
-            Err(_) => Err(Memory),
-        }
     }
 }

@@ -11,8 +11,8 @@
 //! ```
 //!
 //! All names of the library come from one counter, each once. The state begins with what earlier libraries bind
-//! and with the imported names. The record of a library is made ready once: its frames and bindings are shared by
-//! all libraries that need it, so to begin costs what the imported names cost, however much those libraries bind.
+//! and with the imported names. What a library binds is put once into tables of the run (`ready`), in which the next
+//! one marks what it needs, so to begin costs what the imported names cost, however much those libraries bind.
 //!
 //! The promise: each call gives exactly what its definition gives, or its fault at its place, and leaves exactly
 //! the state that the definition leaves; only want of memory is free.
@@ -20,9 +20,12 @@
 
 pub mod binders;
 pub mod expansion;
+pub mod given;
 pub mod known;
+pub mod needed;
 pub mod own;
 pub mod ready;
 pub mod share;
+pub mod shared;
 pub mod standing;
 pub mod start;

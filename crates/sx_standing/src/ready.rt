@@ -1,65 +1,190 @@
-//! Records whose frames and bindings are ready to be given.
+//! Records of libraries, whose frames and bindings are ready for all that need them.
 
-ghost use Rattle.std.specs.Prelude.{◌≡◌, IfOk};
+ghost use Rattle.std.specs.Prelude.{◌≡◌, ◌∷◌, ◌++◌, [], IfOk, OnOk, OnErr};
+ghost use Rattle.sx_frames.specs.Scope.{adopted};
+ghost use Rattle.sx_standing.specs.Ready.{frames_part, bindings_part, needed_records};
+ghost use Rattle.sx_standing.specs.Start.{second_name, rows_of, bindings_of};
+ghost use Rattle.sx_standing.specs.State.{AreMade};
 
-use crate::known::GivenBindings;
+use crate::given::GivenBindings;
+use crate::known::KnownBindings;
 use crate::share::share_library;
+use crate::shared::SharedBindings;
 use std::alloc::Global;
 use std::marker::Model;
 use std::rc::Rc;
+use sx_base::items::Items;
+use sx_base::library::LibName;
 use sx_base::memory::Memory;
 use sx_core::record::LibRecord;
 use sx_frames::given::GivenFrames;
+use sx_frames::shared::SharedFrames;
+use sx_scope::scope::Frames;
 
-/// The record of a library, made ready once for all that need it.
+/// The tables of a run, which each expansion shares while it lasts.
 #[derive(Drop)]
-pub struct ReadyRecord {
-    record: LibRecord,
-    pub(crate) frames: GivenFrames,
-    pub(crate) bindings: GivenBindings,
+pub struct Tables {
+    frames: Rc<SharedFrames>,
+    bindings: Rc<SharedBindings>,
 }
 
-impl Model for ReadyRecord {
+/// The records of a run, in the order of coming.
+#[derive(Drop)]
+pub struct ReadyRecords {
+    records: Vec<LibRecord>,
+    /// None are left once memory was refused: then all else is refused as well.
+    tables: Option<Tables>,
+}
+
+impl Model for ReadyRecords {
+    ghost use Rattle.std.specs.Prelude.{List, IfSome};
+    ghost use Rattle.std.specs.Coded.{coded_list};
     ghost use Rattle.sx_core.specs.declared.record.LibRecord.{LibRecord};
-    ghost use Rattle.sx_core.specs.contracts.record.LibRecord as records;
-    ghost use Rattle.sx_standing.specs.Ready.{AreOfRecord};
+    ghost use Rattle.sx_core.specs.contracts.record.LibRecord as of_record;
+    ghost use Rattle.sx_standing.specs.Ready.{AreReady};
 
-    ghost Value = { LibRecord };
+    ghost Value = { List LibRecord };
 
-    ghost coded = { records.the_row.coded };
+    ghost coded = { coded_list of_record.the_row.coded };
 
-    ghost view = { λ r. r.record };
+    ghost view = { λ r. r.records.items };
 
-    ghost invariant = { λ r. AreOfRecord r.record r.frames r.bindings };
+    ghost invariant = { λ r. IfSome r.tables (λ t. AreReady r.records.items t.frames.value t.bindings.value) };
 }
 
-impl ReadyRecord {
-    /// Makes a record ready. One that has rows of frames that aren't its library's, or binds labels that aren't,
-    /// is refused as want of memory is, and so is one that binds a label twice, or has two rows with one frame,
-    /// symbol and marks.
-    pub fn new(alloc: Global, record: LibRecord) -> Result<ReadyRecord, Memory>
-        ensures { IfOk result (λ r. r ≡ «record») }
+/// A part more of a table that no expansion shares.
+fn with_frames(
+    alloc: Global,
+    shared: Rc<SharedFrames>,
+    given: &GivenFrames,
+) -> Result<Rc<SharedFrames>, Memory>
+    ensures { IfOk result (λ s. s.value ≡ shared.value ++ given.now ∷ []) }
+{
+    let Ok(table) = Rc::try_unwrap(shared) else {
+        return Err(Memory);
+    };
+    let mut table = table;
+    table.push(given)?;
+    let shared = Rc::new(alloc, table)?;
+    Ok(shared)
+}
+
+fn with_bindings(
+    alloc: Global,
+    shared: Rc<SharedBindings>,
+    given: &GivenBindings,
+) -> Result<Rc<SharedBindings>, Memory>
+    ensures { IfOk result (λ s. s.value ≡ shared.value ++ given.now ∷ []) }
+{
+    let Ok(table) = Rc::try_unwrap(shared) else {
+        return Err(Memory);
+    };
+    let mut table = table;
+    table.push(given)?;
+    let shared = Rc::new(alloc, table)?;
+    Ok(shared)
+}
+
+/// The frames of a record.
+fn frames_of(alloc: Global, one: &LibRecord) -> Result<GivenFrames, Memory>
+    ensures { IfOk result (λ g. g ≡ frames_part one.now) }
+{
+    let library = share_library(alloc, &one.name)?;
+    let library = Rc::new(alloc, library)?;
+    GivenFrames::new(alloc, library, one.frames.as_slice())
+}
+
+/// What a record binds.
+fn bindings_in(alloc: Global, one: &LibRecord) -> Result<GivenBindings, Memory>
+    ensures { IfOk result (λ g. g ≡ bindings_part one.now) }
+{
+    let library = share_library(alloc, &one.name)?;
+    let library = Rc::new(alloc, library)?;
+    GivenBindings::new(alloc, library, one.bindings.as_slice())
+}
+
+fn with_record(alloc: Global, tables: Tables, one: &LibRecord) -> Result<Tables, Memory>
+    ensures frames { IfOk result (λ t. t.frames.value ≡ tables.frames.value ++ frames_part one.now ∷ []) }
+    ensures bindings { IfOk result (λ t. t.bindings.value ≡ tables.bindings.value ++ bindings_part one.now ∷ []) }
+{
+    let given = frames_of(alloc, one)?;
+    let bound = bindings_in(alloc, one)?;
+    let Tables { frames, bindings } = tables;
+    let frames = with_frames(alloc, frames, &given)?;
+    let bindings = with_bindings(alloc, bindings, &bound)?;
+    Ok(Tables { frames, bindings })
+}
+
+impl ReadyRecords {
+    /// No records.
+    pub fn new(alloc: Global) -> Result<ReadyRecords, Memory>
+        ensures { IfOk result (λ r. r ≡ []) }
     {
-        let library = share_library(alloc, &record.name)?;
-        let library = Rc::new(alloc, library)?;
-        let frames = GivenFrames::new(alloc, library.clone()?, record.frames.as_slice())?;
-        let bindings = GivenBindings::new(alloc, library, record.bindings.as_slice())?;
-        Ok(ReadyRecord {
-            record,
-            frames,
-            bindings,
+        let frames = Rc::new(alloc, SharedFrames::new(alloc))?;
+        let bindings = Rc::new(alloc, SharedBindings::new(alloc))?;
+        Ok(ReadyRecords {
+            records: Vec::new(alloc),
+            tables: Some(Tables { frames, bindings }),
         })
     }
 
-    pub fn record(&self) -> &LibRecord
-        ensures { result.now ≡ self.now }
+    /// Puts a record at the end. Refused as want of memory are a second record of one library, while an
+    /// expansion shares the tables, one with rows of frames that aren't its library's or with labels that
+    /// aren't, one that binds a label twice, and one that has two rows with one frame, symbol and marks. After a
+    /// refusal the records are as before, and all else is refused.
+    pub fn push(&mut self, alloc: Global, last: LibRecord) -> Result<(), Memory>
+        ensures ok { OnOk result (self.new ≡ self.old ++ last ∷ []) }
+        ensures err { OnErr result (self.new ≡ self.old) }
     {
-        &self.record
+        let Some(tables) = self.tables.take() else {
+            return Err(Memory);
+        };
+        let tables = with_record(alloc, tables, &last)?;
+        self.records.push(last)?;
+        self.tables = Some(tables);
+        Ok(())
     }
 
-    pub fn into_record(self) -> LibRecord
-        ensures { result ≡ self }
+    pub fn as_slice(&self) -> &[LibRecord]
+        ensures { result.now ≡ self.now }
     {
-        self.record
+        &self.records
+    }
+
+    pub fn into_records(self) -> Vec<LibRecord>
+        ensures { result.items ≡ self }
+    {
+        self.records
+    }
+
+    /// The frames of the records that are marked.
+    pub(crate) fn frames(&self, alloc: Global, needs: Rc<Items<bool>>) -> Result<Frames, Memory>
+        ensures { IfOk result (λ fs. fs ≡ adopted [] (rows_of (needed_records needs.value self.now))) }
+    {
+        let Some(tables) = &self.tables else {
+            return Err(Memory);
+        };
+        let shared = tables.frames.clone()?;
+        Ok(Frames::over(alloc, shared, needs))
+    }
+
+    /// What the records bind that are marked, for the expansion of a library that has none itself.
+    pub(crate) fn bindings(
+        &self,
+        alloc: Global,
+        library: &Rc<LibName>,
+        needs: Rc<Items<bool>>,
+    ) -> Result<KnownBindings, Memory>
+        ensures all { IfOk result (λ bs. bs ≡ bindings_of (needed_records needs.value self.now)) }
+        ensures made { IfOk result (λ bs. AreMade (second_name library.now.value) bs) }
+    {
+        let Some(tables) = &self.tables else {
+            return Err(Memory);
+        };
+        if tables.bindings.has(library) {
+            return Err(Memory);
+        }
+        let shared = tables.bindings.clone()?;
+        Ok(KnownBindings::over(alloc, shared, needs))
     }
 }

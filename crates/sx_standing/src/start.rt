@@ -1,16 +1,15 @@
 //! The state that the expansion of a library begins with (R6RS 7.1).
 
-ghost use Rattle.std.specs.Prelude.{◌≡◌, ◌++◌, ◌∷◌, [], IfOk, OnOk, map, slice_get};
-ghost use Rattle.std.specs.Option.{option_copied};
+ghost use Rattle.std.specs.Prelude.{◌≡◌, IfOk, OnOk, map};
 ghost use Rattle.sx_frames.specs.Scope.{adopted};
-ghost use Rattle.sx_standing.specs.Start.{second_name, first_frame, import_row, rows_of, rows_in_record, bindings_of, bindings_in, records_at, started};
-ghost use Rattle.sx_standing.specs.State.{AreMade};
+ghost use Rattle.sx_standing.specs.Ready.{needed_records};
+ghost use Rattle.sx_standing.specs.Start.{second_name, first_frame, import_row, started};
 
 use crate::expansion::Expansion;
-use crate::known::KnownBindings;
-use crate::ready::ReadyRecord;
+use crate::ready::ReadyRecords;
 use std::alloc::Global;
 use std::rc::Rc;
+use sx_base::items::Items;
 use sx_base::library::LibName;
 use sx_base::memory::Memory;
 use sx_base::name::{FrameNo, Label, Name, Names};
@@ -23,69 +22,16 @@ use sx_tree::marks::Marks;
 /// At most so many uses of keywords are expanded in one library.
 const MOST_USES: u32 = 1_000_000;
 
-fn record_at(records: &[ReadyRecord], place: usize) -> Option<&ReadyRecord>
-    ensures { option_copied result ≡ slice_get records.now place }
+/// The marks, for both tables.
+fn marks_of(alloc: Global, needs: &[bool]) -> Result<Rc<Items<bool>>, Memory>
+    ensures { IfOk result (λ m. m.value ≡ needs.now) }
 {
-    if place < records.len() {
-        Some(&records[place])
-    } else {
-        None
+    let mut marks = Items::new(alloc);
+    for mark in needs {
+        marks.push(*mark)?;
     }
-}
-
-/// Gives what a record of another library holds.
-fn give(
-    library: &LibName,
-    frames: &mut Frames,
-    bindings: &mut KnownBindings,
-    one: &ReadyRecord,
-) -> Result<(), Memory>
-    requires { AreMade (second_name library.now) bindings.old }
-    ensures rows { OnOk result (frames.new ≡ adopted frames.old one.now.frames) }
-    ensures bindings { OnOk result (bindings.new ≡ bindings.old ++ one.now.bindings) }
-    ensures made { OnOk result (AreMade (second_name library.now) bindings.new) }
-{
-    if !one.bindings.is_of_other(library) {
-        return Err(Memory);
-    }
-    frames.give(&one.frames)?;
-    bindings.give(&one.bindings)
-}
-
-fn give_in(
-    library: &LibName,
-    frames: &mut Frames,
-    bindings: &mut KnownBindings,
-    one: Option<&ReadyRecord>,
-) -> Result<(), Memory>
-    requires { AreMade (second_name library.now) bindings.old }
-    ensures rows { OnOk result (frames.new ≡ adopted frames.old (rows_in_record (option_copied one.entry))) }
-    ensures bindings { OnOk result (bindings.new ≡ bindings.old ++ bindings_in (option_copied one.entry)) }
-    ensures made { OnOk result (AreMade (second_name library.now) bindings.new) }
-{
-    match one {
-        None => Ok(()),
-        Some(one) => give(library, frames, bindings, one),
-    }
-}
-
-/// Gives what the records at these places hold.
-fn give_all(
-    library: &LibName,
-    frames: &mut Frames,
-    bindings: &mut KnownBindings,
-    records: &[ReadyRecord],
-    chosen: &[usize],
-) -> Result<(), Memory>
-    requires { AreMade (second_name library.now) bindings.old }
-    ensures rows { OnOk result (frames.new ≡ adopted frames.old (rows_of (records_at records.now chosen.now))) }
-    ensures bindings { OnOk result (bindings.new ≡ bindings.old ++ bindings_of (records_at records.now chosen.now)) }
-    ensures made { OnOk result (AreMade (second_name library.now) bindings.new) }
-{
-    for place in chosen {
-        give_in(library, frames, bindings, record_at(records, *place))?;
-    }
-    Ok(())
+    let marks = Rc::new(alloc, marks)?;
+    Ok(marks)
 }
 
 /// The row of an imported name in the library's frame.
@@ -158,25 +104,25 @@ fn names_of(library: &Rc<LibName>) -> Result<Names, Memory>
 }
 
 impl Expansion {
-    /// The state that the expansion of a library begins with. The records before the library stand among
-    /// the earlier ones at the places chosen, and the imports are names with their labels. Two records of one
-    /// library, one of the library itself, and two imports of one name are refused as want of memory is.
-    #[tactic(auto, unfolding(crate::specs::Start::started), using(crate::proofs::Given::adopted_append))]
+    /// The state that the expansion of a library begins with. The records before the library are those of the
+    /// earlier ones that are marked, and the imports are names with their labels. A record of the library itself
+    /// and two imports of one name are refused as want of memory is.
+    #[tactic(auto, unfolding(crate::specs::Start::started), using(crate::proofs::Adopted::adopted_append))]
     pub fn start(
         alloc: Global,
         library: LibName,
-        records: &[ReadyRecord],
-        chosen: &[usize],
+        earlier: &ReadyRecords,
+        needs: &[bool],
         imports: &[(Symbol, Label)],
     ) -> Result<Expansion, Memory>
-        ensures { IfOk result (λ e. e ≡ started library (records_at records.now chosen.now) imports.now) }
+        ensures { IfOk result (λ e. e ≡ started library (needed_records needs.now earlier.now) imports.now) }
     {
         let library = Rc::new(alloc, library)?;
         let names = names_of(&library)?;
         let frame = frame_of(&library)?;
-        let mut frames = Frames::new(alloc);
-        let mut bindings = KnownBindings::new(alloc);
-        give_all(&library, &mut frames, &mut bindings, records, chosen)?;
+        let marks = marks_of(alloc, needs)?;
+        let mut frames = earlier.frames(alloc, marks.clone()?)?;
+        let bindings = earlier.bindings(alloc, &library, marks)?;
         adopt_imports(alloc, &mut frames, &frame, imports)?;
         Ok(Expansion {
             alloc,

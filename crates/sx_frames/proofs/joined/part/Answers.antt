@@ -1,13 +1,17 @@
-use Rattle.std.proofs.Common.{sym, ap, ◌∙◌}
+use Rattle.std.proofs.Common.{Option, sym, ap, ◌∙◌}
+use Rattle.sx_frames.specs.Given.{Parts, part_of}
+use Rattle.sx_frames.specs.Needed.{parts_given}
 use Rattle.sx_frames.proofs.GivenLemmas.{part_of-lookup, or_own}
 use Rattle.sx_frames.proofs.joined.part.Goals as goal
 
-pub returns-in-Some : goal.returns-in-Some
-returns-in-Some c =
+pub returns-in-Some-get : goal.returns-in-Some-get
+returns-in-Some-get c =
     let own = c.args.own.now in
-    c.deref.ensures ∙ ap (or_own own) c.in-Some.ensures.value ∙ sym (part_of-lookup c.args.given.now.entries own c.args.library.now.value)
+    let l = c.args.library.now.value in
+    ap (or_own own) c.in-Some-get.ensures ∙ sym (part_of-lookup c.in-Some.given own l) ∙ ap (λ (o : Option Parts). part_of (parts_given o) own l) (sym c.in-Some.is)
 
 pub returns-in-None : goal.returns-in-None
 returns-in-None c =
     let own = c.args.own.now in
-    ap (or_own own) c.in-None.ensures.value ∙ sym (part_of-lookup c.args.given.now.entries own c.args.library.now.value)
+    let l = c.args.library.now.value in
+    ap (or_own own) c.in-None.ensures ∙ sym (part_of-lookup c.in-Some.given own l) ∙ ap (λ (o : Option Parts). part_of (parts_given o) own l) (sym c.in-Some.is)

@@ -1,9 +1,17 @@
-use Rattle.std.proofs.Common.{◌∙◌}
-use Rattle.sx_standing.proofs.Parts.{found_part, found_none}
+use Rattle.std.proofs.Common.{Option, sym, ap, ◌∙◌}
+use Rattle.sx_standing.specs.Known.{Parts, part_of}
+use Rattle.sx_standing.specs.Needed.{parts_given}
+use Rattle.sx_standing.proofs.Parts.{part_of-lookup, or_own}
 use Rattle.sx_standing.proofs.known.part.Goals as goal
 
-pub returns-in-Some : goal.returns-in-Some
-returns-in-Some c = c.deref.ensures ∙ found_part c.args.library.now.value c.args.given.now.entries c.args.own.now c.in-Some.part.now c.in-Some.ensures.value
+pub returns-in-Some-get : goal.returns-in-Some-get
+returns-in-Some-get c =
+    let own = c.args.own.now in
+    let l = c.args.library.now.value in
+    ap (or_own own) c.in-Some-get.ensures ∙ sym (part_of-lookup c.in-Some.given own l) ∙ ap (λ (o : Option Parts). part_of (parts_given o) own l) (sym c.in-Some.is)
 
 pub returns-in-None : goal.returns-in-None
-returns-in-None c = found_none c.args.library.now.value c.args.given.now.entries c.args.own.now c.in-None.ensures.value
+returns-in-None c =
+    let own = c.args.own.now in
+    let l = c.args.library.now.value in
+    ap (or_own own) c.in-None.ensures ∙ sym (part_of-lookup c.in-Some.given own l) ∙ ap (λ (o : Option Parts). part_of (parts_given o) own l) (sym c.in-Some.is)

@@ -1,7 +1,7 @@
 use Rattle.std.proofs.Common.{List, ap, sym, ◌∙◌}
 use Rattle.sx_tree.specs.declared.frame_row.FrameRow.{FrameRow}
 use Rattle.sx_frames.specs.Scope.{are_new}
-use Rattle.sx_standing.proofs.Given.{imports-new}
+use Rattle.sx_standing.proofs.Adopted.{imports-new}
 use Rattle.sx_standing.proofs.start.adopt_imports.Goals as goal
 
 pub adopt-requires : goal.adopt-requires

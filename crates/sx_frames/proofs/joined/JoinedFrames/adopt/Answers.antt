@@ -2,16 +2,17 @@ use Rattle.std.proofs.Common.{sym, ap, ◌∙◌, ◌++◌}
 use Rattle.std.proofs.lemmas.Result.{on_ok_weaker}
 use Rattle.sx_frames.specs.Given.{flat}
 use Rattle.sx_frames.specs.Scope.{Scope, are_new, adopted}
+use Rattle.sx_frames.specs.Needed.{parts_given}
 use Rattle.sx_frames.proofs.GivenLemmas.{are_new-right, placed_adopted, placed_after, adopted_behind}
 use Rattle.sx_frames.proofs.joined.JoinedFrames.adopt.Goals as goal
 
 pub adopt-requires : goal.adopt-requires
 adopt-requires c =
-    are_new-right c.args.rows.now (flat c.self.inside.given.entries) c.self.inside.own (ap (are_new c.args.rows.now) c.self.view_is ∙ c.requires)
+    are_new-right c.args.rows.now (flat (parts_given c.self.inside.given)) c.self.inside.own (ap (are_new c.args.rows.now) c.self.view_is ∙ c.requires)
 
 pub invariant_of-self : goal.invariant_of-self
 invariant_of-self c =
-    let ps = c.self.inside.given.entries in
+    let ps = (parts_given c.self.inside.given) in
     let own = c.self.inside.own in
     let rs = c.args.rows.now in
     placed_after ps own c.adopt.new.self (adopted own rs) c.adopt.result c.adopt.ensures.ok c.adopt.ensures.err
@@ -19,7 +20,7 @@ invariant_of-self c =
 
 pub returns-clause-ok : goal.returns-clause-ok
 returns-clause-ok c =
-    let ps = c.self.inside.given.entries in
+    let ps = (parts_given c.self.inside.given) in
     let own = c.self.inside.own in
     let rs = c.args.rows.now in
     on_ok_weaker c.adopt.result

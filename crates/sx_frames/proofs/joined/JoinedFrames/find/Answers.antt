@@ -1,6 +1,7 @@
 use Rattle.std.proofs.Common.{sym, ap, ◌∙◌, List}
 use Rattle.sx_frames.specs.Rows.{Row, label_in}
 use Rattle.sx_frames.specs.Scope.{rows_at}
+use Rattle.sx_frames.specs.Needed.{parts_given}
 use Rattle.sx_frames.proofs.GivenLemmas.{rows_at-part}
 use Rattle.sx_frames.proofs.joined.JoinedFrames.find.Goals as goal
 
@@ -10,4 +11,4 @@ returns c =
     let k = c.args.key.now in
     c.find.ensures
     ∙ ap (λ (rs : List Row). label_in rs k.symbol k.marks)
-    (ap (rows_at f) c.part_of_frame.ensures ∙ sym (rows_at-part f c.self.inside.given.entries c.self.inside.own c.self.invariant) ∙ ap (rows_at f) c.self.view_is)
+    (ap (rows_at f) c.part_of_frame.ensures ∙ sym (rows_at-part f (parts_given c.self.inside.given) c.self.inside.own c.self.invariant) ∙ ap (rows_at f) c.self.view_is)

@@ -1,16 +1,17 @@
-use Rattle.std.proofs.Common.{ap, sym, ◌∙◌, true≢false}
+use Rattle.std.proofs.Common.{ap, sym, ◌∙◌}
 use Rattle.sx_base.specs.declared.name.Label.{Label}
 use Rattle.sx_core.specs.Bindings.{bound_to}
 use Rattle.sx_standing.specs.Known.{Bound, flat, has_part}
-use Rattle.sx_standing.proofs.Parts.{unbound-right, has_part-lookup, placed_after}
+use Rattle.sx_standing.specs.Needed.{parts_given}
+use Rattle.sx_standing.proofs.Parts.{unbound-right, placed_after}
 use Rattle.sx_standing.proofs.known.KnownBindings.add.Goals as goal
 
 pub add-requires : goal.add-requires
 add-requires c =
-    unbound-right c.args.label (flat c.self.inside.given.entries) c.self.inside.own (ap (λ (bs : Bound). bound_to bs c.args.label) c.self.view_is ∙ c.requires)
+    unbound-right c.args.label (flat (parts_given c.self.inside.given)) c.self.inside.own (ap (λ (bs : Bound). bound_to bs c.args.label) c.self.view_is ∙ c.requires)
 
 pub invariant_of-self : goal.invariant_of-self
 invariant_of-self c =
-    let ps = c.self.inside.given.entries in
-    let none = ap (λ (l : Label). has_part l.0.library ps) (sym c.label.view_is) ∙ has_part-lookup c.label.inside.0.0.library.value ps ∙ sym c.if-contains_key.ensures in
-    (placed_after ps c.self.inside.own c.add.new.self c.args.label c.args.binding c.add.result c.add.ensures.ok c.add.ensures.err c.self.invariant.0 none, λ e. absurd (true≢false e))
+    let ps = parts_given c.self.inside.given in
+    let none = ap (λ (l : Label). has_part l.0.library ps) (sym c.label.view_is) ∙ sym c.if-is_given.ensures in
+    placed_after ps c.self.inside.own c.add.new.self c.args.label c.args.binding c.add.result c.add.ensures.ok c.add.ensures.err c.self.invariant none

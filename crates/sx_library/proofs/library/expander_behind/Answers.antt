@@ -1,0 +1,12 @@
+use Rattle.std.proofs.Common.{List, Ok, ap, subst, sym, ◌∙◌}
+use Rattle.sx_base.specs.Gives.{Gives}
+use Rattle.sx_core.specs.declared.record.LibRecord.{LibRecord}
+use Rattle.sx_expand.specs.Expanding.{Expanding, ready}
+use Rattle.sx_standing.specs.Ready.{needed_records}
+use Rattle.sx_library.proofs.PlaceLemmas.{at_marks}
+use Rattle.sx_library.proofs.library.expander_behind.Goals as goal
+
+pub returns : goal.returns
+returns c =
+    subst (λ (rs : List LibRecord). Gives (λ (e : Expanding). e) c.new.result (Ok (ready c.args.name c.args.path rs c.args.names.now)))
+    (ap (needed_records c.args.needs.now) c.ready.ensures ∙ sym (at_marks c.args.needs.now c.args.records.now)) c.new.ensures
