@@ -20,6 +20,7 @@ use Rattle.sx_expand_laws.specs.Trees.{LeavesAre}
 use Rattle.sx_expand_laws.proofs.Acts.{Gave, gave-after, gave-each}
 use Rattle.sx_expand_laws.proofs.Fresh.{Made, FreshLabels, label_name, fresh-none, fresh-one, fresh-append, each-append, each-map, among-first, among-second}
 use Rattle.sx_expand_laws.proofs.TreeLemmas.{SpecLeaves}
+use Rattle.sx_expand_laws.proofs.Grows.{no-top}
 use Rattle.sx_expand_laws.proofs.Sound.{but-self, but-then, old-later}
 use Rattle.sx_expand_laws.proofs.Naming.{Binds, binds, next-made}
 
@@ -70,7 +71,7 @@ module _ (own : LibName) (given : List Label) (f : FrameNo) (mine : IsOwn own f.
   binds-all place level ids s h old =
       gave-each (bind_variable f place level false) (λ id. Unit {0}) (λ id t l u. Binds own given f id t l u) (λ xs t ls u. BindsAll own given f t ls u) Start
       (λ t k. bound-none t k.0)
-      (λ id t g k. binds own given f place level false id t mine k.1 k.0)
+      (λ id t g k. binds own given f place level false id t (no-top own f) mine k.1 k.0)
       (λ id t u l k b. starts id t u l k b)
       (λ id xs t u v l ls k b a. bound-more-labels id t u v l ls k.0 b a)
       ids s (all-unit ids) (h, old)
@@ -83,7 +84,7 @@ module _ (own : LibName) (given : List Label) (f : FrameNo) (mine : IsOwn own f.
   binds-rest : (place : Span) (level : ℕ) (o : Option Tree) (s : State) → Sound own given s → IsOld own s f → Gave (λ r t. BindsAll own given f s (rest_labels r) t) (bind_rest f place level o s)
   binds-rest place level None s h old = bound-none s h
   binds-rest place level (Some id) s h old =
-      gave-after (Binds own given f id s) (λ r t. BindsAll own given f s (rest_labels r) t) (bind_variable f place level false id s) (λ l. give (Some l)) (binds own given f place level false id s mine old h)
+      gave-after (Binds own given f id s) (λ r t. BindsAll own given f s (rest_labels r) t) (bind_variable f place level false id s) (λ l. give (Some l)) (binds own given f place level false id s (no-top own f) mine old h)
       (λ l t b. bound-more-labels id s t t l [] h b (bound-none t b.later.sound))
 
   pub binds-formals : (place : Span) (level : ℕ) (ids : FormalIds) (s : State) → Sound own given s → IsOld own s f → Gave (λ x t. BindsAll own given f s (formals_labels x) t) (bind_formals f place level ids s)
@@ -112,7 +113,7 @@ module _ (own : LibName) (given : List Label) (f : FrameNo) (mine : IsOwn own f.
     binds-spec : (place : Span) (level : ℕ) (b : BindingSpec) (s : State) → SpecLeaves In b → Sound own given s → IsOld own s f → Gave (BindsSpec b s) (bind_spec f place level b s)
     unfolding bind_spec
     binds-spec place level b s g h old =
-        gave-after (Binds own given f b.id s) (BindsSpec b s) (bind_variable f place level false b.id s) (λ l. give (record { label = l; init = b.init })) (binds own given f place level false b.id s mine old h)
+        gave-after (Binds own given f b.id s) (BindsSpec b s) (bind_variable f place level false b.id s) (λ l. give (record { label = l; init = b.init })) (binds own given f place level false b.id s (no-top own f) mine old h)
         (λ l t k. record { binds = k; leaves = g })
 
     pub binds-specs : (place : Span) (level : ℕ) (bs : List BindingSpec) (s : State) → Each (SpecLeaves In) bs → Sound own given s → IsOld own s f → Gave (BindsSpecs s) (bind_specs f place level bs s)

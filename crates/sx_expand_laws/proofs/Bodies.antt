@@ -17,7 +17,7 @@ use Rattle.sx_core.specs.declared.record.Line.{Line}
 use Rattle.sx_core.specs.declared.record.Line.TheVariants as line
 use Rattle.sx_core_laws.specs.Words.{Each, Among}
 use Rattle.sx_standing.specs.State.{State, fresh, fresh_frame}
-use Rattle.sx_heads.specs.Items.{begun}
+use Rattle.sx_heads.specs.Items.{begun, is_top}
 use Rattle.sx_heads.specs.declared.taken.BodyAt.{BodyAt}
 use Rattle.sx_heads.specs.declared.taken.Taken.{Taken}
 use Rattle.sx_heads.specs.declared.taken.Waiting.{Waiting}
@@ -30,6 +30,7 @@ use Rattle.sx_expand_laws.specs.Trees.{LeavesAre, AllLeavesAre}
 use Rattle.sx_expand_laws.proofs.Acts.{Gave, gave-after, gave-less, gave-if, gave-each, gave-gather}
 use Rattle.sx_expand_laws.proofs.Fresh.{Made, label_name, each-map, among-first, among-second, fresh-none}
 use Rattle.sx_expand_laws.proofs.TreeLemmas.{IfThere, all-stamped}
+use Rattle.sx_expand_laws.proofs.Grows.{IsPlaced, no-top}
 use Rattle.sx_expand_laws.proofs.Sound.{later-self, later-then, but-self, but-then, later-new, old-later}
 use Rattle.sx_expand_laws.proofs.Naming.{as_frame, counted, counted-sound, counted-later, next-made}
 use Rattle.sx_expand_laws.proofs.Good.{InTurn, Good, GoodCase, good-quoted, good-one_armed, good-lambda, good-wider}
@@ -125,12 +126,12 @@ module _ (own : LibName) (given : List Label) (go : Inside) (safe : Safe own giv
 
   -- The first pass over forms that the frame of the body was stamped on.
 
-  pub gives-taken : (at : BodyAt) (depth first : ℕ) (frames : List FrameNo) (d : Taken) (forms : List Tree) (s : State) → Sound own given s → IsOwn own at.frame.0 → IsOld own s at.frame
+  pub gives-taken : (at : BodyAt) (depth first : ℕ) (frames : List FrameNo) (d : Taken) (forms : List Tree) (s : State) → Sound own given s → IsPlaced own (is_top at.kind) at.frame → IsOwn own at.frame.0 → IsOld own s at.frame
       → AllLeavesAre (IsIn own frames) forms → Took own frames at.frame first d s → Gave (Takes own given frames at.frame first s) (splice go at depth d forms s)
-  gives-taken at depth first frames d forms s sound mine old g k =
+  gives-taken at depth first frames d forms s sound placed mine old g k =
       gave-gather (go.item at depth) (LeavesAre (IsIn own frames)) (λ e t. Takes own given frames at.frame first s e t)
       (λ e x t i j. gave-less (Takes own given frames at.frame first t) (Takes own given frames at.frame first s) (go.item at depth e x t)
-      (safe.item at depth e x t frames first j.later.sound mine (old-later own s t at.frame j.later.up old) i j.took)
+      (safe.item at depth e x t frames first j.later.sound placed mine (old-later own s t at.frame j.later.up old) i j.took)
       (λ y u l. record { later = but-then own given at.frame s t u j.later l.later; took = l.took }))
       d forms s g (record { later = but-self own given at.frame s sound; took = k })
 
@@ -170,7 +171,7 @@ module _ (own : LibName) (given : List Label) (go : Inside) (safe : Safe own giv
         gave-after (Takes own given (as_frame s.names ∷ frames) (as_frame s.names) (counted s).names.number (counted s)) (Gives own given ls s)
         (splice go (lambda_at (as_frame s.names) place level) depth begun (map (stamp (as_frame s.names)) forms) (counted s)) (finish go place level t)
         (gives-taken (lambda_at (as_frame s.names) place level) depth (counted s).names.number (as_frame s.names ∷ frames) begun (map (stamp (as_frame s.names)) forms) (counted s)
-        (counted-sound own given s sound) sound.next (λ mine. omega arith)
+        (counted-sound own given s sound) (no-top own (as_frame s.names)) sound.next (λ mine. omega arith)
         (all-stamped (IsIn own frames) (IsIn own (as_frame s.names ∷ frames)) (as_frame s.names) (in-more own frames (as_frame s.names)) (in-new own frames (as_frame s.names)) forms g)
         (took-none (as_frame s.names ∷ frames) s sound))
         (λ d u k. gives-finished d s u sound reach k)

@@ -11,6 +11,7 @@ use Rattle.sx_core.specs.declared.code.Lambda.{Lambda}
 use Rattle.sx_core_laws.specs.Words.{Each, Among}
 use Rattle.sx_shapes.specs.declared.shape.FormalIds.{FormalIds}
 use Rattle.sx_standing.specs.State.{State}
+use Rattle.sx_heads.specs.Items.{is_top}
 use Rattle.sx_heads.specs.declared.taken.BodyAt.{BodyAt}
 use Rattle.sx_heads.specs.declared.taken.Taken.{Taken}
 use Rattle.sx_expand.specs.Body.{sequence_of}
@@ -21,6 +22,7 @@ use Rattle.sx_expand_laws.specs.Trees.{LeavesAre, AllLeavesAre}
 use Rattle.sx_expand_laws.proofs.Acts.{Gave, gave-after, gave-each}
 use Rattle.sx_expand_laws.proofs.Fresh.{Made, Apart, each-at}
 use Rattle.sx_expand_laws.proofs.TreeLemmas.{IfThere}
+use Rattle.sx_expand_laws.proofs.Grows.{IsPlaced}
 use Rattle.sx_expand_laws.proofs.Sound.{later-self, later-then}
 use Rattle.sx_expand_laws.proofs.Good.{InTurn, Good, GoodCase, IsFrom, Before, good-one_armed, good-two_armed, good-assignment, good-call, good-wider, good-sequence}
 use Rattle.sx_expand_laws.proofs.Meanings.{reach-later}
@@ -42,7 +44,7 @@ pub record Safe (own : LibName) (given : List Label) (go : Inside) : Type 0 wher
   pub procedure : (place : Span) (level depth : ℕ) (t : Tree) (ids : FormalIds) (forms : List Tree) (s : State) (frames : List FrameNo) (ls : List Label)
       → Sound own given s → Reach own given frames s ls → AllLeavesAre (IsIn own frames) forms → Gave (GivesCase own given ls s) (go.procedure place level depth t ids forms s)
   pub item : (at : BodyAt) (depth : ℕ) (d : Taken) (t : Tree) (s : State) (frames : List FrameNo) (first : ℕ)
-      → Sound own given s → IsOwn own at.frame.0 → IsOld own s at.frame → LeavesAre (IsIn own frames) t → Took own frames at.frame first d s
+      → Sound own given s → IsPlaced own (is_top at.kind) at.frame → IsOwn own at.frame.0 → IsOld own s at.frame → LeavesAre (IsIn own frames) t → Took own frames at.frame first d s
       → Gave (Takes own given frames at.frame first s) (go.item at depth d t s)
 
 -- a frame more

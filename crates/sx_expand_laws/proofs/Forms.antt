@@ -23,7 +23,7 @@ use Rattle.sx_shapes.specs.declared.shape.LambdaCase.{LambdaCase}
 use Rattle.sx_standing.specs.Binders.{bind_formals, bind_specs}
 use Rattle.sx_standing.specs.State.{State, fresh, fresh_frame}
 use Rattle.sx_standing.specs.declared.binders.BoundSpec.{BoundSpec}
-use Rattle.sx_heads.specs.Items.{item_plan}
+use Rattle.sx_heads.specs.Items.{item_plan, is_top}
 use Rattle.sx_heads.specs.Plan.{plan_of}
 use Rattle.sx_heads.specs.declared.plan.Plan.{Plan}
 use Rattle.sx_heads.specs.declared.plan.Plan.TheVariants as plans
@@ -37,6 +37,7 @@ use Rattle.sx_expand_laws.specs.Trees.{LeavesAre, AllLeavesAre}
 use Rattle.sx_expand_laws.proofs.Acts.{Gave, gave-after, gave-less, gave-if, gave-each}
 use Rattle.sx_expand_laws.proofs.Fresh.{Made, FreshLabels, label_name, code_name, each-map, fresh-wider, fresh-append, made-apart}
 use Rattle.sx_expand_laws.proofs.TreeLemmas.{CaseLeaves, SpecLeaves, OptionLeavesAre, leaves-stamped, all-stamped}
+use Rattle.sx_expand_laws.proofs.Grows.{IsPlaced}
 use Rattle.sx_expand_laws.proofs.Sound.{later-self, later-then, but-self, but-then, later-new, old-later}
 use Rattle.sx_expand_laws.proofs.Naming.{as_frame, counted, counted-sound, counted-later, next-made}
 use Rattle.sx_expand_laws.proofs.Good.{InTurn, Good, GoodCase, GoodInit, GoodInits, Before, label_of, good-lambda, good-case_lambda, good-wider, inner-wider, inits-wider, good-inits, good-letrec}
@@ -231,30 +232,30 @@ module _ (own : LibName) (given : List Label) (go : Inside) (safe : Safe own giv
   -- A form of a body.
 
   module _ (at : BodyAt) (frames : List FrameNo) (first : ℕ) where
-    gives-spliced : (depth : ℕ) (d : Taken) (o : Option (List Tree)) (s : State) → IsOwn own at.frame.0 → IsOld own s at.frame → Takes own given frames at.frame first s d s → OptionLeavesAre (IsIn own frames) o
+    gives-spliced : (depth : ℕ) (d : Taken) (o : Option (List Tree)) (s : State) → IsPlaced own (is_top at.kind) at.frame → IsOwn own at.frame.0 → IsOld own s at.frame → Takes own given frames at.frame first s d s → OptionLeavesAre (IsIn own frames) o
         → Gave (Takes own given frames at.frame first s) (spliced go at depth d o s)
-    gives-spliced depth d None s mine old k g = k
-    gives-spliced depth d (Some forms) s mine old k g = gives-taken own given go safe at (deeper depth) first frames d forms s k.later.sound mine old g k.took
+    gives-spliced depth d None s placed mine old k g = k
+    gives-spliced depth d (Some forms) s placed mine old k g = gives-taken own given go safe at (deeper depth) first frames d forms s k.later.sound placed mine old g k.took
 
-    pub gives-item : (depth : ℕ) (d : Taken) (t : Tree) (s : State) → Sound own given s → IsOwn own at.frame.0 → IsOld own s at.frame → LeavesAre (IsIn own frames) t → Took own frames at.frame first d s
+    pub gives-item : (depth : ℕ) (d : Taken) (t : Tree) (s : State) → Sound own given s → IsPlaced own (is_top at.kind) at.frame → IsOwn own at.frame.0 → IsOld own s at.frame → LeavesAre (IsIn own frames) t → Took own frames at.frame first d s
         → Gave (Takes own given frames at.frame first s) (item go at depth d t s)
     unfolding item
-    gives-item depth d t s sound mine old g k =
+    gives-item depth d t s sound placed mine old g k =
         gave-if (Takes own given frames at.frame first s) (nat_lt 600 depth) _ (after (item_plan at depth d t s) (λ p. spliced go at depth p.0 p.1)) (λ e. tt)
         (λ e. gave-after (Comes own given frames at.frame first s) (Takes own given frames at.frame first s) (item_plan at depth d t s) (λ p. spliced go at depth p.0 p.1)
-        (takes-item own given frames at.frame first s sound at refl mine old depth d k t g)
+        (takes-item own given frames at.frame first s sound at refl placed mine old depth d k t g)
         (λ p u j. gave-less (Takes own given frames at.frame first u) (Takes own given frames at.frame first s) (spliced go at depth p.0 p.1 u)
-        (gives-spliced depth p.0 p.1 u mine (old-later own s u at.frame j.takes.later.up old) (record { later = but-self own given at.frame u j.takes.later.sound; took = j.takes.took }) j.forms)
+        (gives-spliced depth p.0 p.1 u placed mine (old-later own s u at.frame j.takes.later.up old) (record { later = but-self own given at.frame u j.takes.later.sound; took = j.takes.took }) j.forms)
         (λ y v l. record { later = but-then own given at.frame s u v j.takes.later l.later; took = l.took })))
 
 -- So it is done inside forms, however deep they may nest.
 pub inside-safe : (own : LibName) (given : List Label) (room : ℕ) → Safe own given (inside room)
 unfolding inside
-inside-safe own given zero = record { form = λ place level depth t s frames ls h k g. tt; procedure = λ place level depth t ids forms s frames ls h k g. tt; item = λ at depth d t s frames first h m o g k. tt }
+inside-safe own given zero = record { form = λ place level depth t s frames ls h k g. tt; procedure = λ place level depth t ids forms s frames ls h k g. tt; item = λ at depth d t s frames first h p m o g k. tt }
 inside-safe own given (suc room) =
     let safe = inside-safe own given room in
     record {
       form = λ place level depth t s frames ls h k g. gives-form own given (inside room) safe place level frames ls depth t s h k g;
       procedure = λ place level depth t ids forms s frames ls h k g. gives-case own given (inside room) safe place level depth t frames ls ids forms s h k g;
-      item = λ at depth d t s frames first h m o g k. gives-item own given (inside room) safe at frames first depth d t s h m o g k;
+      item = λ at depth d t s frames first h p m o g k. gives-item own given (inside room) safe at frames first depth d t s h p m o g k;
     }

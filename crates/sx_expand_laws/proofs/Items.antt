@@ -34,6 +34,7 @@ use Rattle.sx_expand_laws.specs.Trees.{LeavesAre, AllLeavesAre}
 use Rattle.sx_expand_laws.proofs.Acts.{Gave, gave-after, gave-if}
 use Rattle.sx_expand_laws.proofs.Fresh.{Made, FreshLabels, label_name, fresh-one, fresh-append, each-append, each-map, among-first, among-second}
 use Rattle.sx_expand_laws.proofs.TreeLemmas.{IfThere, ShapeLeaves, OptionLeavesAre, shape-leaves}
+use Rattle.sx_expand_laws.proofs.Grows.{IsPlaced}
 use Rattle.sx_expand_laws.proofs.Sound.{but-self}
 use Rattle.sx_expand_laws.proofs.Naming.{Binds, binds, next-made}
 use Rattle.sx_expand_laws.proofs.Lines.{kind_labels, HasValue}
@@ -149,12 +150,12 @@ module _ (own : LibName) (given : List Label) (frames : List FrameNo) (f : Frame
     unfolding keep
     takes-keep d id k = (refl, record { leaves = k.leaves; labels = k.labels; up = k.up; rows = k.rows; value = k.value })
 
-    module _ (at : BodyAt) (here : at.frame ≡ f) (mine : IsOwn own f.0) (old : IsOld own s f) where
+    module _ (at : BodyAt) (here : at.frame ≡ f) (placed : IsPlaced own (is_top at.kind) f) (mine : IsOwn own f.0) (old : IsOld own s f) where
       defines : (d : Taken) (t id : Tree) → Gave (Binds own given f id s) (define at d t id s)
       unfolding define settle
       defines d t id = gave-if (Binds own given f id s) (d.has_expression && not (is_mixed at.kind)) _ _ (λ e. tt)
           (λ e. gave-after (Binds own given f id s) (Binds own given f id s) (bind_variable at.frame at.place at.level (is_top at.kind) id s) (settle at d id)
-          (subst (λ (g : FrameNo). Gave (Binds own given f id s) (bind_variable g at.place at.level (is_top at.kind) id s)) (sym here) (binds own given f at.place at.level (is_top at.kind) id s mine old sound))
+          (subst (λ (g : FrameNo). Gave (Binds own given f id s) (bind_variable g at.place at.level (is_top at.kind) id s)) (sym here) (binds own given f at.place at.level (is_top at.kind) id s placed mine old sound))
           (λ l u b. gave-if (Binds own given f id s) (any_changed u (heads_of (symbol_of id) d.kept)) _ _ (λ x. tt) (λ x. b)))
 
       takes-define : (depth : ℕ) (d : Taken) (t : Tree) (x : Shape) → ShapeLeaves In x → Took own frames f first d s → Gave (TK s) (define_item at depth d t x s)
@@ -184,7 +185,7 @@ module _ (own : LibName) (given : List Label) (frames : List FrameNo) (f : Frame
     value = λ y. subst (λ (ws : List Waiting). HasValue (wait_kinds ws)) (sym w) (k.value (sym x ∙ y));
   }
 
-  module _ (s : State) (sound : Sound own given s) (at : BodyAt) (here : at.frame ≡ f) (mine : IsOwn own f.0) (old : IsOld own s f) where
+  module _ (s : State) (sound : Sound own given s) (at : BodyAt) (here : at.frame ≡ f) (placed : IsPlaced own (is_top at.kind) f) (mine : IsOwn own f.0) (old : IsOld own s f) where
     takes-begin : (d : Taken) (t : Tree) (x : Shape) → ShapeLeaves In x → Took own frames f first d s → Gave (Comes s) (begin_item at d t x s)
     unfolding begin_item
     takes-begin d t (shapes.Begin forms) h k = record { takes = stays s sound d k; forms = h }
@@ -209,7 +210,7 @@ module _ (own : LibName) (given : List Label) (frames : List FrameNo) (f : Frame
       takes-by g role.Assignment = alone-takes (set_item at depth d t (shape g t at.place)) s (takes-set (shape g t at.place))
       takes-by g role.Sequence = takes-shape g (shape g t at.place) refl (begin_item at d t) (λ x j. takes-begin d t x j k)
       takes-by g role.Definition = takes-shape g (shape g t at.place) refl (λ x. alone (define_item at depth d t x))
-          (λ x j. alone-takes (define_item at depth d t x) s (takes-define s sound at here mine old depth d t x j k))
+          (λ x j. alone-takes (define_item at depth d t x) s (takes-define s sound at here placed mine old depth d t x j k))
       takes-by g role.Keywords = tt
       takes-by g role.Record = tt
       takes-by g role.RecordValue = waits-alone

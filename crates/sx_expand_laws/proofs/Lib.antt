@@ -1,6 +1,8 @@
 pub mod Acts
 pub mod Fresh
 pub mod TreeLemmas
+pub mod Grows
+pub mod Shown
 pub mod Sound
 pub mod Naming
 pub mod Good
@@ -14,6 +16,9 @@ pub mod Bodies
 pub mod Forms
 pub mod WellMade
 pub mod Started
+pub mod Indices
 pub mod Top
 pub mod Records
+pub mod Serving
+pub mod AllServe
 pub mod Named

@@ -1,6 +1,6 @@
 -- New names, and the binding of variables.
-use Rattle.std.proofs.Common.{◌≡◌, ℕ, ◌+◌, ◌<◌, Bool, true, false, List, [], ◌∷◌, ◌++◌, Some, Ok, Err, refl, sym, ◌∙◌, ap, subst, arith, inl, inr, if◌then◌else◌}
-use Rattle.std.specs.Prelude.{◌⊎◌, is_some}
+use Rattle.std.proofs.Common.{◌≡◌, ℕ, ◌+◌, ◌<◌, Bool, true, false, List, [], ◌∷◌, ◌++◌, Some, Ok, Err, refl, sym, ◌∙◌, ap, subst, arith, inl, inr, if◌then◌else◌, None, ◌≤◌}
+use Rattle.std.specs.Prelude.{◌⊎◌, is_some, nat_eq}
 use Rattle.sx_base.specs.Act.{after, give}
 use Rattle.sx_base.specs.Named.{Named}
 use Rattle.sx_base.specs.declared.fault.FaultKind.TheVariants as kind
@@ -10,21 +10,24 @@ use Rattle.sx_base.specs.declared.name.Label.{Label}
 use Rattle.sx_base.specs.declared.op.Op.{Op}
 use Rattle.sx_base.specs.declared.span.Span.{Span}
 use Rattle.sx_tree.specs.Tree.{Tree}
-use Rattle.sx_frames.specs.Rows.{second_binder}
+use Rattle.sx_frames.specs.Rows.{Row, second_binder}
 use Rattle.sx_frames.specs.Scope.{rows_at, with_row, label_at}
 use Rattle.sx_frames.proofs.FrameLaws.{rows_at-with_row, rows_at-other}
 use Rattle.sx_scope.specs.Stands.{row_for, symbol_of}
 use Rattle.sx_core.specs.Bindings.{bound_to}
+use Rattle.sx_core.specs.declared.binding.Binding.{Binding}
 use Rattle.sx_core.specs.declared.binding.Binding.TheVariants as binding
 use Rattle.sx_core.specs.declared.binding.VarInfo.{VarInfo}
 use Rattle.sx_core_laws.specs.Words.{Each, Among}
 use Rattle.sx_shapes.specs.Lists.{is_leaf}
-use Rattle.sx_standing.specs.Binders.{bind_variable, bind_as, row_put, put_variable, variable_for, next_index}
+use Rattle.sx_standing.specs.Binders.{bind_variable, bind_as, row_put, put_variable, variable_for, index_at, next_index}
+use Rattle.sx_standing.specs.Start.{first_frame}
 use Rattle.sx_standing.specs.State.{State, fresh, fault_form}
 use Rattle.sx_expand_laws.specs.Ready.{IsForeign}
-use Rattle.sx_expand_laws.specs.States.{IsOwn, GivesForeign, Sound, IsOld, Later, LaterBut}
+use Rattle.sx_expand_laws.specs.States.{IsOwn, GivesForeign, Sound, IsOld, Shows, IsVariable, IndicesApart, Grows, Later, LaterBut}
 use Rattle.sx_expand_laws.proofs.Acts.{Gave, gave-if}
-use Rattle.sx_expand_laws.proofs.Fresh.{Made}
+use Rattle.sx_expand_laws.proofs.Fresh.{Made, among-second}
+use Rattle.sx_expand_laws.proofs.Grows.{IsPlaced, grows-same, grows-then, row-kept, row-new}
 use Rattle.sx_expand_laws.proofs.Sound.{bound-more}
 
 -- the state behind a new name
@@ -41,12 +44,26 @@ as_label n = record { 0 = n }
 abbrev pub as_frame : Named → FrameNo
 as_frame n = record { 0 = n }
 
+index-is : (level n i : ℕ) → index_at level n ≡ Some i → (i ≡ n) × (i < next_index level n)
+index-is level n i = by (nat_eq level 0)
+  where
+    by : (b : Bool) → (if b then Some n else None) ≡ Some i → (i ≡ n) × (i < (if b then n + 1 else n))
+    by true e = let is : n ≡ i = cc in (sym is, omega (arith, is))
+    by false e = absurd (cc)
+
+index-up : (level n : ℕ) → n ≤ next_index level n
+index-up level n = by (nat_eq level 0)
+  where
+    by : (b : Bool) → n ≤ (if b then n + 1 else n)
+    by true = omega arith
+    by false = omega arith
+
 module _ (own : LibName) (given : List Label) where
   pub counted-sound : (s : State) → Sound own given s → Sound own given (counted s)
   counted-sound s h = record { here = h.here; next = h.next; defined = h.defined; primitives = h.primitives; others = h.others; blank = λ f o le. h.blank f o (omega (arith, le)) }
 
   pub counted-later : (s : State) → Sound own given s → Later own given s (counted s)
-  counted-later s h = record { sound = counted-sound s h; up = omega arith; same = λ f o. refl }
+  counted-later s h = record { sound = counted-sound s h; up = omega arith; same = λ f o. refl; grows = grows-same own s (counted s) refl refl refl }
 
   -- a new name is one of the library
   pub next-made : (s : State) → Sound own given s → Made own s.names.number (s.names.number + 1) s.names
@@ -70,6 +87,52 @@ module _ (own : LibName) (given : List Label) where
       primitives m o (inl e) = h.primitives m o e
       primitives m o (inr p) = let bad = p.1 in absurd (cc)
 
+  -- the new variable has the next index, if it has one
+  variable-indices : (s : State) (f : FrameNo) (id : Tree) (l : Label) (v : VarInfo) → v.index ≡ index_at v.level s.index → IndicesApart own s → IndicesApart own (with_variable f id l v s)
+  variable-indices s f id l v ix h = record {
+    below = λ m w i o e k. below m w i o (bound-more s.bindings l m (binding.Variable v) (binding.Variable w) e) k;
+    apart = λ m j w x i o q e d k r. apart m j w x i o q (bound-more s.bindings l m (binding.Variable v) (binding.Variable w) e) (bound-more s.bindings l j (binding.Variable v) (binding.Variable x) d) k r;
+  }
+    where
+      new-index : (w : VarInfo) (i : ℕ) → binding.Variable v ≡ binding.Variable w → w.index ≡ Some i → index_at v.level s.index ≡ Some i
+      new-index w i e k = let is : v ≡ w = cc in sym ix ∙ ap (λ (x : VarInfo). x.index) is ∙ k
+
+      below : (m : Label) (w : VarInfo) (i : ℕ) → IsOwn own m.0 → (bound_to s.bindings m ≡ Some (binding.Variable w)) ⊎ ((m ≡ l) × (binding.Variable v ≡ binding.Variable w)) → w.index ≡ Some i → i < next_index v.level s.index
+      below m w i o (inl e) k = let lt = h.below m w i o e k in let up = index-up v.level s.index in omega (arith, lt, up)
+      below m w i o (inr p) k = (index-is v.level s.index i (new-index w i p.1 k)).1
+
+      apart : (m j : Label) (w x : VarInfo) (i : ℕ) → IsOwn own m.0 → IsOwn own j.0 → (bound_to s.bindings m ≡ Some (binding.Variable w)) ⊎ ((m ≡ l) × (binding.Variable v ≡ binding.Variable w))
+          → (bound_to s.bindings j ≡ Some (binding.Variable x)) ⊎ ((j ≡ l) × (binding.Variable v ≡ binding.Variable x)) → w.index ≡ Some i → x.index ≡ Some i → m ≡ j
+      apart m j w x i o q (inl e) (inl d) k r = h.apart m j w x i o q e d k r
+      apart m j w x i o q (inl e) (inr p) k r = let lt = h.below m w i o e k in let is = (index-is v.level s.index i (new-index x i p.1 r)).0 in absurd (omega (arith, lt, is))
+      apart m j w x i o q (inr p) (inl d) k r = let lt = h.below j x i q d r in let is = (index-is v.level s.index i (new-index w i p.1 k)).0 in absurd (omega (arith, lt, is))
+      apart m j w x i o q (inr p) (inr p') k r = p.0 ∙ sym p'.0
+
+  variable-grows : (s : State) (f : FrameNo) (id : Tree) (l : Label) (v : VarInfo) → v.index ≡ index_at v.level s.index → IsPlaced own v.top f → IsOwn own l.0 → Grows own s (with_variable f id l v s)
+  variable-grows s f id l v ix placed mine = record {
+    kept = row-kept s.frames f (row_for id l);
+    rows = λ g r a. by_row g r (row-new s.frames f (row_for id l) g r a);
+    bindings = λ m b e. by_binding m b (bound-more s.bindings l m (binding.Variable v) b e);
+    indices = variable-indices s f id l v ix;
+  }
+    where
+      by_row : (g : FrameNo) (r : Row) → Among (rows_at g s.frames) r ⊎ (r ≡ row_for id l) → Among (rows_at g s.frames) r ⊎ IsOwn own r.label.0
+      by_row g r (inl a) = inl a
+      by_row g r (inr e) = inr (subst (λ (x : Row). IsOwn own x.label.0) (sym e) mine)
+
+      -- its row is the last one of the first frame, if it is of the top
+      shown : (m : Label) → m ≡ l → v.top ≡ true → Shows (rows_at (first_frame own) (with_row s.frames f (row_for id l))) m
+      shown m e t = record {
+        row = row_for id l;
+        there = subst (λ (g : FrameNo). Among (rows_at g (with_row s.frames f (row_for id l))) (row_for id l)) (placed t)
+            (subst (λ (rs : List Row). Among rs (row_for id l)) (sym (rows_at-with_row s.frames f (row_for id l))) (among-second (rows_at f s.frames) (row_for id l ∷ []) (row_for id l) (inl refl)));
+        label = sym e;
+      }
+
+      by_binding : (m : Label) (b : Binding) → (bound_to s.bindings m ≡ Some b) ⊎ ((m ≡ l) × (binding.Variable v ≡ b)) → (bound_to s.bindings m ≡ Some b) ⊎ IsVariable own (with_variable f id l v s) m b
+      by_binding m b (inl e) = inl e
+      by_binding m b (inr p) = inr (record { variable = v; is = sym p.1; shown = shown m p.0 })
+
   -- what the binding of a variable gives: a new name, and its row at the end of the frame
   pub record Binds (f : FrameNo) (id : Tree) (s : State) (l : Label) (t : State) : Type 0 where
     pub later : LaterBut own given f s t
@@ -77,26 +140,27 @@ module _ (own : LibName) (given : List Label) where
     pub up : t.names.number ≡ s.names.number + 1
     pub rows : rows_at f t.frames ≡ rows_at f s.frames ++ row_for id l ∷ []
 
-  variable-binds : (s : State) (f : FrameNo) (id : Tree) (v : VarInfo) → IsOwn own f.0 → IsOld own s f → Sound own given s
+  variable-binds : (s : State) (f : FrameNo) (id : Tree) (v : VarInfo) → v.index ≡ index_at v.level s.index → IsPlaced own v.top f → IsOwn own f.0 → IsOld own s f → Sound own given s
       → Binds f id s (as_label s.names) (with_variable f id (as_label s.names) v (counted s))
-  variable-binds s f id v of old h = record {
+  variable-binds s f id v ix placed of old h = record {
     later = record {
       sound = variable-sound (counted s) f id (as_label s.names) v of (λ o. let k = old o in omega (arith, k)) h.next (counted-sound s h);
       up = omega arith;
       same = λ g o d. rows_at-other s.frames f g (row_for id (as_label s.names)) d;
+      grows = grows-then own s (counted s) (with_variable f id (as_label s.names) v (counted s)) (grows-same own s (counted s) refl refl refl) (variable-grows (counted s) f id (as_label s.names) v ix placed h.next);
     };
     label = refl;
     up = refl;
     rows = rows_at-with_row s.frames f (row_for id (as_label s.names));
   }
 
-  pub binds : (f : FrameNo) (place : Span) (level : ℕ) (top : Bool) (id : Tree) (s : State) → IsOwn own f.0 → IsOld own s f → Sound own given s
+  pub binds : (f : FrameNo) (place : Span) (level : ℕ) (top : Bool) (id : Tree) (s : State) → IsPlaced own top f → IsOwn own f.0 → IsOld own s f → Sound own given s
       → Gave (Binds f id s) (bind_variable f place level top id s)
   unfolding bind_variable fresh
-  binds f place level top id s of old h =
+  binds f place level top id s placed of old h =
       gave-if (Binds f id s) (is_leaf id) (after (fresh s) (bind_as f id place level top)) (fault_form kind.BadForm id place s) (λ e. by_row (is_some (label_at s.frames f (row_for id (as_label s.names)).symbol (row_for id (as_label s.names)).marks))) (λ e. tt)
     where
       by_row : (b : Bool)
           → Gave (Binds f id s) (after (row_put id place (counted s) (if b then Err (second_binder (symbol_of id)) else Ok (with_row s.frames f (row_for id (as_label s.names))))) (λ _ t. after (put_variable (as_label s.names) (variable_for id level top (counted s).index) t) (λ _. give (as_label s.names))))
       by_row true = tt
-      by_row false = variable-binds s f id (variable_for id level top s.index) of old h
+      by_row false = variable-binds s f id (variable_for id level top s.index) refl placed of old h

@@ -31,6 +31,7 @@ use Rattle.sx_expand_laws.specs.States.{Sound, Later, Reach, IsIn}
 use Rattle.sx_expand_laws.specs.Trees.{LeavesAre, AllLeavesAre}
 use Rattle.sx_expand_laws.proofs.Acts.{Gave, gave-after, gave-if}
 use Rattle.sx_expand_laws.proofs.TreeLemmas.{IfThere, CaseLeaves, SpecLeaves, ShapeLeaves, OptionLeavesAre, proper-leaves, shape-leaves}
+use Rattle.sx_expand_laws.proofs.Grows.{grows-same}
 use Rattle.sx_expand_laws.proofs.Sound.{later-self, sound-same}
 use Rattle.sx_expand_laws.proofs.Good.{Good, good-quoted, good-variable, good-primitive}
 use Rattle.sx_expand_laws.proofs.Meanings.{Fits, fits}
@@ -93,7 +94,7 @@ module _ (own : LibName) (given : List Label) (frames : List FrameNo) (ls : List
 
   -- the target of an assignment
   target-marked : (l : Label) → Among ls l → Gave T (mark_assigned l s)
-  target-marked l h = record { later = record { sound = sound-same own given s _ refl refl refl refl sound; up = omega arith; same = λ f o. refl }; there = h }
+  target-marked l h = record { later = record { sound = sound-same own given s _ refl refl refl refl sound; up = omega arith; same = λ f o. refl; grows = grows-same own s _ refl refl refl }; there = h }
 
   plan-target_variable : (place : Span) (level : ℕ) (t id : Tree) (v : Variable) → Fits ls (standing.Variable v) → Gave T (target_variable place level t id v s)
   unfolding target_variable

@@ -13,33 +13,36 @@ use Rattle.sx_core.specs.declared.binding.Binding.{Binding}
 use Rattle.sx_core_laws.specs.Words.{Each}
 use Rattle.sx_standing.specs.State.{State}
 use Rattle.sx_expand_laws.specs.States.{IsOwn, GivesForeign, Sound, IsOld, Later, LaterBut}
+use Rattle.sx_expand_laws.proofs.Grows.{grows-self, grows-then}
 
 pub old-later : (own : LibName) (s t : State) (f : FrameNo) → s.names.number ≤ t.names.number → IsOld own s f → IsOld own t f
 old-later own s t f up h o = let k = h o in omega (arith, k, up)
 
 module _ (own : LibName) (given : List Label) where
   pub later-self : (s : State) → Sound own given s → Later own given s s
-  later-self s h = record { sound = h; up = omega arith; same = λ f o. refl }
+  later-self s h = record { sound = h; up = omega arith; same = λ f o. refl; grows = grows-self own s }
 
   pub later-then : (s t u : State) → Later own given s t → Later own given t u → Later own given s u
   later-then s t u h k = record {
     sound = k.sound;
     up = omega (arith, h.up, k.up);
     same = λ f o. k.same f (old-later own s t f h.up o) ∙ h.same f o;
+    grows = grows-then own s t u h.grows k.grows;
   }
 
   pub but-self : (g : FrameNo) (s : State) → Sound own given s → LaterBut own given g s s
-  but-self g s h = record { sound = h; up = omega arith; same = λ f o d. refl }
+  but-self g s h = record { sound = h; up = omega arith; same = λ f o d. refl; grows = grows-self own s }
 
   pub but-then : (g : FrameNo) (s t u : State) → LaterBut own given g s t → LaterBut own given g t u → LaterBut own given g s u
   but-then g s t u h k = record {
     sound = k.sound;
     up = omega (arith, h.up, k.up);
     same = λ f o d. k.same f (old-later own s t f h.up o) d ∙ h.same f o d;
+    grows = grows-then own s t u h.grows k.grows;
   }
 
   pub but-later : (g : FrameNo) (s t : State) → Later own given s t → LaterBut own given g s t
-  but-later g s t h = record { sound = h.sound; up = h.up; same = λ f o d. h.same f o }
+  but-later g s t h = record { sound = h.sound; up = h.up; same = λ f o d. h.same f o; grows = h.grows }
 
   -- where a new frame alone has more
   pub later-new : (g : FrameNo) (s t u : State) → Later own given s t → LaterBut own given g t u → IsOwn own g.0 → s.names.number ≤ g.0.number → Later own given s u
@@ -47,6 +50,7 @@ module _ (own : LibName) (given : List Label) where
     sound = k.sound;
     up = omega (arith, h.up, k.up);
     same = λ f o. k.same f (old-later own s t f h.up o) (λ e. let low = o (subst (λ (x : FrameNo). IsOwn own x.0) (sym e) of) in let is = ap (λ (x : FrameNo). x.0.number) e in omega (arith, low, is, new)) ∙ h.same f o;
+    grows = grows-then own s t u h.grows k.grows;
   }
 
   -- a state that differs in nothing of this

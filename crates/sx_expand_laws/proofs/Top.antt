@@ -1,5 +1,5 @@
 -- The record of a library or program.
-use Rattle.std.proofs.Common.{◌≡◌, ℕ, ◌≤◌, List, [], ◌∷◌, map, Option, None, Some, refl, ◌∙◌, ap, arith, inl, inr}
+use Rattle.std.proofs.Common.{◌≡◌, ℕ, ◌≤◌, List, [], ◌∷◌, map, Option, None, Some, refl, ◌∙◌, ap, subst, arith, inl, inr}
 use Rattle.std.specs.Prelude.{◌⊎◌}
 use Rattle.std.specs.List.{flat_map}
 use Rattle.sx_base.specs.Act.{after, give}
@@ -7,6 +7,7 @@ use Rattle.sx_base.specs.declared.library.LibName.{LibName}
 use Rattle.sx_base.specs.declared.name.Label.{Label}
 use Rattle.sx_tree.specs.Changes.{stamp}
 use Rattle.sx_tree.specs.Tree.{Tree}
+use Rattle.sx_frames.specs.Scope.{Scope}
 use Rattle.sx_scope.specs.Stands.{stands}
 use Rattle.sx_core.specs.References.{binders}
 use Rattle.sx_core.specs.declared.record.Line.{Line}
@@ -24,6 +25,7 @@ use Rattle.sx_expand_laws.proofs.Acts.{Gave, gave-after, gave-each}
 use Rattle.sx_expand_laws.proofs.Fresh.{Made, FreshLabels, FreshCodes, code_name, each-at, each-append, each-map, among-parts, once-append, fresh-none, fresh-append}
 use Rattle.sx_expand_laws.proofs.Good.{InTurn, IsFrom, Before}
 use Rattle.sx_expand_laws.proofs.Lines.{GoodLine, kinds, kind_labels}
+use Rattle.sx_expand_laws.proofs.Shown.{IsShown, leaf-shown}
 use Rattle.sx_expand_laws.proofs.WellMade.{good-well-made}
 
 -- Lines, each of which was made behind the one before it and behind all variables that they define.
@@ -124,28 +126,34 @@ pub record SameScope (s t : State) : Type 0 where
   pub names : t.names ≡ s.names
   pub frames : t.frames ≡ s.frames
   pub bindings : t.bindings ≡ s.bindings
+  pub index : t.index ≡ s.index
 
 same-self : (s : State) → SameScope s s
-same-self s = record { library = refl; names = refl; frames = refl; bindings = refl }
+same-self s = record { library = refl; names = refl; frames = refl; bindings = refl; index = refl }
 
 same-then : (s t u : State) → SameScope s t → SameScope t u → SameScope s u
-same-then s t u h k = record { library = k.library ∙ h.library; names = k.names ∙ h.names; frames = k.frames ∙ h.frames; bindings = k.bindings ∙ h.bindings }
+same-then s t u h k = record { library = k.library ∙ h.library; names = k.names ∙ h.names; frames = k.frames ∙ h.frames; bindings = k.bindings ∙ h.bindings; index = k.index ∙ h.index }
 
-same-export : (at : TopAt) (e : List ℕ × Tree) (s : State) → Gave (λ x t. SameScope s t) (export at e s)
+-- the labels are shown
+abbrev pub AreShown : Scope → List (List ℕ × Label) → Type 0
+AreShown fs es = Each (λ (e : List ℕ × Label). IsShown fs e.1) es
+
+same-export : (at : TopAt) (e : List ℕ × Tree) (s : State) → Gave (λ x t. SameScope s t × IsShown s.frames x.1) (export at e s)
 unfolding export
-same-export at e s = by (stands s.frames (stamp at.frame e.1))
+same-export at e s = by (stands s.frames (stamp at.frame e.1)) refl
   where
-    by : (o : Option Label) → Gave (λ x t. SameScope s t) (stands_for at.place e.0 (stamp at.frame e.1) o s)
-    by None = tt
-    by (Some l) = same-self s
+    by : (o : Option Label) → stands s.frames (stamp at.frame e.1) ≡ o → Gave (λ x t. SameScope s t × IsShown s.frames x.1) (stands_for at.place e.0 (stamp at.frame e.1) o s)
+    by None is = tt
+    by (Some l) is = (same-self s, leaf-shown s.frames (stamp at.frame e.1) l is)
 
-pub same-exports : (at : TopAt) (es : List (List ℕ × Tree)) (s : State) → Gave (λ x t. SameScope s t) (exports at es s)
+pub same-exports : (at : TopAt) (es : List (List ℕ × Tree)) (s : State) → Gave (λ xs t. SameScope s t × AreShown s.frames xs) (exports at es s)
 unfolding exports
 same-exports at es s =
-    gave-after (λ xs t. SameScope s t) (λ xs t. SameScope s t) (all_exports at es s) (λ ls t. after (export_labels ls t) (λ _. give ls))
-    (gave-each (export at) (λ e. Unit {0}) (λ e t x u. SameScope t u) (λ ys t xs u. SameScope t u) (λ t. Unit {0})
-    (λ t k. same-self t) (λ e t i k. same-export at e t) (λ e t u x k j. tt) (λ e ys t u v x xs k j a. same-then t u v j a) es s (all-unit es) tt)
-    (λ xs t k. record { library = k.library; names = k.names; frames = k.frames; bindings = k.bindings })
+    gave-after (λ xs t. SameScope s t × AreShown s.frames xs) (λ xs t. SameScope s t × AreShown s.frames xs) (all_exports at es s) (λ ls t. after (export_labels ls t) (λ _. give ls))
+    (gave-each (export at) (λ e. Unit {0}) (λ e t x u. SameScope t u × IsShown t.frames x.1) (λ ys t xs u. SameScope t u × AreShown t.frames xs) (λ t. Unit {0})
+    (λ t k. (same-self t, tt)) (λ e t i k. same-export at e t) (λ e t u x k j. tt)
+    (λ e ys t u v x xs k j a. (same-then t u v j.0 a.0, (j.1, subst (λ fs. AreShown fs xs) j.0.frames a.1))) es s (all-unit es) tt)
+    (λ xs t k. (record { library = k.0.library; names = k.0.names; frames = k.0.frames; bindings = k.0.bindings; index = k.0.index }, k.1))
   where
     all-unit : (xs : List (List ℕ × Tree)) → Each (λ e. Unit {0}) xs
     all-unit [] = tt

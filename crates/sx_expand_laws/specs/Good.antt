@@ -12,19 +12,25 @@ use Rattle.sx_core_laws.specs.WellMade.{IsWellMade}
 use Rattle.sx_core_laws.specs.Records.{defined, run_binders, LinesClosed}
 use Rattle.sx_core_laws.specs.Follows.{line_cores, IsOwn}
 use Rattle.sx_expand.specs.Expanding.{ready, library_record}
+use Rattle.sx_expand.specs.Top.{refs_of}
+use Rattle.sx_expand_laws.specs.Indices.{bound_index}
 use Rattle.sx_expand_laws.specs.Ready.{IsReady}
 
--- Behind some records: its lines are closed under the variables that these define and its own; no label has two binders in
--- it, and no two codes have one number; the binders and the codes are named by its library; and each line is well made.
+-- Behind some records: its lines are closed under the variables that these define and its own. No label has two binders in
+-- it, no two codes have one number, and no two variables one index, which ends their generated names. Binders and codes are
+-- named by its library. Each line is well made. It refers to the other libraries whose variables its lines mention.
 pub record IsGood (records : List LibRecord) (r : LibRecord) : Type 0 where
   pub closed : LinesClosed (flat_map defined records ++ defined r) r
   pub bound_once : Once (run_binders r)
   pub bound_here : Each (λ l. IsOwn r l.0) (run_binders r)
+  pub indexed_once : Once (flat_map bound_index r.bindings)
   pub numbered_once : Once (flat_map code_numbers (line_cores r))
   pub numbered_here : Each (λ n. IsOwn r n.0) (flat_map code_numbers (line_cores r))
   pub well_made : Each (IsWellMade []) (line_cores r)
+  pub references : r.refs ≡ refs_of r.name r.run
 
+-- and it has the name of the library
 abbrev pub RecordsAreGood : Type 0
 RecordsAreGood = (own : LibName) (path : List ℕ) (records : List LibRecord) (imports : List (List ℕ × Label)) (version : List ℕ) (place : Span)
     (exports : List (List ℕ × Tree)) (forms : List Tree) (r : LibRecord)
-    → IsReady own records imports forms → library_record (ready own path records imports) version place exports forms ≡ Ok r → IsGood records r
+    → IsReady own records imports forms → library_record (ready own path records imports) version place exports forms ≡ Ok r → IsGood records r × (r.name ≡ own)

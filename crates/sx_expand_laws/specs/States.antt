@@ -1,5 +1,5 @@
 -- The states of an expansion, and how they change.
-use Rattle.std.specs.Prelude.{◌≡◌, ◌≤◌, ◌<◌, ◌⊎◌, true, List, [], Some}
+use Rattle.std.specs.Prelude.{◌≡◌, ◌≤◌, ◌<◌, ◌⊎◌, ℕ, true, List, [], Some}
 use Rattle.sx_base.specs.Named.{Named}
 use Rattle.sx_base.specs.declared.library.LibName.{LibName}
 use Rattle.sx_base.specs.declared.name.FrameNo.{FrameNo}
@@ -8,9 +8,11 @@ use Rattle.sx_base.specs.declared.op.Op.{Op}
 use Rattle.sx_frames.specs.Rows.{Row}
 use Rattle.sx_frames.specs.Scope.{rows_at}
 use Rattle.sx_core.specs.Bindings.{bound_to}
+use Rattle.sx_core.specs.declared.binding.Binding.{Binding}
 use Rattle.sx_core.specs.declared.binding.Binding.TheVariants as binding
 use Rattle.sx_core.specs.declared.binding.VarInfo.{VarInfo}
 use Rattle.sx_core_laws.specs.Words.{Each, Among}
+use Rattle.sx_standing.specs.Start.{first_frame}
 use Rattle.sx_standing.specs.State.{State}
 use Rattle.sx_expand_laws.specs.Ready.{IsForeign}
 
@@ -36,17 +38,45 @@ pub record Sound (own : LibName) (given : List Label) (s : State) : Type 0 where
 abbrev pub IsOld : LibName → State → FrameNo → Type 0
 IsOld own s f = IsOwn own f.0 → f.0.number < s.names.number
 
+-- some of these rows gives the label
+pub record Shows (rows : List Row) (l : Label) : Type 0 where
+  pub row : Row
+  pub there : Among rows row
+  pub label : row.label ≡ l
+
+-- a variable, which the first frame of the library shows if it is one of the top
+pub record IsVariable (own : LibName) (s : State) (l : Label) (b : Binding) : Type 0 where
+  pub variable : VarInfo
+  pub is : b ≡ binding.Variable variable
+  pub shown : variable.top ≡ true → Shows (rows_at (first_frame own) s.frames) l
+
+-- the variables of the library have indices below the next one, no two the same
+pub record IndicesApart (own : LibName) (s : State) : Type 0 where
+  pub below : (l : Label) (v : VarInfo) (i : ℕ) → IsOwn own l.0 → bound_to s.bindings l ≡ Some (binding.Variable v) → v.index ≡ Some i → i < s.index
+  pub apart : (l m : Label) (v w : VarInfo) (i : ℕ) → IsOwn own l.0 → IsOwn own m.0 → bound_to s.bindings l ≡ Some (binding.Variable v) → bound_to s.bindings m ≡ Some (binding.Variable w)
+      → v.index ≡ Some i → w.index ≡ Some i → l ≡ m
+
+-- What a library adds: its frames keep their rows, what comes gives labels of the library and binds variables, and indices
+-- that are apart stay so.
+pub record Grows (own : LibName) (s t : State) : Type 0 where
+  pub kept : (f : FrameNo) (r : Row) → Among (rows_at f s.frames) r → Among (rows_at f t.frames) r
+  pub rows : (f : FrameNo) (r : Row) → Among (rows_at f t.frames) r → Among (rows_at f s.frames) r ⊎ IsOwn own r.label.0
+  pub bindings : (l : Label) (b : Binding) → bound_to t.bindings l ≡ Some b → (bound_to s.bindings l ≡ Some b) ⊎ IsVariable own t l b
+  pub indices : IndicesApart own s → IndicesApart own t
+
 -- from a state to a later one: frames that were there have the rows that they had
 pub record Later (own : LibName) (given : List Label) (s t : State) : Type 0 where
   pub sound : Sound own given t
   pub up : s.names.number ≤ t.names.number
   pub same : (f : FrameNo) → IsOld own s f → rows_at f t.frames ≡ rows_at f s.frames
+  pub grows : Grows own s t
 
 -- the same but for one frame, which may have more
 pub record LaterBut (own : LibName) (given : List Label) (g : FrameNo) (s t : State) : Type 0 where
   pub sound : Sound own given t
   pub up : s.names.number ≤ t.names.number
   pub same : (f : FrameNo) → IsOld own s f → (f ≡ g → ⊥) → rows_at f t.frames ≡ rows_at f s.frames
+  pub grows : Grows own s t
 
 -- a label of the library is one of these
 abbrev pub GivesSeen : LibName → List Label → Row → Type 0

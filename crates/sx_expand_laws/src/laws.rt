@@ -1,11 +1,20 @@
 //! Laws of expansion. Each function here computes nothing: what it promises is the law.
 
 ghost use Rattle.sx_expand_laws.specs.Good.{RecordsAreGood};
+ghost use Rattle.sx_expand_laws.specs.Serving.{FollowersServe, RecordsServe};
 ghost use Rattle.sx_expand_laws.specs.Named.{ReferencesNameBinders, AssignmentsNameBinders, BindersAreFound, BindersStay};
 
 /// Every record that expansion gives is closed, bound once and well made.
 pub fn records_are_good()
     ensures { RecordsAreGood }
+{}
+
+/// What a record leaves to those behind it: records that follow one another serve, and so does every record
+/// that expansion gives where what it imports is there. So `records_are_good` applies to one record after
+/// another.
+pub fn records_serve()
+    ensures followers { FollowersServe }
+    ensures records { RecordsServe }
 {}
 
 /// Each reference names the binder that its leaf stands for: a leaf becomes a reference to the label

@@ -12,8 +12,11 @@
 //! record that expansion gives is *closed*, *bound once* and *well made*, in the words of sx_core_laws,
 //! and each reference names the binder that its leaf stands for.
 //!
-//! The records that a library stands on must follow one another, and no stamp of its forms may name a
-//! frame of its own: this holds of forms that were read, since these have no stamps.
+//! Each record that a library stands on must *serve* those behind it (`specs/Serves`): it binds only labels
+//! of its own, and what else its frames and exports give was there before it or is a name of the
+//! implementation. Records that follow one another serve, and so does every record that expansion gives; so
+//! the law applies to one after another. And no stamp of the forms may name a frame of their own library:
+//! this holds of forms that were read, since these have no stamps.
 //!
 //! All rests on one invariant, `Sound` in `specs/States`, which each form keeps if it is kept inside
 //! forms; an induction on how deep forms may nest closes it. The stamps of a form name frames that are
