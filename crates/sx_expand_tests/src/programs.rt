@@ -47,7 +47,14 @@ fn start(alloc: Global) -> Result<Expander, Stop>
     let imports = imports(alloc)?;
     let path = file(alloc)?;
     let earlier = ReadyRecords::new(alloc)?;
-    Expander::new(alloc, LibName::Program, path, &earlier, &[], imports.as_slice())
+    Expander::new(
+        alloc,
+        LibName::Program,
+        path,
+        &earlier,
+        &[],
+        imports.as_slice(),
+    )
 }
 
 fn place(alloc: Global) -> Result<Span, Memory> {

@@ -78,11 +78,7 @@ fn both_are_listed(at: &Libraries, frames: &Frames) -> Result<bool, Memory> {
 }
 
 /// Whether a library that isn't needed has nothing.
-fn left_is_not_found(
-    alloc: Global,
-    at: &Libraries,
-    frames: &mut Frames,
-) -> Result<bool, Memory> {
+fn left_is_not_found(alloc: Global, at: &Libraries, frames: &mut Frames) -> Result<bool, Memory> {
     Ok(finds(alloc, &at.left, frames, &Y, 0)? && has_rows(&at.left, frames, &[])?)
 }
 
