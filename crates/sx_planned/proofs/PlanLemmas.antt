@@ -84,7 +84,7 @@ module _ (records : List LibRecord) (program : LibRecord) where
           let on = known_on records program w v (follow records p v) p k refl (turned w p ps e) refl in
           later (follow records p v) on.0 (omega (arith, on.1, l))
 
-  is_plan : IsPlan records program (plan_of records program)
+  pub is_plan : IsPlan records program (plan_of records program)
   unfolding plan_of
   is_plan =
       let known = start_known records program (begun records program) refl in

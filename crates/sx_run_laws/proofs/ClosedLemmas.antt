@@ -1,0 +1,71 @@
+-- The text of a run is closed, and bound once.
+use Rattle.std.proofs.Common.{◌≡◌, ℕ, zero, suc, List, [], ◌∷◌, Option, Some, None, refl, inl, inr}
+use Rattle.std.specs.Prelude.{slice_get}
+use Rattle.sx_base.specs.declared.library.LibName.{LibName}
+use Rattle.sx_base.specs.declared.library.LibName.TheVariants as library
+use Rattle.sx_core.specs.declared.record.LibRecord.{LibRecord}
+use Rattle.sx_core_laws.specs.Follows.{line_cores}
+use Rattle.sx_core_laws.specs.Templates.{TemplatesSuit}
+use Rattle.sx_core_laws.specs.WellMade.{IsWellMade}
+use Rattle.sx_core_laws.specs.Words.{Each, Among}
+use Rattle.sx_expand_laws.proofs.Fresh.{each-map}
+use Rattle.sx_load.specs.Found.{needed}
+use Rattle.sx_load.specs.declared.found.Found.{Found}
+use Rattle.sx_load.specs.declared.found.Loading.{Loading}
+use Rattle.sx_standing.specs.Start.{or_skip, records_at}
+use Rattle.sx_text_laws.specs.Standing.{IsStanding, AreStanding}
+use Rattle.sx_text_laws.proofs.Text.{text-is-closed-once}
+use Rattle.sx_run_laws.specs.Run.{Stands, AllStand, RunsAreClosedOnce}
+use Rattle.sx_run_laws.proofs.RunLemmas.{same_place, all_records_stand}
+
+-- ---- lists
+
+get_among : (rs : List LibRecord) (i : ℕ) (r : LibRecord) → slice_get rs i ≡ Some r → Among rs r
+get_among [] i r h = absurd (cc)
+get_among (x ∷ rs) zero r h = let same : r ≡ x = cc in inl same
+get_among (x ∷ rs) (suc i) r h = inr (get_among rs i r h)
+
+-- the records at some places are among them
+at_among : (rs : List LibRecord) (ps : List ℕ) → Each (Among rs) (records_at rs ps)
+at_among rs [] = tt
+at_among rs (p ∷ ps) = by (slice_get rs p) refl (at_among rs ps)
+  where
+    by : (o : Option LibRecord) → slice_get rs p ≡ o → Each (Among rs) (records_at rs ps) → Each (Among rs) (or_skip o (records_at rs ps))
+    by None e rest = rest
+    by (Some r) e rest = (get_among rs p r e, rest)
+
+each_place : (P : LibRecord → Type 0) (rs : List LibRecord) → ((i : ℕ) (r : LibRecord) → slice_get rs i ≡ Some r → P r) → Each P rs
+each_place P [] h = tt
+each_place P (r ∷ rs) h = (h zero r refl, each_place P rs (λ i x e. h (suc i) x e))
+
+-- ---- records that stand
+
+-- all that is asked of a record before the text is made
+standing : (records : List LibRecord) (ps : List ℕ) (name : LibName) (r : LibRecord) → Stands (records_at records ps) name r → IsStanding records r
+standing records ps name r h = record {
+  earlier = records_at records ps;
+  loaded = at_among records ps;
+  closed = h.good.closed;
+  suited = each-map (IsWellMade []) (TemplatesSuit []) (line_cores r) h.good.well_made (λ c w. w.templates);
+  bound_once = h.good.bound_once;
+  bound_here = h.good.bound_here;
+  indexed_once = h.good.indexed_once;
+  named_here = h.serves.own_bindings;
+  referred = h.good.references;
+}
+
+all_standing : (found : Found) (s : Loading) (records : List LibRecord) (program : LibRecord) → AllStand found s records program → AreStanding records program
+all_standing found s records program h = record {
+  named_once = h.once;
+  libraries = each_place (IsStanding records) records here;
+  program = standing records (needed found) library.Program program h.last;
+}
+  where
+    here : (i : ℕ) (r : LibRecord) → slice_get records i ≡ Some r → IsStanding records r
+    here i r e =
+        let x = same_place records s.done i r h.as_many e in
+        standing records (needed x.0.1) x.0.1.opened.form.name r (h.each i x.0.0 x.0.1 r x.1 e)
+
+pub runs_are_closed_once : RunsAreClosedOnce
+runs_are_closed_once files roots path found s records program run =
+    text-is-closed-once records program (all_standing found s records program (all_records_stand files roots path found s records program run))

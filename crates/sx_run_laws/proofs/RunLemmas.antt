@@ -1,0 +1,255 @@
+-- In a run each record stands behind those that its library needs.
+use Rattle.std.proofs.Common.{◌≡◌, ℕ, zero, suc, ◌+◌, ◌<◌, Bool, true, false, List, [], ◌∷◌, ◌++◌, length, Option, Some, None, Ok, refl, sym, ap, subst, ◌∙◌, inl, inr, arith}
+use Rattle.std.specs.Prelude.{◌⊎◌, slice_get}
+use Rattle.sx_base.specs.declared.library.LibName.{LibName}
+use Rattle.sx_base.specs.declared.library.LibName.TheVariants as library
+use Rattle.sx_core.specs.declared.record.LibRecord.{LibRecord}
+use Rattle.sx_core_laws.specs.Follows.{names_of}
+use Rattle.sx_core_laws.specs.Words.{Among, Once}
+use Rattle.sx_expand_laws.specs.Serves.{Serves, AllServe}
+use Rattle.sx_expand_laws.proofs.AllServe.{serves-names}
+use Rattle.sx_file_names.specs.File.{file_of}
+use Rattle.sx_forms.specs.Form.{library_body, program_body}
+use Rattle.sx_library.specs.Library.{expand_library}
+use Rattle.sx_load.specs.Found.{places_from, needed}
+use Rattle.sx_load.specs.declared.found.Found.{Found}
+use Rattle.sx_load.specs.declared.found.Loading.{Loading}
+use Rattle.sx_load_laws.specs.Laws.{IsAt, Needs, NeedsAreClosed}
+use Rattle.sx_load_laws.proofs.LoadLemmas.{IsWhole, loads_all}
+use Rattle.sx_load_laws.proofs.RowLemmas.{at_cases}
+use Rattle.sx_outside.specs.Contents.{Paths}
+use Rattle.sx_standing.specs.Start.{or_skip, records_at}
+use Rattle.sx_run_laws.specs.Run.{IsRun, Stands, AllStand, RecordsStand}
+use Rattle.sx_run_laws.proofs.NameLemmas.{names_first, names_second, IsNamed, named_among, once_named}
+use Rattle.sx_run_laws.proofs.UserLemmas.{IsUser, program_name, user_at}
+use Rattle.sx_run_laws.proofs.PlaceLemmas.{marked_from, first_records}
+use Rattle.sx_run_laws.proofs.MadeLemmas.{as_many_records, made_at}
+use Rattle.sx_run_laws.proofs.BehindLemmas.{IsNew, library_stands}
+
+below_next : (p k : ℕ) → p < suc k → (p < k) ⊎ (p ≡ k)
+below_next zero zero h = inr refl
+below_next zero (suc k) h = inl (omega arith)
+below_next (suc p) zero h = absurd (omega (arith, h))
+below_next (suc p) (suc k) h = elim (below_next p k (omega (arith, h))) [ inl l ↦ inl (omega (arith, l)) | inr e ↦ inr (ap suc e) ]
+
+-- in lists that are as long, what stands at a place of one has a place in the other
+pub same_place : {A B : Type 0} (xs : List A) (ys : List B) (i : ℕ) (x : A) → length xs ≡ length ys → slice_get xs i ≡ Some x → (y : B) × (slice_get ys i ≡ Some y)
+same_place [] ys i x e h = absurd (cc)
+same_place (a ∷ xs) [] i x e h = absurd (omega (arith, e))
+same_place (a ∷ xs) (b ∷ ys) zero x e h = (b, refl)
+same_place (a ∷ xs) (b ∷ ys) (suc i) x e h = same_place xs ys i x (omega (arith, e)) h
+
+user_no_core : (n : LibName) → IsUser n → n ≡ library.Core → ⊥
+user_no_core n u e = subst IsUser e u
+
+user_no_derived : (n : LibName) → IsUser n → n ≡ library.Derived → ⊥
+user_no_derived n u e = subst IsUser e u
+
+user_no_program : (n : LibName) → IsUser n → n ≡ library.Program → ⊥
+user_no_program n u e = subst IsUser e u
+
+module _ (files : Paths) (roots : List (List ℕ)) (path : List ℕ) (found : Found) (s : Loading)
+    (records : List LibRecord) (program : LibRecord) (run : IsRun files roots path found s records program) where
+  whole : IsWhole (found, s)
+  whole = loads_all files roots path found s run.loaded
+
+  -- the record at a place stands
+  abbrev StandsAt : ℕ → Type 0
+  StandsAt i = (file : List ℕ) (f : Found) (r : LibRecord) → IsAt s.done i file f → slice_get records i ≡ Some r → Stands (records_at records (needed f)) f.opened.form.name r
+
+  -- ---- behind the records that a library needs
+
+  module _ (f : Found) (closed : NeedsAreClosed s.done f) (earlier : (i : ℕ) → i < f.place → StandsAt i) where
+    -- the library of a name among them
+    record IsNeededAs (n : LibName) : Type 0 where
+      pub place : ℕ
+      pub file : List ℕ
+      pub library_there : Found
+      pub there : IsAt s.done place file library_there
+      pub before : place < f.place
+      pub name : library_there.opened.form.name ≡ n
+
+    needed_as : (n : LibName) → Among (names_of (records_at records (needed f))) n → IsNeededAs n
+    needed_as n a =
+        let x = named_among (records_at records (needed f)) n a in
+        let m = marked_from records zero f.needs x.record_of x.among in
+        let i = closed m.place m.marked in
+        let same : zero + m.place ≡ m.place = omega arith in
+        let st = earlier m.place i.before i.file i.library x.record_of i.there (subst (λ p. slice_get records p ≡ Some x.record_of) same m.there) in
+        record { place = m.place; file = i.file; library_there = i.library; there = i.there; before = i.before; name = sym st.named ∙ x.name }
+
+    -- these records have the names of those that are needed below a place
+    abbrev Has : List LibRecord → ℕ → Type 0
+    Has done k = (p : ℕ) (x : LibRecord) → p < k → Needs f p → slice_get records p ≡ Some x → Among (names_of done) x.name
+
+    has_past : (done : List LibRecord) (k : ℕ) → Has done k → ((x : LibRecord) → Needs f k → slice_get records k ≡ Some x → ⊥) → Has done (suc k)
+    has_past done k has none p x less need at = elim (below_next p k less) [
+      | inl l ↦ has p x l need at
+      | inr e ↦ absurd (none x (subst (Needs f) e need) (subst (λ i. slice_get records i ≡ Some x) e at))
+    ]
+
+    has_new : (done : List LibRecord) (k : ℕ) (r : LibRecord) → Has done k → slice_get records k ≡ Some r → Has (done ++ r ∷ []) (suc k)
+    has_new done k r has here p x less need at = elim (below_next p k less) [
+      | inl l ↦ names_first done (r ∷ []) x.name (has p x l need at)
+      | inr e ↦
+          let there : slice_get records k ≡ Some x = subst (λ i. slice_get records i ≡ Some x) e at in
+          let same : x ≡ r = cc in
+          names_second done (r ∷ []) x.name (inl (ap (λ (y : LibRecord). y.name) same))
+    ]
+
+    -- what a needed library needs is needed, and comes before it
+    serves_here : (done : List LibRecord) (k : ℕ) (r : LibRecord) → Has done k → Needs f k → slice_get records k ≡ Some r → Serves done r
+    serves_here done k r has need at =
+        let n = closed k need in
+        let st = earlier k n.before n.file n.library r n.there at in
+        serves-names (records_at records (needed n.library)) done r (λ m a. within m (named_among (records_at records (needed n.library)) m a)) st.serves
+      where
+        within : (m : LibName) → IsNamed (records_at records (needed (closed k need).library)) m → Among (names_of done) m
+        within m x =
+            let n = closed k need in
+            let y = marked_from records zero n.library.needs x.record_of x.among in
+            let same : zero + y.place ≡ y.place = omega arith in
+            let before = ((whole.sound.stand k n.file n.library n.there).closed y.place y.marked).before in
+            let place = whole.sound.once.in_order k n.file n.library n.there in
+            let less : y.place < k = omega (arith, before, place) in
+            subst (Among (names_of done)) x.name (has y.place x.record_of less (n.also y.place y.marked) (subst (λ p. slice_get records p ≡ Some x.record_of) same y.there))
+
+    -- the marks from a place on
+    abbrev AreMarks : ℕ → List Bool → Type 0
+    AreMarks k ms = (p : ℕ) → slice_get ms p ≡ slice_get f.needs (k + p)
+
+    mark_here : (k : ℕ) (m : Bool) (ms : List Bool) → AreMarks k (m ∷ ms) → slice_get f.needs k ≡ Some m
+    mark_here k m ms same = let e : k + zero ≡ k = omega arith in ap (slice_get f.needs) (sym e) ∙ sym (same zero)
+
+    marks_on : (k : ℕ) (m : Bool) (ms : List Bool) → AreMarks k (m ∷ ms) → AreMarks (suc k) ms
+    marks_on k m ms same p = let e : k + suc p ≡ suc k + p = omega arith in same (suc p) ∙ ap (slice_get f.needs) e
+
+    serve_from : (k : ℕ) (ms : List Bool) (done : List LibRecord) → AreMarks k ms → Has done k → AllServe done (records_at records (places_from k ms))
+    unfolding places_from
+    serve_from k [] done same has = tt
+    serve_from k (false ∷ ms) done same has =
+        let not_needed = mark_here k false ms same in
+        serve_from (suc k) ms done (marks_on k false ms same) (has_past done k has (λ x need at. cc))
+    serve_from k (true ∷ ms) done same has = by (slice_get records k) refl (λ more h. serve_from (suc k) ms more (marks_on k true ms same) h)
+      where
+        by : (o : Option LibRecord) → slice_get records k ≡ o → ((more : List LibRecord) → Has more (suc k) → AllServe more (records_at records (places_from (suc k) ms)))
+            → AllServe done (or_skip o (records_at records (places_from (suc k) ms)))
+        by None e rest = rest done (has_past done k has (λ x need at. cc))
+        by (Some r) e rest = (serves_here done k r has (mark_here k true ms same) e, rest (done ++ r ∷ []) (has_new done k r has e))
+
+    all_serve : AllServe [] (records_at records (needed f))
+    all_serve = serve_from zero f.needs [] (λ p. let e : p ≡ zero + p = omega arith in ap (slice_get f.needs) e) (λ p x less need at. absurd (omega (arith, less)))
+
+  -- ---- the record of a library
+
+  module _ (i : ℕ) (earlier : (j : ℕ) → j < i → StandsAt j) (file : List ℕ) (f : Found) (at : IsAt s.done i file f) where
+    closed : NeedsAreClosed s.done f
+    closed = (whole.sound.stand i file f at).closed
+
+    place : f.place ≡ i
+    place = whole.sound.once.in_order i file f at
+
+    before : (j : ℕ) → j < f.place → StandsAt j
+    before j less = earlier j (omega (arith, less, place))
+
+    -- another library has another name, since it has another file
+    is_new : IsNew (records_at records (needed f)) f.opened.form.name
+    is_new =
+        let user = user_at files roots path found s run.loaded i file f at in
+        record { new = named_anew; no_core = user_no_core f.opened.form.name user; no_derived = user_no_derived f.opened.form.name user }
+      where
+        named_anew : Among (names_of (records_at records (needed f))) f.opened.form.name → ⊥
+        named_anew a =
+            let x = needed_as f closed before f.opened.form.name a in
+            let files_same : x.file ≡ file = whole.sound.once.named x.place x.file x.library_there x.there ∙ ap file_of x.name ∙ sym (whole.sound.once.named i file f at) in
+            let places_same : x.place ≡ i = whole.sound.once.once x.place i file x.library_there f (subst (λ n. IsAt s.done x.place n x.library_there) files_same x.there) at in
+            let less = x.before in
+            absurd (omega (arith, less, places_same, place))
+
+    stands_here : (r : LibRecord) → slice_get records i ≡ Some r → Stands (records_at records (needed f)) f.opened.form.name r
+    stands_here r there =
+        let m = made_at s.done records run.recorded i file f r at there in
+        let many = m.many in
+        let low : (p : ℕ) → slice_get f.needs p ≡ Some true → zero + p < length m.before = λ p h. let l = (closed p h).before in omega (arith, l, many, place) in
+        let same : records_at records (needed f) ≡ records_at m.before (needed f) =
+        ap (λ (rs : List LibRecord). records_at rs (needed f)) m.parts ∙ first_records m.before m.after zero f.needs low in
+        library_stands (records_at records (needed f)) (all_serve f closed before) f.opened.path f.opened.form is_new (library_body f.opened.«data») r
+        (subst (λ (rs : List LibRecord). expand_library rs f.opened.path f.opened.form (library_body f.opened.«data») ≡ Ok r) (sym same) m.made)
+
+  stands_below : (n i : ℕ) → i < n → StandsAt i
+  stands_below zero i less = absurd (omega (arith, less))
+  stands_below (suc n) i less = λ file f r at there. stands_here i (λ j l. stands_below n j (omega (arith, l, less))) file f at r there
+
+  stands_at : (i : ℕ) → StandsAt i
+  stands_at i = stands_below (suc i) i (omega arith)
+
+  -- ---- the record of the program
+
+  program_is : found.opened.form.name ≡ library.Program
+  program_is = program_name files roots path found s run.loaded
+
+  program_new : IsNew (records_at records (needed found)) found.opened.form.name
+  program_new = record {
+    new = λ a.
+        let x = needed_as found whole.stands.closed (λ j less. stands_at j) found.opened.form.name a in
+        user_no_program x.library_there.opened.form.name (user_at files roots path found s run.loaded x.place x.file x.library_there x.there) (x.name ∙ program_is);
+    no_core = λ e. let same : library.Program ≡ library.Core = sym program_is ∙ e in cc;
+    no_derived = λ e. let same : library.Program ≡ library.Derived = sym program_is ∙ e in cc;
+  }
+
+  program_stands : Stands (records_at records (needed found)) library.Program program
+  program_stands = subst (λ (n : LibName). Stands (records_at records (needed found)) n program) program_is
+      (library_stands (records_at records (needed found)) (all_serve found whole.stands.closed (λ j less. stands_at j)) found.opened.path found.opened.form program_new
+      (program_body found.opened.«data») program run.expanded)
+
+  -- ---- each name once
+
+  as_many : length records ≡ length s.done
+  as_many = as_many_records s.done records run.recorded
+
+  -- the library of a record
+  record IsRecordOf (i : ℕ) (r : LibRecord) : Type 0 where
+    pub file : List ℕ
+    pub library_there : Found
+    pub there : IsAt s.done i file library_there
+    pub name : r.name ≡ library_there.opened.form.name
+
+  library_of : (i : ℕ) (r : LibRecord) → slice_get records i ≡ Some r → IsRecordOf i r
+  library_of i r h =
+      let x = same_place records s.done i r as_many h in
+      record { file = x.0.0; library_there = x.0.1; there = x.1; name = (stands_at i x.0.0 x.0.1 r x.1 h).named }
+
+  records_apart : (i j : ℕ) (a b : LibRecord) → slice_get records i ≡ Some a → slice_get records j ≡ Some b → a.name ≡ b.name → i ≡ j
+  records_apart i j a b h k e =
+      let x = library_of i a h in
+      let y = library_of j b k in
+      let files_same : x.file ≡ y.file =
+      whole.sound.once.named i x.file x.library_there x.there ∙ ap file_of (sym x.name ∙ e ∙ y.name) ∙ sym (whole.sound.once.named j y.file y.library_there y.there) in
+      whole.sound.once.once i j y.file x.library_there y.library_there (subst (λ n. IsAt s.done i n x.library_there) files_same x.there) y.there
+
+  -- no library has the name of the program
+  program_apart : (i : ℕ) (a : LibRecord) → slice_get records i ≡ Some a → a.name ≡ program.name → ⊥
+  program_apart i a h e =
+      let x = library_of i a h in
+      user_no_program x.library_there.opened.form.name (user_at files roots path found s run.loaded i x.file x.library_there x.there) (sym x.name ∙ e ∙ program_stands.named)
+
+  names_once : Once (names_of (records ++ program ∷ []))
+  names_once = once_named (records ++ program ∷ []) apart
+    where
+      apart : (i j : ℕ) (a b : LibRecord) → slice_get (records ++ program ∷ []) i ≡ Some a → slice_get (records ++ program ∷ []) j ≡ Some b → a.name ≡ b.name → i ≡ j
+      apart i j a b h k e = elim (at_cases records program i a h) [
+        | inl x ↦ elim (at_cases records program j b k) [
+          | inl y ↦ records_apart i j a b x y e
+          | inr y ↦ absurd (program_apart i a x (e ∙ ap (λ (r : LibRecord). r.name) (sym y.1)))
+        ]
+        | inr x ↦ elim (at_cases records program j b k) [
+          | inl y ↦ absurd (program_apart j b y (sym e ∙ ap (λ (r : LibRecord). r.name) (sym x.1)))
+          | inr y ↦ x.0 ∙ sym y.0
+        ]
+      ]
+
+  all_stand : AllStand found s records program
+  all_stand = record { as_many = as_many; each = stands_at; last = program_stands; once = names_once }
+
+pub all_records_stand : RecordsStand
+all_records_stand files roots path found s records program run = all_stand files roots path found s records program run

@@ -1,0 +1,50 @@
+-- A run: how its records stand behind one another, and what holds of its text.
+use Rattle.std.specs.Prelude.{◌≡◌, ℕ, List, [], ◌∷◌, ◌++◌, length, Some, slice_get, Ok}
+use Rattle.sx_base.specs.declared.library.LibName.{LibName}
+use Rattle.sx_base.specs.declared.library.LibName.TheVariants as library
+use Rattle.sx_core.specs.declared.record.LibRecord.{LibRecord}
+use Rattle.sx_core_laws.specs.Follows.{names_of}
+use Rattle.sx_core_laws.specs.Words.{Once}
+use Rattle.sx_expand_laws.specs.Good.{IsGood}
+use Rattle.sx_expand_laws.specs.Serves.{Serves}
+use Rattle.sx_forms.specs.Form.{program_body}
+use Rattle.sx_library.specs.Loaded.{all_records, expand_found}
+use Rattle.sx_load.specs.Found.{needed}
+use Rattle.sx_load.specs.Load.{load}
+use Rattle.sx_load.specs.declared.found.Found.{Found}
+use Rattle.sx_load.specs.declared.found.Loading.{Loading}
+use Rattle.sx_load_laws.specs.Laws.{IsAt}
+use Rattle.sx_outside.specs.Contents.{Paths}
+use Rattle.sx_standing.specs.Start.{records_at}
+use Rattle.sx_text_laws.specs.Text.{text_of, IsClosedOnce}
+
+-- a program is loaded with all that it imports, directly or not; each library is expanded, and then the program
+pub record IsRun (files : Paths) (roots : List (List ℕ)) (path : List ℕ) (found : Found) (s : Loading) (records : List LibRecord) (program : LibRecord) : Type 0 where
+  pub loaded : load files roots path ≡ Ok (found, s)
+  pub recorded : all_records s.done ≡ Ok records
+  pub expanded : expand_found records found (program_body found.opened.«data») ≡ Ok program
+
+-- The record of a library, behind those that it needs: what expansion promises of it holds.
+pub record Stands (earlier : List LibRecord) (name : LibName) (r : LibRecord) : Type 0 where
+  pub named : r.name ≡ name
+  pub good : IsGood earlier r
+  pub serves : Serves earlier r
+
+-- the records of libraries that were loaded, and of the program
+pub record AllStand (found : Found) (s : Loading) (records : List LibRecord) (program : LibRecord) : Type 0 where
+  -- each library has its record, in the order of loading
+  pub as_many : length records ≡ length s.done
+  pub each : (i : ℕ) (file : List ℕ) (f : Found) (r : LibRecord) → IsAt s.done i file f → slice_get records i ≡ Some r → Stands (records_at records (needed f)) f.opened.form.name r
+  pub last : Stands (records_at records (needed found)) library.Program program
+  -- no two of them have one name
+  pub once : Once (names_of (records ++ program ∷ []))
+
+-- so it is in every run
+abbrev pub RecordsStand : Type 0
+RecordsStand = (files : Paths) (roots : List (List ℕ)) (path : List ℕ) (found : Found) (s : Loading) (records : List LibRecord) (program : LibRecord)
+    → IsRun files roots path found s records program → AllStand found s records program
+
+-- and the text of every run is closed, and bound once
+abbrev pub RunsAreClosedOnce : Type 0
+RunsAreClosedOnce = (files : Paths) (roots : List (List ℕ)) (path : List ℕ) (found : Found) (s : Loading) (records : List LibRecord) (program : LibRecord)
+    → IsRun files roots path found s records program → IsClosedOnce (text_of records program)

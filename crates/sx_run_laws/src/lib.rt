@@ -1,0 +1,46 @@
+//! Laws of whole runs: the records of a run stand behind one another, and its text is closed and bound once.
+//!
+//! A program is loaded with all that it imports, and the libraries are expanded in the order of loading, each
+//! behind the records of those that it needs. What expansion promises of one record it promises only behind
+//! records that serve, and of a library with a new name. Here it is told that in a run this always holds:
+//!
+//! ```text
+//! p.sps            (import (rnrs) (util all)) ..
+//! util/all.sls     (library (util all) (export ..) (import (util stack) (util loop)))
+//!
+//! record 0         (util stack), behind no record
+//! record 1         (util loop), behind record 0 if it imports (util stack), else behind no record
+//! record 2         (util all), behind records 0 and 1
+//! the program      behind records 0, 1 and 2
+//! ```
+//!
+//! The first promise: each record of a run, and the program's, is good behind the records that its library needs,
+//! and serves those behind it; and no two of them have one name. Three things bring this about.
+//!
+//! - Where a library is needed, so is all that it needs, and this was loaded before it. So the records that a
+//!   library needs serve, each behind those of them that come earlier.
+//! - A library that is loaded has a name of one or more parts, and stands under the file of its name, once. So no
+//!   name is that of the program or of the implementation, and no two are the same.
+//! - Import sets select and rename, and make no labels. So each imported label comes from the implementation,
+//!   or from a record that exports it: it is of that record's library, or of one that was there before it.
+//!
+//! The second promise is of the text of a run: the lines of the libraries that the program needs when it runs, and
+//! its own. This text is closed, so whatever a line of it mentions is defined in it; no label has two binders in it;
+//! and no two of its variables share library and index. The first promise gives all that the law of sx_text_laws
+//! asks of the records.
+//!
+//! Nothing is computed here: each function stands for the law that it ensures.
+#![tactic(auto)]
+
+ghost use Rattle.sx_run_laws.specs.Run.{RecordsStand, RunsAreClosedOnce};
+
+/// Each record of a run stands behind those that its library needs, and no two have one name.
+pub fn records_stand()
+    ensures { RecordsStand }
+{}
+
+/// The text of every run is closed, no label has two binders in it, and no two of its variables share library and
+/// index.
+pub fn a_run_is_closed_and_bound_once()
+    ensures { RunsAreClosedOnce }
+{}

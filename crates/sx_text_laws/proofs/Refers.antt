@@ -1,0 +1,94 @@
+-- A free label that a line mentions makes its library one of the record's references, where it is another's.
+use Rattle.std.proofs.Common.{◌≡◌, Bool, true, false, cond, List, [], ◌∷◌, refl, sym, ap, ◌∙◌, subst, inl, inr}
+use Rattle.std.specs.Prelude.{not, if◌then◌else◌}
+use Rattle.sx_base.specs.Same.{same_library, same_library_decides}
+use Rattle.sx_base.specs.declared.library.LibName.{LibName}
+use Rattle.sx_base.specs.declared.name.Label.{Label}
+use Rattle.sx_core.specs.Core.{PlainCore}
+use Rattle.sx_core.specs.Labels.{same_label, has_label, with_label, with_labels, without}
+use Rattle.sx_core.specs.References.{binders, mentions, references}
+use Rattle.sx_core.specs.declared.record.Line.{Line}
+use Rattle.sx_core.specs.declared.record.Line.TheVariants as line
+use Rattle.sx_core_laws.specs.Words.{Among}
+use Rattle.sx_core_laws.specs.Records.{line_core}
+use Rattle.sx_core_laws.proofs.Decisions.{label_decides}
+use Rattle.sx_expand.specs.Top.{has_library, with_library, with_label_of, with_labels_of, code_of, with_lines_of, refs_of}
+use Rattle.sx_text_laws.proofs.Words.{any-among, put-there, put-stays}
+
+-- ---- what is mentioned and not bound is referenced
+
+with-stays : (ls ms : List Label) (l : Label) → Among ls l → Among (with_labels ls ms) l
+with-stays ls [] l a = a
+with-stays ls (m ∷ ms) l a = with-stays (with_label ls m) ms l (put-stays (has_label ls m) ls m l a)
+
+with-there : (ls ms : List Label) (l : Label) → Among ms l → Among (with_labels ls ms) l
+with-there ls [] l a = elim a [ ]
+with-there ls (m ∷ ms) l (inl e) = subst (Among (with_labels (with_label ls m) ms)) (sym e) (with-stays (with_label ls m) ms m (put-there same_label label_decides ls m))
+with-there ls (m ∷ ms) l (inr a) = with-there (with_label ls m) ms l a
+
+left-over : (bs ms : List Label) (l : Label) → (Among bs l → ⊥) → Among ms l → Among (without bs ms) l
+left-over bs [] l free a = elim a [ ]
+left-over bs (m ∷ ms) l free (inl e) = by (has_label bs m) (any-among same_label label_decides bs m)
+  where
+    by : (b : Bool) → (b ≡ true → Among bs m) → Among (cond (not b) (m ∷ without bs ms) (without bs ms)) l
+    by true is = absurd (free (subst (Among bs) (sym e) (is refl)))
+    by false is = inl e
+left-over bs (m ∷ ms) l free (inr a) = by (has_label bs m) (left-over bs ms l free a)
+  where
+    by : (b : Bool) → Among (without bs ms) l → Among (cond (not b) (m ∷ without bs ms) (without bs ms)) l
+    by true k = k
+    by false k = inr k
+
+pub free-referenced : (c : PlainCore) (l : Label) → (Among (binders c) l → ⊥) → Among (mentions c) l → Among (references c) l
+free-referenced c l free a = left-over (binders c) (with_labels [] (mentions c)) l free (with-there [] (mentions c) l a)
+
+-- ---- the libraries of what is referenced
+
+module _ (own : LibName) where
+  label-stays : (done : List LibName) (m : Label) (k : LibName) → Among done k → Among (with_label_of own done m) k
+  label-stays done m k a = by (same_library m.0.library own)
+    where
+      by : (b : Bool) → Among (if b then done else with_library done m.0.library) k
+      by true = a
+      by false = put-stays (has_library done m.0.library) done m.0.library k a
+
+  label-there : (done : List LibName) (m : Label) → (m.0.library ≡ own → ⊥) → Among (with_label_of own done m) m.0.library
+  label-there done m foreign = by (same_library m.0.library own) (same_library_decides m.0.library own).0
+    where
+      by : (b : Bool) → (b ≡ true → m.0.library ≡ own) → Among (if b then done else with_library done m.0.library) m.0.library
+      by true is = absurd (foreign (is refl))
+      by false is = put-there same_library same_library_decides done m.0.library
+
+  labels-stay : (done : List LibName) (ms : List Label) (k : LibName) → Among done k → Among (with_labels_of own done ms) k
+  labels-stay done [] k a = a
+  labels-stay done (m ∷ ms) k a = labels-stay (with_label_of own done m) ms k (label-stays done m k a)
+
+  labels-there : (done : List LibName) (ms : List Label) (l : Label) → (l.0.library ≡ own → ⊥) → Among ms l → Among (with_labels_of own done ms) l.0.library
+  labels-there done [] l foreign a = elim a [ ]
+  labels-there done (m ∷ ms) l foreign (inl e) =
+      let next : List LibName = with_label_of own done m in
+      let same : l.0.library ≡ m.0.library = ap (λ (x : Label). x.0.library) e in
+      subst (Among (with_labels_of own next ms)) (sym same) (labels-stay next ms m.0.library (label-there done m (λ d. foreign (same ∙ d))))
+  labels-there done (m ∷ ms) l foreign (inr a) = labels-there (with_label_of own done m) ms l foreign a
+
+  lines-stay : (done : List LibName) (xs : List Line) (k : LibName) → Among done k → Among (with_lines_of own done xs) k
+  lines-stay done [] k a = a
+  lines-stay done (x ∷ xs) k a = lines-stay (with_labels_of own done (references (code_of x))) xs k (labels-stay done (references (code_of x)) k a)
+
+  lines-there : (done : List LibName) (xs : List Line) (x : Line) (l : Label) → (l.0.library ≡ own → ⊥) → Among xs x → Among (references (code_of x)) l
+      → Among (with_lines_of own done xs) l.0.library
+  lines-there done [] x l foreign a b = elim a [ ]
+  lines-there done (y ∷ xs) x l foreign (inl e) b =
+      let there = labels-there done (references (code_of y)) l foreign (subst (λ (z : Line). Among (references (code_of z)) l) e b) in
+      lines-stay (with_labels_of own done (references (code_of y))) xs l.0.library there
+  lines-there done (y ∷ xs) x l foreign (inr a) b = lines-there (with_labels_of own done (references (code_of y))) xs x l foreign a b
+
+-- the code of a line is told twice
+one-code : (x : Line) → line_core x ≡ code_of x
+one-code (line.Define l c) = refl
+one-code (line.Expr c) = refl
+
+pub mention-referred : (own : LibName) (xs : List Line) (x : Line) (l : Label) → (l.0.library ≡ own → ⊥) → (Among (binders (line_core x)) l → ⊥)
+    → Among xs x → Among (mentions (line_core x)) l → Among (refs_of own xs) l.0.library
+mention-referred own xs x l foreign free a b =
+    lines-there own [] xs x l foreign a (subst (λ (c : PlainCore). Among (references c) l) (one-code x) (free-referenced (line_core x) l free b))
