@@ -20,7 +20,7 @@
 //! sizes of the frames that gave nothing before it was found; since frames only grow, an answer whose
 //! sizes are still those is the answer of now. The frames of a library that is complete lie in a table that is
 //! made once (`given`), and those of all such libraries in one table of the run (`shared`). Who needs some of
-//! them marks them there (`needed`), so that to need a library costs nothing, and behind them grow the frames of
+//! them marks them there (`needed`), so that to need a library costs a mark, and behind them grow the frames of
 //! the library that is expanded (`joined`). A frame is looked for where its library is. None of this shows in
 //! a contract.
 //!

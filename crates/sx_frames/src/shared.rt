@@ -14,7 +14,7 @@ use sx_base::library::LibName;
 use sx_base::memory::Memory;
 
 /// The frames of each library that a run has completed, in the order of coming. All that need some of them
-/// share the table, so that to need a library costs nothing.
+/// share the table, so that to need a library costs a mark.
 #[derive(Drop)]
 pub struct SharedFrames {
     parts: IndexMap<Rc<LibName>, Rc<FrameMap>>,

@@ -14,7 +14,7 @@ use sx_base::memory::Memory;
 use sx_core::bindings::Bindings;
 
 /// What each library binds that a run has completed, in the order of coming. All that need some of them
-/// share the table, so that to need a library costs nothing.
+/// share the table, so that to need a library costs a mark.
 #[derive(Drop)]
 pub struct SharedBindings {
     parts: IndexMap<Rc<LibName>, Rc<Bindings>>,
