@@ -1,6 +1,6 @@
 //! Frames of bindings, and what leaves stand for in them.
 
-ghost use Rattle.std.specs.Prelude.{◌≡◌, ◌∷◌, ◌++◌, [], true, false, IfOk, OnOk, OnErr};
+ghost use Rattle.std.specs.Prelude.{◌≡◌, ◌∷◌, ◌++◌, [], true, false, Some, IfOk, IfSome, OnOk, OnErr};
 ghost use Rattle.sx_base.specs.Gives.{BareGives};
 ghost use Rattle.sx_frames.specs.Given.{flat};
 ghost use Rattle.sx_frames.specs.Listed.{rows_in};
@@ -109,11 +109,24 @@ impl Frames {
         self.frames.bind(&frame, symbol, marks, label)
     }
 
+    /// The label that a leaf stands for, where one of its newest stamps gives it.
+    #[tactic(auto, using(crate::proofs::SoonLaws::soon_is))]
+    fn stands_soon(&self, id: &Syn) -> Result<Option<Label>, Memory>
+        ensures { IfOk result (λ o. IfSome o (λ l. stands self.now id.now ≡ Some l)) }
+    {
+        let symbol = symbol_of(self.alloc, id)?;
+        let stamps = id.newest_stamps(self.alloc, 4)?;
+        self.frames.label_by(symbol, stamps)
+    }
+
     /// The label that a leaf stands for: that of the first of its stamps whose frame has a row with
     /// the leaf's symbol and the stamp's marks. A stamp whose frame isn't there has no row.
     pub fn stands(&self, id: &Syn) -> Result<Option<Label>, Memory>
         ensures { IfOk result (λ l. l ≡ stands self.now id.now) }
     {
+        if let Some(label) = self.stands_soon(id)? {
+            return Ok(Some(label));
+        }
         let symbol = symbol_of(self.alloc, id)?;
         let stamps = id.stamps(self.alloc)?;
         self.frames.label_by(symbol, stamps)
@@ -125,6 +138,9 @@ impl Frames {
         ensures label { IfOk result (λ l. l ≡ stands self.old id.now) }
         ensures unchanged { self.new ≡ self.old }
     {
+        if let Some(label) = self.stands_soon(id)? {
+            return Ok(Some(label));
+        }
         let symbol = symbol_of(self.alloc, id)?;
         let stamps = id.stamps(self.alloc)?;
         if stamps.len() < 2 {

@@ -8,10 +8,9 @@ use Rattle.sx_tree.specs.declared.change.Change.{Change}
 use Rattle.sx_tree.proofs.TreeLaws.{changed-none, changed-spanned, is_list-changed, chain-append}
 use Rattle.sx_tree.proofs.MeasureLaws.{height-changed, changed_fits, chain_fits}
 use Rattle.sx_syntax.specs.Kept.{Lazily, IsSettled, lazily, end_of}
-use Rattle.sx_syntax.specs.KeptView.{Run, Form, list_form, vector_form, form_of, run_of, trees, run_tree, run_rest, whole_tree, seen, view_of, AreItems, IsEnd, IsListRun, IsVectorRun}
+use Rattle.sx_syntax.specs.KeptView.{Run, Form, list_form, vector_form, form_of, run_of, trees, run_tree, run_rest, whole_tree, seen, view_of, Whole, AreItems, IsEnd, IsListRun, IsVectorRun}
 use Rattle.sx_syntax.specs.Builder.{Built, built_tree, with_front}
 use Rattle.sx_syntax.specs.declared.kept.Item.{Item}
-use Rattle.sx_syntax.specs.declared.kept.Node.{Node}
 use Rattle.sx_syntax.proofs.FormLemmas.{later_fits, new_list, new_vector, new_tree, list_settled, vector_settled}
 use Rattle.sx_syntax.proofs.NodeLemmas.{run_pair}
 
@@ -61,7 +60,7 @@ pub some_item : (is : List Item) (k : ℕ) → k < length is → Item
 some_item [] k h = absurd (omega arith)
 some_item (i ∷ is) k h = i
 
-pub rest_node : (n : Node) (k : Lazily) (r : Run) → view_of n ≡ k → form_of n.shape ≡ list_form r → r.from < length r.items → changed n.wrap (run_tree r) ≡ rest_of k.tree
+pub rest_node : (n : Whole) (k : Lazily) (r : Run) → view_of n ≡ k → form_of n.shape ≡ list_form r → r.from < length r.items → changed n.wrap (run_tree r) ≡ rest_of k.tree
 rest_node n k r shown g l =
     let d = some_item r.items r.from l in
     rest_pair n.wrap n.span (run_tree r) (get_or r.items r.from d).tree.tree (run_rest r) (run_pair r d l)

@@ -8,8 +8,7 @@ use Rattle.sx_tree.specs.declared.change.Change.{Change}
 use Rattle.sx_tree.proofs.ContextLaws.{acts-append}
 use Rattle.sx_tree.proofs.TreeLaws.{changed-none, changed-append, changed-by, changed-spanned, spanned-spanned}
 use Rattle.sx_syntax.specs.Kept.{Lazily, lazily}
-use Rattle.sx_syntax.specs.KeptView.{Form, form_of, form_tree, form_depth, seen, view_of}
-use Rattle.sx_syntax.specs.declared.kept.Node.{Node}
+use Rattle.sx_syntax.specs.KeptView.{Form, form_of, form_tree, form_depth, seen, view_of, Whole}
 
 pub under-none : (ws : List Change) (k : Lazily) → ws ≡ [] → k ≡ lazily (changed ws k.tree) k.depth
 under-none ws k e = ap (λ t. lazily t k.depth) (sym (changed-none k.tree) ∙ ap (λ xs. changed xs k.tree) (sym e))
@@ -25,7 +24,7 @@ pub respanned : (ws : List Change) (r s : Option Span) (f : Form) → seen ws r 
 respanned ws r s f =
     ap (λ u. lazily u (form_depth f)) (ap (changed ws) (sym (spanned-spanned r s (form_tree f))) ∙ changed-spanned ws r (spanned s (form_tree f)))
 
-module _ (n : Node) (k : Lazily) (shown : view_of n ≡ k) where
+module _ (n : Whole) (k : Lazily) (shown : view_of n ≡ k) where
   -- a node with more changes over the same shape
   pub under_node : (ws outer : List Change) (s : Option Span) (f : Form) → ((c : LeafContext) → acts ws c ≡ acts outer (acts n.wrap c)) → s ≡ n.span → f ≡ form_of n.shape → seen ws s f ≡ lazily (changed outer k.tree) k.depth
   under_node ws outer s f w e g =

@@ -12,12 +12,11 @@ use Rattle.sx_tree.specs.declared.change.Change.{Change}
 use Rattle.sx_tree.proofs.ContextLaws.{marks-acts}
 use Rattle.sx_tree.proofs.TreeLaws.{changed-chain}
 use Rattle.sx_syntax.specs.Kept.{Lazily, IsSettled, lazily, end_of}
-use Rattle.sx_syntax.specs.KeptView.{Run, Form, leaf_form, list_form, vector_form, form_of, run_of, trees, run_tree, run_rest, form_tree, seen, view_of, IsExtent, IsListRun, IsVectorRun, InForm, IsFirst}
+use Rattle.sx_syntax.specs.KeptView.{Run, Form, leaf_form, list_form, vector_form, form_of, run_of, trees, run_tree, run_rest, form_tree, seen, view_of, Whole, IsExtent, IsListRun, IsVectorRun, InForm, IsFirst}
 use Rattle.sx_syntax.specs.declared.base.Base.{Base}
 use Rattle.sx_syntax.specs.declared.kept.Item.{Item}
 use Rattle.sx_syntax.specs.declared.kept.Slice.{Slice}
 use Rattle.sx_syntax.specs.declared.kept.Extent.{Extent}
-use Rattle.sx_syntax.specs.declared.kept.Node.{Node}
 use Rattle.sx_syntax.specs.declared.kept.Shape.{Shape}
 use Rattle.sx_syntax.specs.declared.kept.Shape.TheVariants as shape
 use Rattle.sx_syntax.proofs.FormLemmas.{extent_seen, list_settled, vector_settled}
@@ -73,7 +72,7 @@ shape_settled ws s (shape.Leaf x c) h none = omega arith
 shape_settled ws s (shape.List r) h none = absurd (none r refl)
 shape_settled ws s (shape.Vector r) h none = vector_settled ws s (run_of r) h
 
-module _ (n : Node) (k : Lazily) (shown : view_of n ≡ k) where
+module _ (n : Whole) (k : Lazily) (shown : view_of n ≡ k) where
   pub extent_node : (e : Extent) (f : Form) → form_of n.shape ≡ f → IsExtent e (form_tree f) → IsExtent e k.tree
   extent_node e f g h = extent_seen n.wrap n.span (form_of n.shape) k e shown (subst (λ x. IsExtent e (form_tree x)) (sym g) h)
 

@@ -10,9 +10,8 @@ use Rattle.sx_tree.specs.Tree.{Tree, atom, leaf, pair, vector, nil, chain, spann
 use Rattle.sx_tree.specs.Leaves.{strip}
 use Rattle.sx_tree.proofs.LeafLaws.{strip-changed}
 use Rattle.sx_syntax.specs.Kept.{Lazily, end_of}
-use Rattle.sx_syntax.specs.KeptView.{Run, Form, list_form, vector_form, form_of, trees, run_tree, form_tree, seen, view_of, IsEnd, IsListRun, IsVectorRun}
+use Rattle.sx_syntax.specs.KeptView.{Run, Form, list_form, vector_form, form_of, trees, run_tree, form_tree, seen, view_of, Whole, IsEnd, IsListRun, IsVectorRun}
 use Rattle.sx_syntax.specs.declared.kept.Item.{Item}
-use Rattle.sx_syntax.specs.declared.kept.Node.{Node}
 
 strip-chain : (xs : List Tree) (t : Tree) → strip (chain xs t) ≡ datum.chain (map strip xs) (strip t)
 strip-chain [] t = refl
@@ -24,7 +23,7 @@ strip-spanned s (leaf _ x c) = refl
 strip-spanned s (pair _ a d) = refl
 strip-spanned s (vector _ d) = refl
 
-module _ (n : Node) (k : Lazily) (shown : view_of n ≡ k) where
+module _ (n : Whole) (k : Lazily) (shown : view_of n ≡ k) where
   strip-node : (f : Form) → form_of n.shape ≡ f → strip k.tree ≡ datum.spanned n.span (strip (form_tree f))
   strip-node f g =
       sym (ap (λ (x : Lazily). strip x.tree) shown) ∙ strip-changed n.wrap (spanned n.span (form_tree (form_of n.shape)))

@@ -8,10 +8,9 @@ use Rattle.sx_tree.specs.Changes.{changed}
 use Rattle.sx_tree.proofs.TreeLaws.{changed-unspanned, unspanned-spanned, unspanned-chain, is_list-unspanned}
 use Rattle.sx_tree.proofs.MeasureLaws.{height-unspanned, size-unspanned, chain_fits}
 use Rattle.sx_syntax.specs.Kept.{Lazily, end_of}
-use Rattle.sx_syntax.specs.KeptView.{Run, Form, list_form, vector_form, form_of, trees, run_tree, whole_tree, form_tree, seen, view_of, IsWholeRun}
+use Rattle.sx_syntax.specs.KeptView.{Run, Form, list_form, vector_form, form_of, trees, run_tree, whole_tree, form_tree, seen, view_of, Whole, IsWholeRun}
 use Rattle.sx_syntax.specs.Builder.{Built, built_tree}
 use Rattle.sx_syntax.specs.declared.kept.Item.{Item}
-use Rattle.sx_syntax.specs.declared.kept.Node.{Node}
 use Rattle.sx_syntax.proofs.FormLemmas.{later_fits}
 
 bare : (t : Tree) → spanned None (unspanned t) ≡ unspanned t
@@ -34,7 +33,7 @@ some_unspanned r es l e = omega (arith, ap length e, length-unspanned (drop r.fr
 unspanned_run : (r : Run) (b : Built) → b.elements ≡ map unspanned (trees (drop r.from r.items)) → end_of b.tail ≡ unspanned (end_of r.tail) → built_tree b ≡ unspanned (run_tree r)
 unspanned_run r b e t = ap (λ xs. chain xs (end_of b.tail)) e ∙ ap (chain (map unspanned (trees (drop r.from r.items)))) t ∙ sym (unspanned-chain (trees (drop r.from r.items)) (end_of r.tail))
 
-module _ (n : Node) (k : Lazily) (shown : view_of n ≡ k) where
+module _ (n : Whole) (k : Lazily) (shown : view_of n ≡ k) where
   unspanned-node : (f : Form) → form_of n.shape ≡ f → changed n.wrap (unspanned (form_tree f)) ≡ unspanned k.tree
   unspanned-node f g =
       changed-unspanned n.wrap (form_tree f)

@@ -1,8 +1,7 @@
--- The context that a leaf was made with.
-use Rattle.std.specs.Prelude.{Option, None, Some}
-use Rattle.std.specs.declared.rc.Rc.{Rc}
-use Rattle.sx_tree.specs.Context.{LeafContext, blank}
+-- How the logic tells two stamps apart.
+use Rattle.std.specs.Coded.{Coded}
+use Rattle.sx_tree.specs.declared.stamp.Stamp.{Stamp}
+use Rattle.sx_tree.specs.contracts.stamp.Stamp as stamps
 
-abbrev pub context_in : {A : Type 0} → Option (Rc LeafContext A) → LeafContext
-context_in None = blank
-context_in (Some c) = c.value
+abbrev pub stamp_code : Coded Stamp
+stamp_code = stamps.the_row.coded

@@ -82,7 +82,16 @@ form_depth (vector_form r) = run_depth r
 abbrev pub seen : List Change → Option Span → Form → Lazily
 seen ws s f = record { tree = changed ws (spanned s (form_tree f)); depth = form_depth f }
 
-abbrev pub view_of : Node → Lazily
+-- a node with the changes that are pending
+pub record Whole : Type 0 where
+  pub wrap : List Change
+  pub span : Option Span
+  pub shape : Shape
+
+abbrev pub whole_of : List Change → Node → Whole
+whole_of ws n = record { wrap = ws; span = n.span; shape = n.shape }
+
+abbrev pub view_of : Whole → Lazily
 view_of n = seen n.wrap n.span (form_of n.shape)
 
 abbrev pub IsExtent : Extent → Tree → Type 0

@@ -2,7 +2,7 @@
 use Rattle.std.specs.Prelude.{List, Option, None}
 use Rattle.sx_base.specs.declared.span.Span.{Span}
 use Rattle.sx_base.specs.Datum.{PlainDatum, unspanned}
-use Rattle.sx_tree.specs.Context.{LeafContext, acts}
+use Rattle.sx_tree.specs.Context.{LeafContext}
 use Rattle.sx_tree.specs.Tree.{Tree}
 use Rattle.sx_tree.specs.Leaves.{tree_of}
 use Rattle.sx_syntax.specs.declared.leaves.Sample.{Sample}
@@ -11,7 +11,7 @@ use Rattle.sx_syntax.specs.declared.leaves.Spans.TheVariants as spans
 
 -- the context of a new leaf
 abbrev pub sample_context : Sample → LeafContext
-sample_context s = acts s.wrap s.base
+sample_context s = s.base
 
 -- whether the spans of the data are kept
 abbrev pub span_by : Spans → Option Span → Option Span

@@ -1,4 +1,7 @@
+pub mod Stack
+pub mod StackFalls
 pub mod Wrap
+pub mod WrapFalls
 pub mod Base
 pub mod Kept
 pub mod KeptView

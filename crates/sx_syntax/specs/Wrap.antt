@@ -1,9 +1,16 @@
 -- The changes that a wrap holds back from the leaves.
-use Rattle.std.specs.Prelude.{List, [], Option, None, Some}
-use Rattle.std.specs.Rc.{rc_slice_items}
-use Rattle.std.specs.declared.rc.RcSlice.{RcSlice}
+use Rattle.std.specs.Prelude.{◌≡◌, List, [], ◌∷◌, ◌++◌, Option, None, Some}
+use Rattle.std.specs.declared.rc.Rc.{Rc}
+use Rattle.sx_tree.specs.Context.{blank, acts}
 use Rattle.sx_tree.specs.declared.change.Change.{Change}
+use Rattle.sx_syntax.specs.declared.wrap.Link.{Link}
 
-abbrev pub pending : {A : Type 0} → Option (RcSlice Change A) → List Change
+-- the first one first
+abbrev pub pending : {A : Type 0} → Option (Rc Link A) → List Change
 pending None = []
-pending (Some s) = rc_slice_items s
+pending (Some l) = l.value.before ++ l.value.change ∷ []
+
+-- what is kept is what the changes make of a leaf without marks and stamps
+abbrev pub IsMade : {A : Type 0} → Option (Rc Link A) → Type 0
+IsMade None = Unit {0}
+IsMade (Some l) = l.value.made ≡ acts (l.value.before ++ l.value.change ∷ []) blank

@@ -1,31 +1,121 @@
-//! Bases: the marks and stamps that leaves were made with.
+//! Bases: the marks and stamps that leaves have, as lists that share their ends.
 
-ghost use Rattle.std.specs.Prelude.{◌≡◌, IfOk};
-ghost use Rattle.sx_tree.specs.Context.{blank};
+ghost use Rattle.std.specs.Prelude.{◌≡◌, take, map, IfOk, IsTrue};
+ghost use Rattle.sx_tree.specs.Context.{blank, act, entered, stamped, unmarked, left};
+ghost use Rattle.sx_tree.specs.Marks.{is_first};
 
+use crate::stack::Stack;
 use std::alloc::Global;
 use std::marker::Model;
-use std::rc::Rc;
 use sx_base::memory::Memory;
-use sx_tree::context::Context;
+use sx_base::name::{FrameNo, Mark};
+use sx_tree::change::Change;
 use sx_tree::marks::Marks;
+use sx_tree::stamp::Stamp;
 
-/// The context that a leaf was made with. It is shared, and none takes no memory.
+/// A stamp whose marks are shared.
+#[derive(Drop)]
+struct Held {
+    frame: FrameNo,
+    marks: Stack<Mark>,
+}
+
+impl Model for Held {
+    ghost use Rattle.sx_tree.specs.declared.stamp.Stamp.{Stamp};
+    ghost use Rattle.sx_syntax.specs.Base.{stamp_code};
+
+    ghost Value = { Stamp };
+
+    ghost coded = { stamp_code };
+
+    ghost view = { λ h. record { frame = h.frame; marks = h.marks } };
+}
+
+/// The marks and stamps of a leaf. Each change of them takes one level of each list at most, and none
+/// take no memory.
 #[derive(Drop)]
 pub(crate) struct Base {
-    context: Option<Rc<Context>>,
+    marks: Stack<Mark>,
+    stamps: Stack<Held>,
 }
 
 impl Model for Base {
     ghost use Rattle.sx_tree.specs.Context.{LeafContext};
     ghost use Rattle.sx_tree.specs.ContextCode.{context_code};
-    ghost use Rattle.sx_syntax.specs.Base.{context_in};
 
     ghost Value = { LeafContext };
 
     ghost coded = { context_code };
 
-    ghost view = { λ b. context_in b.context };
+    ghost view = { λ b. record { marks = b.marks; stamps = b.stamps } };
+}
+
+/// The marks as a list that shares its ends.
+fn stack_of(alloc: Global, marks: &Marks) -> Result<Stack<Mark>, Memory>
+    ensures { IfOk result (λ s. s ≡ marks.now) }
+{
+    let mut left = marks.to_vec(alloc)?;
+    let mut stack = Stack::none();
+    while let Some(mark) = left.pop() {
+        stack = stack.with(alloc, mark)?;
+    }
+    Ok(stack)
+}
+
+/// The marks as a list of its own.
+fn marks_of(alloc: Global, stack: &Stack<Mark>) -> Result<Marks, Memory>
+    ensures { IfOk result (λ m. m ≡ stack.now) }
+{
+    let mut left = stack.items(alloc)?;
+    let mut marks = Marks::new(alloc);
+    while let Some(mark) = left.pop() {
+        let mark = mark.share()?;
+        marks.push(mark)?;
+    }
+    Ok(marks)
+}
+
+impl Held {
+    fn new(alloc: Global, stamp: Stamp) -> Result<Held, Memory>
+        ensures { IfOk result (λ h. h ≡ stamp) }
+    {
+        let Stamp { frame, marks } = stamp;
+        let marks = stack_of(alloc, &marks)?;
+        Ok(Held { frame, marks })
+    }
+
+    fn stamp(&self, alloc: Global) -> Result<Stamp, Memory>
+        ensures { IfOk result (λ s. s ≡ self.now) }
+    {
+        let frame = self.frame.share()?;
+        let marks = marks_of(alloc, &self.marks)?;
+        Ok(Stamp { frame, marks })
+    }
+}
+
+/// The stamps as a list that shares its ends.
+fn held_of(alloc: Global, stamps: Vec<Stamp>) -> Result<Stack<Held>, Memory>
+    ensures { IfOk result (λ s. s ≡ stamps.items) }
+{
+    let mut left = stamps;
+    let mut stack = Stack::none();
+    while let Some(stamp) = left.pop() {
+        let held = Held::new(alloc, stamp)?;
+        stack = stack.with(alloc, held)?;
+    }
+    Ok(stack)
+}
+
+/// These stamps, each as one of its own.
+fn stamps_of(alloc: Global, held: &[&Held]) -> Result<Vec<Stamp>, Memory>
+    ensures { IfOk result (λ v. v.items ≡ map (λ h. h.now) held.now) }
+{
+    let mut stamps = Vec::new(alloc);
+    for one in held {
+        let stamp = one.stamp(alloc)?;
+        stamps.push(stamp)?;
+    }
+    Ok(stamps)
 }
 
 impl Base {
@@ -33,50 +123,117 @@ impl Base {
     pub(crate) fn blank() -> Base
         ensures { result ≡ blank }
     {
-        Base { context: None }
+        Base {
+            marks: Stack::none(),
+            stamps: Stack::none(),
+        }
     }
 
-    pub(crate) fn new(alloc: Global, context: Context) -> Result<Base, Memory>
-        ensures { IfOk result (λ b. b ≡ context) }
+    /// These marks and stamps, both with the newest first.
+    pub(crate) fn new(alloc: Global, marks: Marks, stamps: Vec<Stamp>) -> Result<Base, Memory>
+        ensures { IfOk result (λ b. b ≡ record { marks = marks; stamps = stamps.items }) }
     {
-        let context = Rc::new(alloc, context)?;
-        Ok(Base {
-            context: Some(context),
-        })
+        let marks = stack_of(alloc, &marks)?;
+        let stamps = held_of(alloc, stamps)?;
+        Ok(Base { marks, stamps })
     }
 
-    /// Another owner of the same context.
+    /// Another owner of the same marks and stamps.
     pub(crate) fn share(&self) -> Result<Base, Memory>
         ensures { IfOk result (λ b. b ≡ self.now) }
     {
-        match &self.context {
-            None => Ok(Base { context: None }),
-            Some(context) => {
-                let context = context.clone()?;
-                Ok(Base {
-                    context: Some(context),
-                })
-            }
-        }
+        let marks = self.marks.share()?;
+        let stamps = self.stamps.share()?;
+        Ok(Base { marks, stamps })
     }
 
-    /// A context of its own, to change.
-    pub(crate) fn context(&self, alloc: Global) -> Result<Context, Memory>
-        ensures { IfOk result (λ c. c ≡ self.now) }
+    pub(crate) fn is_blank(&self) -> bool
+        ensures { IsTrue result → self.now ≡ blank }
     {
-        match &self.context {
-            None => Ok(Context::blank(alloc)),
-            Some(context) => context.share(alloc),
+        self.marks.is_none() && self.stamps.is_none()
+    }
+
+    /// Whether this mark is the newest.
+    fn is_first(&self, mark: &Mark) -> bool
+        ensures { result ≡ is_first mark.now self.now.marks }
+    {
+        match self.marks.top() {
+            Some(newest) => *newest == *mark,
+            None => false,
         }
     }
 
-    /// Marks of its own, to change.
+    /// After a change.
+    pub(crate) fn act(&self, alloc: Global, change: &Change) -> Result<Base, Memory>
+        ensures { IfOk result (λ b. b ≡ act change.now self.now) }
+    {
+        match change {
+            Change::Enter(mark) => self.entered(alloc, mark),
+            Change::Leave(mark, frame) => self.left(alloc, mark, frame),
+            Change::Stamp(frame) => self.stamped(alloc, frame),
+        }
+    }
+
+    fn entered(&self, alloc: Global, mark: &Mark) -> Result<Base, Memory>
+        ensures { IfOk result (λ b. b ≡ entered mark.now self.now) }
+    {
+        let mark = mark.share()?;
+        let marks = self.marks.with(alloc, mark)?;
+        let stamps = self.stamps.share()?;
+        Ok(Base { marks, stamps })
+    }
+
+    fn unmarked(&self) -> Result<Base, Memory>
+        ensures { IfOk result (λ b. b ≡ unmarked self.now) }
+    {
+        let marks = self.marks.below()?;
+        let stamps = self.stamps.share()?;
+        Ok(Base { marks, stamps })
+    }
+
+    fn left(&self, alloc: Global, mark: &Mark, frame: &Option<FrameNo>) -> Result<Base, Memory>
+        ensures { IfOk result (λ b. b ≡ left mark.now frame.now self.now) }
+    {
+        if self.is_first(mark) {
+            return self.unmarked();
+        }
+        let entered = self.entered(alloc, mark)?;
+        match frame {
+            None => Ok(entered),
+            Some(frame) => entered.stamped(alloc, frame),
+        }
+    }
+
+    fn stamped(&self, alloc: Global, frame: &FrameNo) -> Result<Base, Memory>
+        ensures { IfOk result (λ b. b ≡ stamped frame.now self.now) }
+    {
+        let frame = frame.share()?;
+        let held = self.marks.share()?;
+        let stamps = self.stamps.with(alloc, Held { frame, marks: held })?;
+        let marks = self.marks.share()?;
+        Ok(Base { marks, stamps })
+    }
+
+    /// The marks, as a list of its own.
     pub(crate) fn marks(&self, alloc: Global) -> Result<Marks, Memory>
         ensures { IfOk result (λ m. m ≡ self.now.marks) }
     {
-        match &self.context {
-            None => Ok(Marks::new(alloc)),
-            Some(context) => context.marks().share(alloc),
-        }
+        marks_of(alloc, &self.marks)
+    }
+
+    /// The stamps, the newest first.
+    pub(crate) fn stamps(&self, alloc: Global) -> Result<Vec<Stamp>, Memory>
+        ensures { IfOk result (λ v. v.items ≡ self.now.stamps) }
+    {
+        let held = self.stamps.items(alloc)?;
+        stamps_of(alloc, held.as_slice())
+    }
+
+    /// The newest stamps, at most so many.
+    pub(crate) fn newest(&self, alloc: Global, count: usize) -> Result<Vec<Stamp>, Memory>
+        ensures { IfOk result (λ v. v.items ≡ take count self.now.stamps) }
+    {
+        let held = self.stamps.firsts(alloc, count)?;
+        stamps_of(alloc, held.as_slice())
     }
 }

@@ -243,7 +243,7 @@ impl Kept {
         let node: &Node = &self.node;
         match &node.shape {
             Shape::Atom(Atom::Nil) => Ok(Builder::before(alloc, None)),
-            Shape::List(slice) => slice.reopened(alloc, &node.wrap),
+            Shape::List(slice) => slice.reopened(alloc, &self.wrap),
             _ => {
                 let tail = self.share()?;
                 Ok(Builder::before(alloc, Some(tail)))

@@ -4,7 +4,7 @@ ghost use Rattle.std.specs.Prelude.{◌≡◌, ◌<◌, ◌≤◌, [], ◌∷◌
 ghost use Rattle.std.specs.Rc.{rc_slice_items};
 ghost use Rattle.sx_tree.specs.Tree.{spanned, chain, nil, is_list};
 ghost use Rattle.sx_tree.specs.Measures.{height, size, Fits};
-ghost use Rattle.sx_tree.specs.Leaves.{marks_of, context_of};
+ghost use Rattle.sx_tree.specs.Leaves.{context_of};
 ghost use Rattle.sx_tree.specs.Changes.{changed};
 ghost use Rattle.sx_syntax.specs.Kept.{lazily, IsSettled};
 ghost use Rattle.sx_syntax.specs.KeptView.{run_of, run_tree, run_rest, form_of, seen, InForm, IsRun, IsListRun, IsVectorRun, IsExtent, IsFirst};
@@ -20,21 +20,19 @@ use sx_base::memory::Memory;
 use sx_base::span::{Span, share_span};
 use sx_base::symbol::Symbol;
 use sx_tree::change::Change;
-use sx_tree::context::Context;
-use sx_tree::marks::Marks;
 
-/// A shared tree, seen as the tree that is meant and how deep its nodes nest.
+/// A shared tree, and then the changes, seen as the tree that is meant and how deep its nodes nest.
 #[cycle(kept)]
 #[derive(Drop)]
 pub(crate) struct Kept {
+    pub(crate) wrap: Wrap,
     pub(crate) node: Rc<Node>,
 }
 
-/// A shape with a span, and then the changes.
+/// A shape with a span.
 #[cycle(kept)]
 #[derive(Drop)]
 pub(crate) struct Node {
-    pub(crate) wrap: Wrap,
     pub(crate) span: Option<Span>,
     pub(crate) shape: Shape,
 }
@@ -81,9 +79,9 @@ impl Model for Kept {
 
     ghost coded = { lazily_code };
 
-    ghost use Rattle.sx_syntax.specs.KeptView.{view_of, form_of, InForm};
+    ghost use Rattle.sx_syntax.specs.KeptView.{view_of, whole_of, form_of, InForm};
 
-    ghost view = { λ k. view_of k.node.value };
+    ghost view = { λ k. view_of (whole_of k.wrap k.node.value) };
 
     ghost invariant = { λ k. InForm (form_of k.node.value.shape) };
 
@@ -246,41 +244,35 @@ impl Kept {
         requires { InForm (form_of shape) }
         ensures { IfOk result (λ k. k ≡ seen wrap span (form_of shape)) }
     {
-        let node = Rc::new(alloc, Node { wrap, span, shape })?;
-        Ok(Kept { node })
+        let node = Rc::new(alloc, Node { span, shape })?;
+        Ok(Kept { wrap, node })
     }
 
     /// Another owner of the same tree.
     pub(crate) fn share(&self) -> Result<Kept, Memory>
         ensures { IfOk result (λ k. k ≡ self.now) }
     {
+        let wrap = self.wrap.share()?;
         let node = self.node.clone()?;
-        Ok(Kept { node })
+        Ok(Kept { wrap, node })
     }
 
-    /// The tree under these changes: one node, and none where there is no change.
+    /// The tree under these changes. It takes memory only where both it and they have changes.
     pub(crate) fn under(&self, alloc: Global, outer: &Wrap) -> Result<Kept, Memory>
         ensures { IfOk result (λ k. k ≡ lazily (changed outer.now self.now.tree) self.now.depth) }
     {
-        if outer.is_none() {
-            return self.share();
-        }
-        let node: &Node = &self.node;
-        let wrap = node.wrap.then(alloc, outer)?;
-        let span = share_span(&node.span)?;
-        let shape = node.shape.share()?;
-        Kept::new(alloc, wrap, span, shape)
+        let wrap = self.wrap.then(alloc, outer)?;
+        let node = self.node.clone()?;
+        Ok(Kept { wrap, node })
     }
 
-    /// The tree under one more change: one node.
+    /// The tree under one more change: one link.
     pub(crate) fn changed(&self, alloc: Global, change: Change) -> Result<Kept, Memory>
         ensures { IfOk result (λ k. k ≡ lazily (changed (change ∷ []) self.now.tree) self.now.depth) }
     {
-        let node: &Node = &self.node;
-        let wrap = node.wrap.with(alloc, change)?;
-        let span = share_span(&node.span)?;
-        let shape = node.shape.share()?;
-        Kept::new(alloc, wrap, span, shape)
+        let wrap = self.wrap.with(alloc, change)?;
+        let node = self.node.clone()?;
+        Ok(Kept { wrap, node })
     }
 
     /// The tree with this span at its root.
@@ -288,7 +280,7 @@ impl Kept {
         ensures { IfOk result (λ k. k ≡ lazily (spanned span self.now.tree) self.now.depth) }
     {
         let node: &Node = &self.node;
-        let wrap = node.wrap.share()?;
+        let wrap = self.wrap.share()?;
         let shape = node.shape.share()?;
         Kept::new(alloc, wrap, span, shape)
     }
@@ -336,7 +328,7 @@ impl Kept {
         match &node.shape {
             Shape::List(slice) => {
                 let slice = slice.from_start(alloc)?;
-                let wrap = node.wrap.share()?;
+                let wrap = self.wrap.share()?;
                 let span = share_span(&node.span)?;
                 Kept::new(alloc, wrap, span, Shape::List(slice))
             }
@@ -353,31 +345,14 @@ impl Kept {
         let _node = &self.node;
     }
 
-    /// The marks of a leaf, and none of what is no leaf.
-    pub(crate) fn marks(&self, alloc: Global) -> Result<Marks, Memory>
-        ensures { IfOk result (λ m. m ≡ marks_of self.now.tree) }
-    {
-        let node: &Node = &self.node;
-        match &node.shape {
-            Shape::Leaf(_, base) => {
-                let marks = base.marks(alloc)?;
-                node.wrap.marks(marks)
-            }
-            _ => Ok(Marks::new(alloc)),
-        }
-    }
-
-    /// The context of a leaf, and a blank one of what is no leaf.
-    pub(crate) fn context(&self, alloc: Global) -> Result<Context, Memory>
+    /// The marks and stamps of a leaf, and none of what is no leaf.
+    pub(crate) fn context(&self, alloc: Global) -> Result<Base, Memory>
         ensures { IfOk result (λ c. c ≡ context_of self.now.tree) }
     {
         let node: &Node = &self.node;
         match &node.shape {
-            Shape::Leaf(_, base) => {
-                let context = base.context(alloc)?;
-                node.wrap.context(alloc, context)
-            }
-            _ => Ok(Context::blank(alloc)),
+            Shape::Leaf(_, base) => self.wrap.context(alloc, base),
+            _ => Ok(Base::blank()),
         }
     }
 }

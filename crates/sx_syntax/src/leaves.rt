@@ -14,7 +14,7 @@ ghost use Rattle.sx_syntax.specs.Refuses.{Refuses};
 
 use crate::base::Base;
 use crate::builder::Builder;
-use crate::kept::{Kept, Node, Shape};
+use crate::kept::{Kept, Shape};
 use crate::wrap::Wrap;
 use std::alloc::Global;
 use sx_base::datum::{self, Datum};
@@ -23,10 +23,9 @@ use sx_base::memory::Memory;
 use sx_base::span::{Span, share_span};
 use sx_base::symbol::Symbol;
 
-/// What new leaves take from a leaf: its base and its pending changes.
+/// What new leaves take from a leaf: its marks and stamps.
 #[derive(Drop)]
 pub(crate) struct Sample {
-    wrap: Wrap,
     base: Base,
 }
 
@@ -54,7 +53,6 @@ impl Sample {
         ensures { sample_context result ≡ blank }
     {
         Sample {
-            wrap: Wrap::none(),
             base: Base::blank(),
         }
     }
@@ -64,27 +62,19 @@ impl Sample {
         ensures tree { IfOk result (λ k. k.tree ≡ leaf span symbol.now (sample_context self.now)) }
         ensures settled { IfOk result (λ k. IsSettled k) }
     {
-        let wrap = self.wrap.share()?;
         let base = self.base.share()?;
         let symbol = symbol.share()?;
-        Kept::new(alloc, wrap, span, Shape::Leaf(symbol, base))
+        Kept::new(alloc, Wrap::none(), span, Shape::Leaf(symbol, base))
     }
 }
 
 impl Kept {
     /// What new leaves take from this leaf. What is no leaf gives no marks and no stamps.
-    pub(crate) fn sample(&self) -> Result<Sample, Memory>
+    pub(crate) fn sample(&self, alloc: Global) -> Result<Sample, Memory>
         ensures { IfOk result (λ s. sample_context s ≡ context_of self.now.tree) }
     {
-        let node: &Node = &self.node;
-        match &node.shape {
-            Shape::Leaf(_, base) => {
-                let wrap = node.wrap.share()?;
-                let base = base.share()?;
-                Ok(Sample { wrap, base })
-            }
-            _ => Ok(Sample::blank()),
-        }
+        let base = self.context(alloc)?;
+        Ok(Sample { base })
     }
 }
 

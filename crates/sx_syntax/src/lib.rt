@@ -26,6 +26,7 @@ mod base;
 mod builder;
 mod kept;
 mod leaves;
+mod stack;
 mod strip;
 pub mod syn;
 mod unspanned;

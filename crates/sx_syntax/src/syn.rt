@@ -1,6 +1,6 @@
 //! Syntax trees, for every crate to use.
 
-ghost use Rattle.std.specs.Prelude.{◌≡◌, ◌+◌, [], ◌∷◌, ◌++◌, ◌<◌, length, Option, None, option_map, IfOk, IfErr, OnOk, OnErr};
+ghost use Rattle.std.specs.Prelude.{◌≡◌, ◌+◌, [], ◌∷◌, ◌++◌, ◌<◌, length, take, Option, None, option_map, IfOk, IfErr, OnOk, OnErr};
 ghost use Rattle.sx_base.specs.Gives.{BareGives};
 ghost use Rattle.sx_tree.specs.Tree.{Tree, atom, leaf, spanned, unspanned, span_of, chain, list_of, vector_of};
 ghost use Rattle.sx_tree.specs.Measures.{height, size, within, Fits};
@@ -31,7 +31,6 @@ use sx_base::span::Span;
 use sx_base::steps::Steps;
 use sx_base::symbol::Symbol;
 use sx_tree::change::Change;
-use sx_tree::context::Context;
 use sx_tree::marks::Marks;
 use sx_tree::stamp::Stamp;
 
@@ -138,7 +137,7 @@ impl Syn {
     ) -> Result<Syn, Memory>
         ensures { IfOk result (λ t. t ≡ leaf span symbol.now (record { marks = marks; stamps = stamps.items })) }
     {
-        let base = Base::new(alloc, Context::new(marks, stamps))?;
+        let base = Base::new(alloc, marks, stamps)?;
         let symbol = symbol.share()?;
         let kept = Kept::new(alloc, Wrap::none(), span, Shape::Leaf(symbol, base))?;
         Ok(Syn { kept })
@@ -196,9 +195,9 @@ impl Syn {
                 let symbol = symbol.share()?;
                 Ok(Opened::Symbol(symbol))
             }
-            Shape::List(slice) => pair_of(alloc, slice, &node.wrap),
+            Shape::List(slice) => pair_of(alloc, slice, &self.kept.wrap),
             Shape::Vector(slice) => {
-                let elements = slice.elements(alloc, &node.wrap)?;
+                let elements = slice.elements(alloc, &self.kept.wrap)?;
                 Ok(Opened::Vector(elements))
             }
         }
@@ -248,7 +247,8 @@ impl Syn {
     pub fn marks(&self, alloc: Global) -> Result<Marks, Memory>
         ensures { IfOk result (λ m. m ≡ marks_of self.now) }
     {
-        self.kept.marks(alloc)
+        let context = self.kept.context(alloc)?;
+        context.marks(alloc)
     }
 
     /// The stamps of a leaf, the newest first. What is no leaf has none.
@@ -256,7 +256,15 @@ impl Syn {
         ensures { IfOk result (λ v. v.items ≡ stamps_of self.now) }
     {
         let context = self.kept.context(alloc)?;
-        Ok(context.into_stamps())
+        context.stamps(alloc)
+    }
+
+    /// The newest stamps of a leaf, at most so many, the newest first.
+    pub fn newest_stamps(&self, alloc: Global, count: usize) -> Result<Vec<Stamp>, Memory>
+        ensures { IfOk result (λ v. v.items ≡ take count (stamps_of self.now)) }
+    {
+        let context = self.kept.context(alloc)?;
+        context.newest(alloc, count)
     }
 
     /// The tree under one change more: one node, for which `nodes` ticks.
@@ -332,7 +340,7 @@ impl Syn {
     pub fn datum_like(&self, alloc: Global, datum: &Datum) -> Result<Syn, BareStop>
         ensures { BareGives (λ t. t) result (within (datum_like self.now datum.now)) }
     {
-        let sample = self.kept.sample()?;
+        let sample = self.kept.sample(alloc)?;
         grown(alloc, Spans::Leave, &sample, datum)
     }
 

@@ -23,12 +23,12 @@ impl Kept {
             Shape::List(slice) => {
                 let builder = slice.unspanned(alloc)?;
                 let list = builder.into_list(alloc, None)?;
-                list.under(alloc, &node.wrap)
+                list.under(alloc, &self.wrap)
             }
             Shape::Vector(slice) => {
                 let builder = slice.unspanned(alloc)?;
                 let vector = builder.into_vector(alloc, None)?;
-                vector.under(alloc, &node.wrap)
+                vector.under(alloc, &self.wrap)
             }
             _ => self.spanned(alloc, None),
         }

@@ -1,47 +1,72 @@
 //! Wraps: the changes that still have to reach the leaves of a tree.
 
-ghost use Rattle.std.specs.Prelude.{◌≡◌, ◌==◌, [], ◌∷◌, length, IfOk, OnOk};
-ghost use Rattle.sx_tree.specs.Context.{LeafContext, act, acts};
-ghost use Rattle.sx_tree.specs.Remarks.{remarks};
+ghost use Rattle.std.specs.Prelude.{◌≡◌, ◌==◌, [], ◌∷◌, ◌++◌, length, map, reverse, IfOk};
+ghost use Rattle.sx_tree.specs.Context.{LeafContext, blank, act, acts};
 
+use crate::base::Base;
 use std::alloc::Global;
 use std::marker::Model;
-use std::rc::RcSlice;
+use std::rc::Rc;
 use sx_base::memory::Memory;
 use sx_tree::change::Change;
-use sx_tree::context::Context;
-use sx_tree::marks::Marks;
 
-/// Changes, the first one first. The list is shared, and no changes take no memory.
-#[derive(Drop)]
+/// Changes, the first one first. Lists that begin alike share their beginning, and no changes take
+/// no memory.
+#[cycle(wrap)]
 pub(crate) struct Wrap {
-    changes: Option<RcSlice<Change>>,
+    last: Option<Rc<Link>>,
+}
+
+/// The last change, those before it, and what they all make of a leaf without marks and stamps.
+#[cycle(wrap)]
+#[derive(Drop)]
+struct Link {
+    before: Wrap,
+    change: Change,
+    made: Base,
 }
 
 impl Model for Wrap {
-    ghost use Rattle.std.specs.Prelude.{List};
+    ghost use Rattle.std.specs.Prelude.{List, length};
     ghost use Rattle.sx_tree.specs.declared.change.Change.{Change};
-    ghost use Rattle.sx_syntax.specs.Wrap.{pending};
 
     ghost Value = { List Change };
 
-    ghost view = { λ w. pending w.changes };
+    ghost use Rattle.sx_syntax.specs.Wrap.{pending, IsMade};
+
+    ghost view = { λ w. pending w.last };
+
+    ghost invariant = { λ w. IsMade w.last };
+
+    ghost size = { length };
+
+    ghost use Rattle.sx_syntax.specs.WrapFalls.{pending_falls};
+    ghost use Rattle.std.proofs.Common.{arith};
+
+    ghost size_decreases = { λ w h. omega (arith, pending_falls w.last) };
 }
 
-/// Puts a change behind the others. A leave right behind an enter of its own mark takes it back.
-fn add(changes: &mut Vec<Change>, change: Change) -> Result<(), Memory>
-    ensures { OnOk result ((c : LeafContext) → acts changes.new.items c ≡ act change (acts changes.old.items c)) }
-{
-    if let Change::Leave(mark, _) = &change {
-        if let Some(Change::Enter(last)) = changes.last() {
-            if last.same(mark) {
-                changes.pop();
-                return Ok(());
+impl Drop for Wrap {
+    /// A list may be of any length, so link after link goes, up to one that another list has too.
+    fn drop(mut self) {
+        loop {
+            let Wrap { last } = self;
+            match last {
+                None => return,
+                Some(link) => match Rc::into_inner(link) {
+                    None => return,
+                    Some(link) => {
+                        let Link {
+                            before,
+                            change: _,
+                            made: _,
+                        } = link;
+                        self = before;
+                    }
+                },
             }
         }
     }
-    changes.push(change)?;
-    Ok(())
 }
 
 impl Wrap {
@@ -49,37 +74,15 @@ impl Wrap {
     pub(crate) fn none() -> Wrap
         ensures { result ≡ [] }
     {
-        Wrap { changes: None }
-    }
-
-    /// All of these changes. None take no memory.
-    fn from_vec(changes: Vec<Change>) -> Result<Wrap, Memory>
-        ensures { IfOk result (λ w. w ≡ changes.items) }
-    {
-        if changes.is_empty() {
-            return Ok(Wrap { changes: None });
-        }
-        let changes = RcSlice::from_vec(changes)?;
-        Ok(Wrap {
-            changes: Some(changes),
-        })
-    }
-
-    /// These changes, and then one more.
-    pub(crate) fn with(&self, alloc: Global, change: Change) -> Result<Wrap, Memory>
-        ensures { IfOk result (λ w. (c : LeafContext) → acts w c ≡ act change (acts self.now c)) }
-    {
-        let mut changes = self.to_vec(alloc)?;
-        add(&mut changes, change)?;
-        Wrap::from_vec(changes)
+        Wrap { last: None }
     }
 
     pub(crate) fn is_none(&self) -> bool
         ensures { result ≡ (length self.now == 0) }
     {
-        match &self.changes {
+        match &self.last {
             None => true,
-            Some(changes) => changes.len() == 0,
+            Some(_) => false,
         }
     }
 
@@ -87,82 +90,103 @@ impl Wrap {
     pub(crate) fn share(&self) -> Result<Wrap, Memory>
         ensures { IfOk result (λ w. w ≡ self.now) }
     {
-        match &self.changes {
-            None => Ok(Wrap { changes: None }),
-            Some(changes) => {
-                let changes = changes.clone()?;
-                Ok(Wrap {
-                    changes: Some(changes),
-                })
+        match &self.last {
+            None => Ok(Wrap { last: None }),
+            Some(link) => {
+                let link = link.clone()?;
+                Ok(Wrap { last: Some(link) })
             }
         }
     }
 
-    fn as_slice(&self) -> &[Change]
-        ensures { result.now ≡ self.now }
+    /// What these changes make of a leaf without marks and stamps.
+    fn made(&self) -> Result<Base, Memory>
+        ensures { IfOk result (λ b. b ≡ acts self.now blank) }
     {
-        match &self.changes {
-            None => &[],
-            Some(changes) => changes.as_slice(),
+        match &self.last {
+            None => Ok(Base::blank()),
+            Some(link) => link.made.share(),
         }
     }
 
-    /// These changes, and then the outer ones.
+    fn linked(&self, alloc: Global, change: Change, made: Base) -> Result<Wrap, Memory>
+        requires { made ≡ act change (acts self.now blank) }
+        ensures { IfOk result (λ w. w ≡ self.now ++ change ∷ []) }
+    {
+        let before = self.share()?;
+        let link = Rc::new(
+            alloc,
+            Link {
+                before,
+                change,
+                made,
+            },
+        )?;
+        Ok(Wrap { last: Some(link) })
+    }
+
+    /// These changes, and then one more: a link before them. A leave right behind an enter of its own
+    /// mark takes it back.
+    pub(crate) fn with(&self, alloc: Global, change: Change) -> Result<Wrap, Memory>
+        ensures { IfOk result (λ w. (c : LeafContext) → acts w c ≡ act change (acts self.now c)) }
+    {
+        if let Change::Leave(mark, _) = &change {
+            if let Some(link) = &self.last {
+                let link: &Link = link;
+                if let Change::Enter(last) = &link.change {
+                    if last.same(mark) {
+                        return link.before.share();
+                    }
+                }
+            }
+        }
+        let made = self.made()?;
+        let made = made.act(alloc, &change)?;
+        self.linked(alloc, change, made)
+    }
+
+    /// These changes, and then the outer ones. Where there are none of these, it is the outer list.
     pub(crate) fn then(&self, alloc: Global, outer: &Wrap) -> Result<Wrap, Memory>
         ensures { IfOk result (λ w. (c : LeafContext) → acts w c ≡ acts outer.now (acts self.now c)) }
     {
         if self.is_none() {
             return outer.share();
         }
-        if outer.is_none() {
-            return self.share();
-        }
-        let changes = self.all_with(alloc, outer)?;
-        Wrap::from_vec(changes)
-    }
-
-    /// These changes and the outer ones, as one list.
-    fn all_with(&self, alloc: Global, outer: &Wrap) -> Result<Vec<Change>, Memory>
-        ensures { IfOk result (λ v. (c : LeafContext) → acts v.items c ≡ acts outer.now (acts self.now c)) }
-    {
-        let mut changes = self.to_vec(alloc)?;
-        for change in outer.as_slice() {
+        let mut changes = outer.changes(alloc)?;
+        let mut wrap = self.share()?;
+        while let Some(change) = changes.pop() {
             let change = change.share()?;
-            add(&mut changes, change)?;
+            wrap = wrap.with(alloc, change)?;
         }
-        Ok(changes)
+        Ok(wrap)
     }
 
-    fn to_vec(&self, alloc: Global) -> Result<Vec<Change>, Memory>
-        ensures { IfOk result (λ v. v.items ≡ self.now) }
+    /// The changes, the last one first.
+    fn changes(&self, alloc: Global) -> Result<Vec<&Change>, Memory>
+        ensures { IfOk result (λ v. reverse (map (λ c. c.now) v.items) ≡ self.now) }
     {
         let mut changes = Vec::new(alloc);
-        for change in self.as_slice() {
-            let change = change.share()?;
-            changes.push(change)?;
+        let mut left = self;
+        while let Some(link) = &left.last {
+            let link: &Link = link;
+            changes.push(&link.change)?;
+            left = &link.before;
         }
         Ok(changes)
     }
 
-    /// The context of a leaf after these changes.
-    pub(crate) fn context(&self, alloc: Global, context: Context) -> Result<Context, Memory>
-        ensures { IfOk result (λ c. c ≡ acts self.now context) }
+    /// The marks and stamps of a leaf after these changes.
+    pub(crate) fn context(&self, alloc: Global, base: &Base) -> Result<Base, Memory>
+        ensures { IfOk result (λ b. b ≡ acts self.now base.now) }
     {
-        let mut context = context;
-        for change in self.as_slice() {
-            context.act(alloc, change)?;
+        if base.is_blank() {
+            return self.made();
+        }
+        let mut changes = self.changes(alloc)?;
+        let mut context = base.share()?;
+        while let Some(change) = changes.pop() {
+            context = context.act(alloc, change)?;
         }
         Ok(context)
-    }
-
-    /// The marks of a leaf after these changes.
-    pub(crate) fn marks(&self, marks: Marks) -> Result<Marks, Memory>
-        ensures { IfOk result (λ m. m ≡ remarks self.now marks) }
-    {
-        let mut marks = marks;
-        for change in self.as_slice() {
-            marks.act(change)?;
-        }
-        Ok(marks)
     }
 }

@@ -2,7 +2,7 @@ use Rattle.std.proofs.Common.{◌≡◌, ◌-◌, ◌<◌, ◌∙◌, ap, sym, s
 use Rattle.std.proofs.lemmas.Result.{IfOk-weaker}
 use Rattle.sx_tree.specs.Tree.{unspanned}
 use Rattle.sx_syntax.specs.Kept.{Lazily, end_of}
-use Rattle.sx_syntax.specs.KeptView.{view_of, form_of, run_of, list_form, vector_form, InForm, IsListRun, trees, deepest}
+use Rattle.sx_syntax.specs.KeptView.{view_of, whole_of, form_of, run_of, list_form, vector_form, InForm, IsListRun, trees, deepest}
 use Rattle.sx_syntax.specs.Builder.{Built}
 use Rattle.sx_syntax.specs.declared.kept.Node.{Node}
 use Rattle.sx_syntax.proofs.BuiltLemmas.{under_settled}
@@ -21,26 +21,26 @@ kept::Kept::unspanned-returns-in_ok-list-in-List-clause-tree t c =
     let b = c.in_ok-builder-in-List in
     IfOk-weaker c.under.result _ _
     (λ k h. ap (λ (x : Lazily). x.tree) h
-    ∙ unspanned-list c.deref-node.result.now c.args.self.now (ap view_of c.deref-node.ensures ∙ c.self.view_is) (run_of c.in-List.slice) b.builder c.in_ok-list-in-List.list.tree
+    ∙ unspanned-list (whole_of c.self.inside.wrap c.deref-node.result.now) c.args.self.now (ap (λ (x : Node). view_of (whole_of c.self.inside.wrap x)) c.deref-node.ensures ∙ c.self.view_is) (run_of c.in-List.slice) b.builder c.in_ok-list-in-List.list.tree
     (ap form_of c.in-List.is) b.ensures.elements b.ensures.tail c.in_ok-list-in-List.ensures.tree)
     c.under.ensures
 
 pub kept::Kept::unspanned-returns-in_ok-list-in-List-clause-settled : goal.kept::Kept::unspanned-returns-in_ok-list-in-List-clause-settled
 kept::Kept::unspanned-returns-in_ok-list-in-List-clause-settled t c =
-    IfOk-weaker c.under.result _ _ (λ k h. under_settled c.deref-node.result.now.wrap c.in_ok-list-in-List.list k h c.in_ok-list-in-List.ensures.settled) c.under.ensures
+    IfOk-weaker c.under.result _ _ (λ k h. under_settled c.self.inside.wrap c.in_ok-list-in-List.list k h c.in_ok-list-in-List.ensures.settled) c.under.ensures
 
 pub kept::Kept::unspanned-returns-in_ok-vector-in-Vector-clause-tree : goal.kept::Kept::unspanned-returns-in_ok-vector-in-Vector-clause-tree
 kept::Kept::unspanned-returns-in_ok-vector-in-Vector-clause-tree t c =
     let b = c.in_ok-builder-in-Vector in
     IfOk-weaker c.under-in-Vector.result _ _
     (λ k h. ap (λ (x : Lazily). x.tree) h
-    ∙ unspanned-vector c.deref-node.result.now c.args.self.now (ap view_of c.deref-node.ensures ∙ c.self.view_is) (run_of c.in-Vector.slice) b.builder c.in_ok-vector-in-Vector.vector.tree
+    ∙ unspanned-vector (whole_of c.self.inside.wrap c.deref-node.result.now) c.args.self.now (ap (λ (x : Node). view_of (whole_of c.self.inside.wrap x)) c.deref-node.ensures ∙ c.self.view_is) (run_of c.in-Vector.slice) b.builder c.in_ok-vector-in-Vector.vector.tree
     (ap form_of c.in-Vector.is) b.ensures.elements b.ensures.tail c.in_ok-vector-in-Vector.ensures.tree)
     c.under-in-Vector.ensures
 
 pub kept::Kept::unspanned-returns-in_ok-vector-in-Vector-clause-settled : goal.kept::Kept::unspanned-returns-in_ok-vector-in-Vector-clause-settled
 kept::Kept::unspanned-returns-in_ok-vector-in-Vector-clause-settled t c =
-    IfOk-weaker c.under-in-Vector.result _ _ (λ k h. under_settled c.deref-node.result.now.wrap c.in_ok-vector-in-Vector.vector k h c.in_ok-vector-in-Vector.ensures.settled) c.under-in-Vector.ensures
+    IfOk-weaker c.under-in-Vector.result _ _ (λ k h. under_settled c.self.inside.wrap c.in_ok-vector-in-Vector.vector k h c.in_ok-vector-in-Vector.ensures.settled) c.under-in-Vector.ensures
 
 pub kept::Slice::unspanned-before-builder-requires-clause-fits : goal.kept::Slice::unspanned-before-builder-requires-clause-fits
 kept::Slice::unspanned-before-builder-requires-clause-fits t c = unspanned_end_fits (run_of c.args.self.now) _ c.requires.fits c.in_ok-tail.ensures.tree

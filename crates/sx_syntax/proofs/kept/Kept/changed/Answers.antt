@@ -1,12 +1,12 @@
-use Rattle.std.proofs.Common.{◌∙◌, ◌∷◌, [], ap}
-use Rattle.std.proofs.lemmas.Result.{IfOk-weaker}
-use Rattle.sx_syntax.specs.KeptView.{view_of}
+use Rattle.std.proofs.Common.{◌≡◌, ◌∙◌, ap, refl, ◌∷◌, []}
+use Rattle.sx_syntax.specs.KeptView.{view_of, whole_of, form_of}
+use Rattle.sx_syntax.specs.declared.kept.Node.{Node}
 use Rattle.sx_syntax.proofs.KeptLemmas.{under_node}
 use Rattle.sx_syntax.proofs.kept.Kept.changed.Goals as goal
 
 pub returns : goal.returns
 returns c =
-    let n = c.deref-node.result.now in
-    IfOk-weaker c.new.result _ _
-    (λ k h. h ∙ under_node n c.args.self.now (ap view_of c.deref-node.ensures ∙ c.self.view_is) c.in_ok-wrap.wrap (c.args.change ∷ []) c.in_ok-span.span _ c.in_ok-wrap.ensures c.in_ok-span.ensures c.in_ok-shape.ensures)
-    c.new.ensures
+    let n = whole_of c.self.inside.wrap c.self.inside.node.value in
+    let same : c.in_ok-node.node.value ≡ c.self.inside.node.value = c.in_ok-node.ensures.cases in
+    ap (λ (x : Node). view_of (whole_of c.in_ok-wrap.wrap x)) same
+    ∙ under_node n c.args.self.now c.self.view_is c.in_ok-wrap.wrap (c.args.change ∷ []) n.span (form_of n.shape) c.in_ok-wrap.ensures refl refl

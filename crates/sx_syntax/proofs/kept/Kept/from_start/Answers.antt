@@ -1,7 +1,7 @@
 use Rattle.std.proofs.Common.{ap, ◌∙◌, sym, subst}
 use Rattle.std.proofs.lemmas.Result.{IfOk-weaker}
 use Rattle.sx_syntax.specs.Kept.{Lazily, IsSettled}
-use Rattle.sx_syntax.specs.KeptView.{view_of, form_of, run_of, InForm}
+use Rattle.sx_syntax.specs.KeptView.{view_of, whole_of, form_of, run_of, InForm}
 use Rattle.sx_syntax.specs.declared.kept.Node.{Node}
 use Rattle.sx_syntax.proofs.FormLemmas.{list_settled}
 use Rattle.sx_syntax.proofs.NodeLemmas.{settled_other}
@@ -17,7 +17,7 @@ returns-in_ok-span-in-List-clause-settled c =
 
 pub returns-in_default : goal.returns-in_default
 returns-in_default c =
-    let settled : IsSettled c.args.self.now = settled_other c.deref-node.result.now c.args.self.now (ap view_of c.deref-node.ensures ∙ c.self.view_is)
+    let settled : IsSettled c.args.self.now = settled_other (whole_of c.self.inside.wrap c.deref-node.result.now) c.args.self.now (ap (λ (x : Node). view_of (whole_of c.self.inside.wrap x)) c.deref-node.ensures ∙ c.self.view_is)
     (subst (λ (n : Node). InForm (form_of n.shape)) (sym c.deref-node.ensures) c.self.invariant) c.in_default.not-List in
     record {
       tree = IfOk-weaker c.share-in_default.result _ _ (λ k h. ap (λ (x : Lazily). x.tree) h) c.share-in_default.ensures;
