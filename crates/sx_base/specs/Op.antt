@@ -3,7 +3,7 @@ use Rattle.std.specs.Prelude.{ℕ, ◌+◌, Bool, ◌&&◌, ◌||◌, nat_le, �
 use Rattle.std.specs.Borrow.{Bor}
 use Rattle.std.specs.Cmp.Lexicographic.{pointwise}
 use Rattle.std.proofs.Common.{get_or}
-use Rattle.sx_base.specs.declared.op.TheConstants.{OP_NAMES}
+use Rattle.sx_base.specs.OpNames.{op_names}
 
 abbrev pub now_all : List (Bor (List ℕ)) → List (List ℕ)
 now_all texts = map (λ (text : Bor (List ℕ)). text.now) texts
@@ -11,9 +11,6 @@ now_all texts = map (λ (text : Bor (List ℕ)). text.now) texts
 -- the text at a place of a table, and no text past the last
 abbrev pub text_at : List (Bor (List ℕ)) → ℕ → List ℕ
 text_at texts n = get_or (now_all texts) n []
-
-abbrev pub op_names : List (List ℕ)
-op_names = map (λ (text : record { now : List ℕ }). text.now) OP_NAMES
 
 -- the report name of an op, and no text past the last
 abbrev pub op_text : ℕ → List ℕ

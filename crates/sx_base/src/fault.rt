@@ -112,6 +112,8 @@ pub enum FaultKind {
     NotTransformer = 47,
     /// A form that isn't built yet.
     NotBuilt = 90,
+    /// Cells of an evaluation that don't fit, which no run meets.
+    Stuck = 91,
 }
 
 impl FaultKind {
@@ -175,6 +177,7 @@ impl FaultKind {
             FaultKind::BadOutput => "BadOutput",
             FaultKind::NotTransformer => "NotTransformer",
             FaultKind::NotBuilt => "NotBuilt",
+            FaultKind::Stuck => "Stuck",
         }
     }
 }
