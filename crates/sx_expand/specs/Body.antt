@@ -14,6 +14,7 @@ use Rattle.sx_core.specs.declared.code.Init.{Init}
 use Rattle.sx_core.specs.declared.record.Line.{Line}
 use Rattle.sx_core.specs.declared.record.Line.TheVariants as line
 use Rattle.sx_standing.specs.State.{Does, fresh, fresh_frame, fault_form}
+use Rattle.sx_standing.specs.InScope.{within}
 use Rattle.sx_heads.specs.Items.{begun, item_plan}
 use Rattle.sx_heads.specs.declared.taken.BodyAt.{BodyAt}
 use Rattle.sx_heads.specs.declared.taken.BodyKind.TheVariants as body_kind
@@ -93,4 +94,4 @@ body_in go place level depth t forms frame s =
 
 -- the body of a procedure or `letrec`, which is t: its frame comes first, on all its forms
 unfoldable pub body : Inside → Span → ℕ → ℕ → Tree → List Tree → Does PlainCore
-body go place level depth t forms s = after (fresh_frame s) (body_in go place level depth t forms)
+body go place level depth t forms = within (λ s. after (fresh_frame s) (body_in go place level depth t forms))

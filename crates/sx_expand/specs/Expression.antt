@@ -15,6 +15,7 @@ use Rattle.sx_shapes.specs.declared.shape.FormalIds.{FormalIds}
 use Rattle.sx_shapes.specs.declared.shape.BindingSpec.{BindingSpec}
 use Rattle.sx_shapes.specs.declared.shape.LambdaCase.{LambdaCase}
 use Rattle.sx_standing.specs.State.{Does, fresh, fresh_frame, fault_form}
+use Rattle.sx_standing.specs.InScope.{within}
 use Rattle.sx_standing.specs.Binders.{bind_specs, bind_formals}
 use Rattle.sx_expand.specs.Inside.{Inside, deeper}
 use Rattle.sx_expand.specs.Body.{body, item, sequence_of}
@@ -33,7 +34,7 @@ case_in go place level depth t ids forms frame s =
     after (bind_formals frame place level ids s) (λ formals s'. after (body go place level depth t (map (stamp frame) forms) s') (λ c. give (record { formals = formals; body = c })))
 
 unfoldable pub lambda_case : Inside → Span → ℕ → ℕ → Tree → FormalIds → List Tree → Does Lambda
-lambda_case go place level depth t ids forms s = after (fresh_frame s) (case_in go place level depth t ids forms)
+lambda_case go place level depth t ids forms = within (λ s. after (fresh_frame s) (case_in go place level depth t ids forms))
 
 -- the number of the code comes before the names of its cases
 unfoldable pub lambda : Inside → Span → ℕ → ℕ → Tree → FormalIds → List Tree → Does PlainCore
@@ -64,7 +65,7 @@ letrec_in go place level depth t star bs forms frame s =
     after (body go place level depth t (map (stamp frame) forms) s'') (λ c. give (letrec star (inits is) c))))
 
 unfoldable pub letrec_form : Inside → Span → ℕ → ℕ → Tree → Bool → List BindingSpec → List Tree → Does PlainCore
-letrec_form go place level depth t star bs forms s = after (fresh_frame s) (letrec_in go place level depth t star bs forms)
+letrec_form go place level depth t star bs forms = within (λ s. after (fresh_frame s) (letrec_in go place level depth t star bs forms))
 
 -- the operator and the operands, from left to right
 unfoldable pub application : Inside → Span → ℕ → ℕ → Tree → List Tree → Does PlainCore

@@ -264,6 +264,7 @@ pub fn body<N: Ledger>(
 ) -> Result<Core, Stop>
     ensures { GivesAfter (λ c. c) result state.new (body (inside room) place.now level depth form.now forms.now state.old) }
 {
+    let outer = state.in_scope();
     let frame = state.fresh_frame()?;
     let forms = stamp_all(state.alloc(), &frame, forms, nodes)?;
     let at = BodyAt {
@@ -278,5 +279,7 @@ pub fn body<N: Ledger>(
         has_expression: false,
     };
     splice(state, &at, depth, &mut taken, forms.as_slice(), nodes, room)?;
-    finish(state, form, &taken, place, level, nodes, room)
+    let core = finish(state, form, &taken, place, level, nodes, room)?;
+    state.cut_scope(outer);
+    Ok(core)
 }

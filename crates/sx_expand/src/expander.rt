@@ -51,8 +51,7 @@ impl Model for Expander {
 
 impl Expander {
     /// An expander for a library. The records before it are those of the earlier ones that are marked; the
-    /// imports are names with their labels. An earlier record of this library and two imports of one name are
-    /// refused as want of memory is.
+    /// imports are names with their labels. Two imports of one name are refused as want of memory is.
     pub fn new(
         alloc: Global,
         name: LibName,
@@ -88,6 +87,8 @@ impl Expander {
         ensures given { GivesAfter (λ c. c) result self.new.state (expression place.now level form.now self.old.state) }
         ensures ok { OnOk result (self.new.failed ≡ false) }
         ensures err { OnErr result (self.new.failed ≡ true) }
+        ensures frame { self.new.frame ≡ self.old.frame }
+        ensures path { self.new.path ≡ self.old.path }
     {
         match expression(&mut self.state, form, place, level, 0, nodes, ROOM) {
             Ok(core) => Ok(core),
@@ -110,6 +111,8 @@ impl Expander {
         ensures given { GivesAfter (λ c. c) result self.new.state (lambda_body place.now level forms.now self.old.state) }
         ensures ok { OnOk result (self.new.failed ≡ false) }
         ensures err { OnErr result (self.new.failed ≡ true) }
+        ensures frame { self.new.frame ≡ self.old.frame }
+        ensures path { self.new.path ≡ self.old.path }
     {
         match lambda_body(&mut self.state, forms, place, level, nodes) {
             Ok(core) => Ok(core),

@@ -438,6 +438,7 @@ pub fn lambda_case<N: Ledger>(
 ) -> Result<Lambda, Stop>
     ensures { GivesAfter (λ c. c) result state.new (lambda_case (inside room) place.now level depth form.now ids.now forms.now state.old) }
 {
+    let outer = state.in_scope();
     let frame = state.fresh_frame()?;
     let formals = state.bind_formals(&frame, place, level, ids)?;
     let forms = stamp_all(state.alloc(), &frame, forms, nodes)?;
@@ -451,6 +452,7 @@ pub fn lambda_case<N: Ledger>(
         nodes,
         room,
     )?;
+    state.cut_scope(outer);
     Ok(Lambda { formals, body })
 }
 
@@ -502,6 +504,7 @@ fn letrec_form<N: Ledger>(
 ) -> Result<Core, Stop>
     ensures { GivesAfter (λ c. c) result state.new (letrec_form (inside room) place.now level depth form.now star specs.now forms.now state.old) }
 {
+    let outer = state.in_scope();
     let frame = state.fresh_frame()?;
     let bound = state.bind_specs(&frame, place, level, specs)?;
     let inits = all_inits(
@@ -526,6 +529,7 @@ fn letrec_form<N: Ledger>(
         room,
     )?;
     let body = Box::new(state.alloc(), body)?;
+    state.cut_scope(outer);
     Ok(Core {
         node: CoreNode::Letrec(star, inits, body),
     })

@@ -121,7 +121,7 @@ item_by at depth done t f role.Sequence = with_shape (shape f t at.place) (begin
 item_by at depth done t f role.Definition = with_shape (shape f t at.place) (λ x. alone (define_item at depth done t x))
 item_by at depth done t f role.Keywords = fault_form kind.NotBuilt t at.place
 item_by at depth done t f role.Record = fault_form kind.NotBuilt t at.place
-item_by at depth done t f role.RecordValue = alone (wait at depth done t)
+item_by at depth done t f role.RecordValue = fault_form kind.NotBuilt t at.place
 item_by at depth done t f role.Auxiliary = alone (wait at depth done t)
 
 unfoldable pub core_item : BodyAt → ℕ → Taken → Tree → CoreForm → Taking
@@ -133,7 +133,7 @@ headed_item at depth done t (standing.Variable v) = alone (wait at depth done t)
 headed_item at depth done t standing.PatternVariable = alone (wait at depth done t)
 headed_item at depth done t (standing.Primitive op) = alone (wait at depth done t)
 headed_item at depth done t (standing.Core f) = core_item at depth done t f
-headed_item at depth done t standing.Keyword = fault_form kind.NotBuilt t at.place
+headed_item at depth done t (standing.Keyword l) = fault_form kind.NotBuilt t at.place
 
 unfoldable pub list_item : BodyAt → ℕ → Taken → Tree → Tree → Taking
 list_item at depth done t head s =
@@ -146,7 +146,7 @@ leaf_by at depth done t (standing.Variable v) = wait at depth done t
 leaf_by at depth done t standing.PatternVariable = wait at depth done t
 leaf_by at depth done t (standing.Primitive op) = wait at depth done t
 leaf_by at depth done t (standing.Core f) = wait at depth done t
-leaf_by at depth done t standing.Keyword = fault_form kind.NotBuilt t at.place
+leaf_by at depth done t (standing.Keyword l) = fault_form kind.NotBuilt t at.place
 
 unfoldable pub leaf_item : BodyAt → ℕ → Taken → Tree → Does Taken
 leaf_item at depth done t s = after (keep done t s) (λ kept s'. leaf_by at depth kept t (standing_of s' t) s')

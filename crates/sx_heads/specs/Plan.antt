@@ -16,6 +16,7 @@ use Rattle.sx_shapes.specs.Forms.{shape}
 use Rattle.sx_shapes.specs.declared.shape.Shape.{Shape}
 use Rattle.sx_shapes.specs.declared.shape.Shape.TheVariants as shapes
 use Rattle.sx_standing.specs.State.{Does, fault_form, fault_word}
+use Rattle.sx_standing.specs.InScope.{is_in_scope}
 use Rattle.sx_standing.specs.Own.{mark_assigned}
 use Rattle.sx_standing.specs.Standing.{standing_of, role_of}
 use Rattle.sx_standing.specs.declared.standing.Standing.{Standing}
@@ -29,12 +30,13 @@ use Rattle.sx_heads.specs.declared.plan.Plan.TheVariants as plans
 abbrev pub done : PlainCore → Does Plan
 done c = give (plans.Done c)
 
--- References. A variable is in scope at its own level; a variable of another library at every level, if that defines it
+-- References. A variable of the library stands where it is in scope, at its own level; a variable of another library at every level, if that defines it
 -- at its top level and doesn't assign it.
 
 unfoldable pub variable_at : Span → ℕ → Tree → Variable → Does Plan
 variable_at place level id v s =
-    if v.own then (if nat_eq v.level level then done (variable v.label) s else fault_word kind.OutOfContext id id place s)
+    if v.own then (if nat_eq v.level level then (if is_in_scope s v then done (variable v.label) s else fault_word kind.OutOfContext id id place s)
+    else fault_word kind.OutOfContext id id place s)
     else if v.top then (if v.assigned then fault_word kind.AssignedElsewhere id id place s else done (variable v.label) s)
     else fault_word kind.OutOfContext id id place s
 
@@ -44,7 +46,7 @@ refer place level id (standing.Variable v) = variable_at place level id v
 refer place level id standing.PatternVariable = fault_word kind.KeywordMisuse id id place
 refer place level id (standing.Primitive op) = done (primitive op)
 refer place level id (standing.Core f) = fault_word kind.KeywordMisuse id id place
-refer place level id standing.Keyword = fault_form kind.NotBuilt id place
+refer place level id (standing.Keyword l) = fault_form kind.NotBuilt id place
 
 unfoldable pub reference : Span → ℕ → Tree → Does Plan
 reference place level id s = refer place level id (standing_of s id) s
@@ -57,7 +59,8 @@ constant place t is_nil s = if is_nil then fault_form kind.BadForm t place s els
 
 unfoldable pub target_variable : Span → ℕ → Tree → Tree → Variable → Does Label
 target_variable place level t id v s =
-    if v.own then (if nat_eq v.level level then (if has_label s.exports v.label then fault_word kind.AssignedExport id t place s else mark_assigned v.label s)
+    if v.own then (if nat_eq v.level level then (if is_in_scope s v then (if has_label s.exports v.label then fault_word kind.AssignedExport id t place s else mark_assigned v.label s)
+    else fault_word kind.OutOfContext id id place s)
     else fault_word kind.OutOfContext id id place s)
     else if v.top then (if has_label s.exports v.label then fault_word kind.AssignedExport id t place s else fault_word kind.AssignedImport id t place s)
     else fault_word kind.OutOfContext id id place s
@@ -68,7 +71,7 @@ target_by place level t id (standing.Variable v) = target_variable place level t
 target_by place level t id standing.PatternVariable = fault_word kind.KeywordMisuse id id place
 target_by place level t id (standing.Primitive op) = fault_word kind.AssignedImport id t place
 target_by place level t id (standing.Core f) = fault_word kind.KeywordMisuse id t place
-target_by place level t id standing.Keyword = fault_word kind.KeywordMisuse id t place
+target_by place level t id (standing.Keyword l) = fault_word kind.KeywordMisuse id t place
 
 unfoldable pub target : Span → ℕ → Tree → Tree → Does Label
 target place level t id s = target_by place level t id (standing_of s id) s
@@ -134,7 +137,7 @@ by_head place level t head rest (standing.Variable v) = application place t head
 by_head place level t head rest standing.PatternVariable = application place t head rest
 by_head place level t head rest (standing.Primitive op) = application place t head rest
 by_head place level t head rest (standing.Core f) = keyword_plan place level t head f
-by_head place level t head rest standing.Keyword = fault_form kind.NotBuilt t place
+by_head place level t head rest (standing.Keyword l) = fault_form kind.NotBuilt t place
 
 -- a list with one or more elements
 unfoldable pub list_plan : Span → ℕ → Tree → Tree → Tree → Does Plan

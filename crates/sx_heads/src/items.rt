@@ -153,7 +153,7 @@ fn leaf_item(
         Standing::PatternVariable => wait(state, at, depth, taken, form),
         Standing::Primitive(_) => wait(state, at, depth, taken, form),
         Standing::Core(_) => wait(state, at, depth, taken, form),
-        Standing::Keyword => Err(state.fault_form(FaultKind::NotBuilt, form, &at.place)),
+        Standing::Keyword(_) => Err(state.fault_form(FaultKind::NotBuilt, form, &at.place)),
     }
 }
 
@@ -285,7 +285,7 @@ fn core_item(
         }
         Role::Keywords => Err(state.fault_form(FaultKind::NotBuilt, form, &at.place)),
         Role::Record => Err(state.fault_form(FaultKind::NotBuilt, form, &at.place)),
-        Role::RecordValue => alone(state, at, depth, taken, form),
+        Role::RecordValue => Err(state.fault_form(FaultKind::NotBuilt, form, &at.place)),
         Role::Auxiliary => alone(state, at, depth, taken, form),
     }
 }
@@ -335,7 +335,7 @@ fn headed_item(
         Standing::PatternVariable => alone(state, at, depth, taken, form),
         Standing::Primitive(_) => alone(state, at, depth, taken, form),
         Standing::Core(which) => core_item(state, at, depth, taken, form, *which),
-        Standing::Keyword => Err(state.fault_form(FaultKind::NotBuilt, form, &at.place)),
+        Standing::Keyword(_) => Err(state.fault_form(FaultKind::NotBuilt, form, &at.place)),
     }
 }
 

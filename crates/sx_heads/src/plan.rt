@@ -90,7 +90,10 @@ fn variable_at(
 {
     if variable.own {
         if variable.level == level {
-            return mention(state, &variable.label);
+            if state.is_in_scope(variable) {
+                return mention(state, &variable.label);
+            }
+            return Err(state.fault_word(FaultKind::OutOfContext, id, id, place));
         }
         return Err(state.fault_word(FaultKind::OutOfContext, id, id, place));
     }
@@ -118,7 +121,7 @@ fn refer(
         Standing::PatternVariable => Err(state.fault_word(FaultKind::KeywordMisuse, id, id, place)),
         Standing::Primitive(op) => done(state, CoreNode::Prim(*op)),
         Standing::Core(_) => Err(state.fault_word(FaultKind::KeywordMisuse, id, id, place)),
-        Standing::Keyword => Err(state.fault_form(FaultKind::NotBuilt, id, place)),
+        Standing::Keyword(_) => Err(state.fault_form(FaultKind::NotBuilt, id, place)),
     }
 }
 
@@ -143,6 +146,9 @@ fn target_variable(
 {
     if variable.own {
         if variable.level != level {
+            return Err(state.fault_word(FaultKind::OutOfContext, id, id, place));
+        }
+        if !state.is_in_scope(variable) {
             return Err(state.fault_word(FaultKind::OutOfContext, id, id, place));
         }
         if state.has_export(&variable.label) {
@@ -175,7 +181,7 @@ fn target_by(
         Standing::PatternVariable => Err(state.fault_word(FaultKind::KeywordMisuse, id, id, place)),
         Standing::Primitive(_) => Err(state.fault_word(FaultKind::AssignedImport, id, form, place)),
         Standing::Core(_) => Err(state.fault_word(FaultKind::KeywordMisuse, id, form, place)),
-        Standing::Keyword => Err(state.fault_word(FaultKind::KeywordMisuse, id, form, place)),
+        Standing::Keyword(_) => Err(state.fault_word(FaultKind::KeywordMisuse, id, form, place)),
     }
 }
 
@@ -318,7 +324,7 @@ fn by_head(
         Standing::PatternVariable => application(state, form, head, rest, place),
         Standing::Primitive(_) => application(state, form, head, rest, place),
         Standing::Core(which) => keyword_plan(state, form, head, *which, place, level),
-        Standing::Keyword => Err(state.fault_form(FaultKind::NotBuilt, form, place)),
+        Standing::Keyword(_) => Err(state.fault_form(FaultKind::NotBuilt, form, place)),
     }
 }
 

@@ -4,8 +4,8 @@ use Rattle.sx_frames.specs.Given as of_frames
 use Rattle.sx_frames.specs.Needed as of_scopes
 use Rattle.sx_frames.specs.Scope.{Scope, adopted}
 use Rattle.sx_core.specs.declared.record.LibRecord.{LibRecord}
-use Rattle.sx_standing.specs.Known.{Bound, Parts, flat}
-use Rattle.sx_standing.specs.Needed.{needed_parts}
+use Rattle.sx_known.specs.Known.{Bound, Parts, flat}
+use Rattle.sx_known.specs.Needed.{needed_parts}
 use Rattle.sx_standing.specs.Ready.{frames_part, bindings_part, needed_records}
 use Rattle.sx_standing.specs.Start.{bindings_of, rows_of}
 use Rattle.sx_frames.proofs.ApartLaws.{given_are_adopted}

@@ -24,6 +24,7 @@ use Rattle.sx_shapes.specs.Lists.{is_leaf}
 use Rattle.sx_base.specs.declared.fault.FaultKind.TheVariants as kind
 use Rattle.sx_standing.specs.declared.binders.BoundSpec.{BoundSpec}
 use Rattle.sx_standing.specs.State.{State, Does, fresh, fault_form}
+use Rattle.sx_standing.specs.InScope.{with_local}
 
 -- the number of a variable of level 0 among those of the library
 abbrev pub index_at : ℕ → ℕ → Option ℕ
@@ -53,7 +54,7 @@ abbrev pub put_row : Tree → Span → FrameNo → Label → Does (Unit {0})
 put_row id place frame l s = row_put id place s (bound s.frames frame (row_for id l))
 
 abbrev pub put_variable : Label → VarInfo → Does (Unit {0})
-put_variable l v s = Ok (tt, record s { bindings = s.bindings ++ (l, binding.Variable v) ∷ []; index = next_index v.level s.index })
+put_variable l v s = Ok (tt, record s { bindings = s.bindings ++ (l, binding.Variable v) ∷ []; index = next_index v.level s.index; scope = with_local v.top l s.scope })
 
 abbrev pub bind_as : FrameNo → Tree → Span → ℕ → Bool → Named → Does Label
 bind_as frame id place level top n s = after (put_row id place frame (record { 0 = n }) s) (λ _ t. after (put_variable (record { 0 = n }) (variable_for id level top s.index) t) (λ _. give (record { 0 = n })))

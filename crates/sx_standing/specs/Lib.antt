@@ -1,7 +1,6 @@
 pub mod State
 pub mod Standing
-pub mod Known
-pub mod Needed
+pub mod InScope
 pub mod Ready
 pub mod Binders
 pub mod Start

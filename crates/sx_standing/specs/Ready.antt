@@ -3,7 +3,7 @@ use Rattle.std.specs.Prelude.{◌≡◌, Bool, List, [], ◌∷◌, map, if◌th
 use Rattle.sx_frames.specs.Given as of_frames
 use Rattle.sx_frames.specs.Scope.{adopted}
 use Rattle.sx_core.specs.declared.record.LibRecord.{LibRecord}
-use Rattle.sx_standing.specs.Known.{Part, Parts}
+use Rattle.sx_known.specs.Known.{Part, Parts}
 
 -- the frames that a record's rows make
 abbrev pub frames_part : LibRecord → of_frames.Part

@@ -24,23 +24,23 @@ known_as s l v = standing.Variable (record { label = l; own = same_library l.0.l
 
 -- a label without a binding is that of a keyword whose library isn't built yet
 abbrev pub bound_as : State → Label → Option Binding → Standing
-bound_as s l None = standing.Keyword
+bound_as s l None = standing.Keyword l
 bound_as s l (Some (binding.Variable v)) = known_as s l v
 bound_as s l (Some (binding.PatternVariable level depth)) = standing.PatternVariable
-bound_as s l (Some (binding.Macro level expression)) = standing.Keyword
+bound_as s l (Some (binding.Macro level expression)) = standing.Keyword l
 bound_as s l (Some (binding.Core f)) = standing.Core f
 bound_as s l (Some (binding.Primitive op)) = standing.Primitive op
 
-abbrev pub given_as : ℕ → Option CoreForm → Standing
-given_as n (Some f) = standing.Core f
-given_as n None = if is_keyword n then standing.Keyword else standing.Primitive (record { 0 = n })
+abbrev pub given_as : Label → Option CoreForm → Standing
+given_as l (Some f) = standing.Core f
+given_as l None = if is_keyword l.0.number then standing.Keyword l else standing.Primitive (record { 0 = l.0.number })
 
 -- the names that this implementation gives, by number
-abbrev pub numbered_as : ℕ → Standing
-numbered_as n = if nat_lt n 301 then given_as n (at_number n) else standing.Nothing
+abbrev pub numbered_as : Label → Standing
+numbered_as l = if nat_lt l.0.number 301 then given_as l (at_number l.0.number) else standing.Nothing
 
 unfoldable pub label_standing : State → Label → Standing
-label_standing s l = if same_library l.0.library library.Core then numbered_as l.0.number else bound_as s l (bound_to s.bindings l)
+label_standing s l = if same_library l.0.library library.Core then numbered_as l else bound_as s l (bound_to s.bindings l)
 
 abbrev pub standing_by : State → Option Label → Standing
 standing_by s None = standing.Nothing
@@ -56,7 +56,7 @@ is_keyword_standing (standing.Variable v) = false
 is_keyword_standing standing.PatternVariable = false
 is_keyword_standing (standing.Primitive op) = false
 is_keyword_standing (standing.Core f) = true
-is_keyword_standing standing.Keyword = true
+is_keyword_standing (standing.Keyword l) = true
 
 -- what forms of a keyword do
 unfoldable pub role_of : CoreForm → Role

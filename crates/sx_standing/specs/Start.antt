@@ -52,4 +52,5 @@ started library records imports = record {
   assigned = [];
   uses_left = 1000000;
   index = 0;
+  scope = [];
 }

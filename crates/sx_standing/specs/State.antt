@@ -18,7 +18,8 @@ use Rattle.sx_core.specs.declared.binding.Binding.{Binding}
 use Rattle.sx_shapes.specs.At.{fault_at}
 
 -- the library; the next name; what symbols stand for in each frame; what labels are bound to; the labels that the library exports and
--- the variables that it assigns; how many uses of keywords are left; how many variables were bound at level 0
+-- the variables that it assigns; how many uses of keywords are left; how many variables were bound at level 0; and the labels in scope
+-- that aren't of the top
 pub record State : Type 0 where
   pub library : LibName
   pub names : Named
@@ -28,13 +29,14 @@ pub record State : Type 0 where
   pub assigned : List Label
   pub uses_left : ℕ
   pub index : ℕ
+  pub scope : List Label
 
 -- a code of states, by that of their fields
 abbrev pub Fields : Type 0
-Fields = LibName × (Named × (Scope × (List (Label × Binding) × (List Label × (List Label × (ℕ × ℕ))))))
+Fields = LibName × (Named × (Scope × (List (Label × Binding) × (List Label × (List Label × (ℕ × (ℕ × List Label)))))))
 
 abbrev pub fields_of : State → Fields
-fields_of s = (s.library, (s.names, (s.frames, (s.bindings, (s.exports, (s.assigned, (s.uses_left, s.index)))))))
+fields_of s = (s.library, (s.names, (s.frames, (s.bindings, (s.exports, (s.assigned, (s.uses_left, (s.index, s.scope))))))))
 
 abbrev pub of_fields : Fields → State
 of_fields f = record {
@@ -45,7 +47,8 @@ of_fields f = record {
   exports = f.1.1.1.1.0;
   assigned = f.1.1.1.1.1.0;
   uses_left = f.1.1.1.1.1.1.0;
-  index = f.1.1.1.1.1.1.1;
+  index = f.1.1.1.1.1.1.1.0;
+  scope = f.1.1.1.1.1.1.1.1;
 }
 
 abbrev pub labels_code : Coded (List Label)
@@ -53,19 +56,11 @@ labels_code = coded_list labels.the_row.coded
 
 abbrev pub state_code : Coded State
 state_code = code_by Fields
-    (coded× libraries.the_row.coded (coded× named_code (coded× scope_code (coded× bindings_code (coded× labels_code (coded× labels_code (coded× coded_ℕ coded_ℕ)))))))
+    (coded× libraries.the_row.coded (coded× named_code (coded× scope_code (coded× bindings_code (coded× labels_code (coded× labels_code (coded× coded_ℕ (coded× coded_ℕ labels_code))))))))
     fields_of of_fields (λ _. refl)
 
 abbrev pub Does : Type 0 → Type 0
 Does A = Act State A
-
--- a name of the library was made if it is below the next one
-abbrev pub IsMade : Named → Named → Type 0
-IsMade next n = n.library ≡ next.library → n.number < next.number
-
-abbrev pub AreMade : Named → List (Label × Binding) → Type 0
-AreMade next [] = Unit {0}
-AreMade next (b ∷ bs) = IsMade next b.0.0 × AreMade next bs
 
 -- the next name of the library, which never comes again
 unfoldable pub fresh : Does Named

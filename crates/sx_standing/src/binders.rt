@@ -1,9 +1,7 @@
 //! Binding identifiers in frames.
 
-ghost use Rattle.std.specs.Prelude.{◌≡◌, ◌∷◌, ◌++◌, [], IfOk, OnErr, None};
+ghost use Rattle.std.specs.Prelude.{◌≡◌, ◌∷◌, ◌++◌, [], IfOk, OnOk};
 ghost use Rattle.sx_base.specs.Act.{GivesAfter};
-ghost use Rattle.sx_core.specs.Bindings.{bound_to};
-ghost use Rattle.sx_standing.specs.State.{IsMade};
 ghost use Rattle.sx_standing.specs.Binders.{bind_variable, bind_as, put_row, put_variable, StopsAt, bind_all, bind_rest, bind_spec, bind_specs, bind_formals, variable_for, index_at, next_index};
 
 use crate::expansion::{Expansion, symbol_in};
@@ -76,14 +74,22 @@ impl Expansion {
         }
     }
 
-    #[tactic(auto, using(crate::proofs::Made::made_with))]
+    /// Adds a row to the bindings. A label that has one is refused as want of memory is; no label of a new name has.
+    fn add_row(&mut self, label: Label, binding: Binding) -> Result<(), Memory>
+        ensures { OnOk result (self.new ≡ record self.old { bindings = self.old.bindings ++ (label, binding) ∷ [] }) }
+    {
+        if self.bindings.get(&label).is_some() {
+            return Err(Memory);
+        }
+        self.bindings.add(label, binding)
+    }
+
     fn add_binding(&mut self, label: Label, info: VarInfo) -> Result<(), Stop>
-        requires new { bound_to self.old.bindings label ≡ None }
-        requires made { IsMade self.old.names label.0 }
         ensures { GivesAfter (λ _. tt) result self.new (put_variable label info self.old) }
     {
         let next = next_index(info.level, self.index)?;
-        self.bindings.add(label, Binding::Variable(info))?;
+        self.scope.add_local(&label, info.top)?;
+        self.add_row(label, Binding::Variable(info))?;
         self.index = next;
         Ok(())
     }
@@ -97,8 +103,6 @@ impl Expansion {
         top: bool,
         name: Name,
     ) -> Result<Label, Stop>
-        requires new { bound_to self.old.bindings (record { 0 = name }) ≡ None }
-        requires made { IsMade self.old.names name }
         ensures { GivesAfter (λ l. l) result self.new (bind_as frame.now id.now place.now level top name self.old) }
     {
         let label = Label(name);

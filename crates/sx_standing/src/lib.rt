@@ -20,12 +20,9 @@
 
 pub mod binders;
 pub mod expansion;
-pub mod given;
-pub mod known;
-pub mod needed;
+pub mod in_scope;
 pub mod own;
 pub mod ready;
 pub mod share;
-pub mod shared;
 pub mod standing;
 pub mod start;

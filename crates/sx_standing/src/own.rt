@@ -105,7 +105,7 @@ impl Expansion {
     }
 
     /// What the library's labels are bound to, rising by number. It takes one name more.
-    #[tactic(auto, unfolding(crate::specs::Own::own_bindings), using(crate::proofs::Made::made_later))]
+    #[tactic(auto, unfolding(crate::specs::Own::own_bindings))]
     pub fn own_bindings(&mut self) -> Result<Items<(Label, Binding)>, Memory>
         ensures { IfOk result (λ rows. rows ≡ own_bindings self.old) }
     {

@@ -3,22 +3,20 @@
 ghost use Rattle.std.specs.Prelude.{◌≡◌, ◌∷◌, ◌++◌, [], IfOk, OnOk, OnErr};
 ghost use Rattle.sx_frames.specs.Scope.{adopted};
 ghost use Rattle.sx_standing.specs.Ready.{frames_part, bindings_part, needed_records};
-ghost use Rattle.sx_standing.specs.Start.{second_name, rows_of, bindings_of};
-ghost use Rattle.sx_standing.specs.State.{AreMade};
+ghost use Rattle.sx_standing.specs.Start.{rows_of, bindings_of};
 
-use crate::given::GivenBindings;
-use crate::known::KnownBindings;
 use crate::share::share_library;
-use crate::shared::SharedBindings;
 use std::alloc::Global;
 use std::marker::Model;
 use std::rc::Rc;
 use sx_base::items::Items;
-use sx_base::library::LibName;
 use sx_base::memory::Memory;
 use sx_core::record::LibRecord;
 use sx_frames::given::GivenFrames;
 use sx_frames::shared::SharedFrames;
+use sx_known::given::GivenBindings;
+use sx_known::known::KnownBindings;
+use sx_known::shared::SharedBindings;
 use sx_scope::scope::Frames;
 
 /// The tables of a run, which each expansion shares while it lasts.
@@ -168,22 +166,17 @@ impl ReadyRecords {
         Ok(Frames::over(alloc, shared, needs))
     }
 
-    /// What the records bind that are marked, for the expansion of a library that has none itself.
+    /// What the records bind that are marked.
     pub(crate) fn bindings(
         &self,
         alloc: Global,
-        library: &Rc<LibName>,
         needs: Rc<Items<bool>>,
     ) -> Result<KnownBindings, Memory>
-        ensures all { IfOk result (λ bs. bs ≡ bindings_of (needed_records needs.value self.now)) }
-        ensures made { IfOk result (λ bs. AreMade (second_name library.now.value) bs) }
+        ensures { IfOk result (λ bs. bs ≡ bindings_of (needed_records needs.value self.now)) }
     {
         let Some(tables) = &self.tables else {
             return Err(Memory);
         };
-        if tables.bindings.has(library) {
-            return Err(Memory);
-        }
         let shared = tables.bindings.clone()?;
         Ok(KnownBindings::over(alloc, shared, needs))
     }

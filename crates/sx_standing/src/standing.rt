@@ -28,7 +28,7 @@ pub enum Standing {
     Primitive(Op),
     Core(CoreForm),
     /// A keyword whose uses a transformer expands.
-    Keyword,
+    Keyword(Label),
 }
 
 /// What forms of a core keyword do.
@@ -98,5 +98,5 @@ pub fn role_of(form: CoreForm) -> Role
 pub fn is_keyword(standing: &Standing) -> bool
     ensures { result ≡ is_keyword_standing standing.now }
 {
-    matches!(standing, Standing::Core(_) | Standing::Keyword)
+    matches!(standing, Standing::Core(_) | Standing::Keyword(_))
 }

@@ -6,6 +6,7 @@ ghost use Rattle.sx_standing.specs.Ready.{needed_records};
 ghost use Rattle.sx_standing.specs.Start.{second_name, first_frame, import_row, started};
 
 use crate::expansion::Expansion;
+use crate::in_scope::InScope;
 use crate::ready::ReadyRecords;
 use std::alloc::Global;
 use std::rc::Rc;
@@ -105,8 +106,8 @@ fn names_of(library: &Rc<LibName>) -> Result<Names, Memory>
 
 impl Expansion {
     /// The state that the expansion of a library begins with. The records before the library are those of the
-    /// earlier ones that are marked, and the imports are names with their labels. A record of the library itself
-    /// and two imports of one name are refused as want of memory is.
+    /// earlier ones that are marked, and the imports are names with their labels. Two imports of one name are refused
+    /// as want of memory is.
     #[tactic(auto, unfolding(crate::specs::Start::started), using(crate::proofs::Adopted::adopted_append))]
     pub fn start(
         alloc: Global,
@@ -122,7 +123,7 @@ impl Expansion {
         let frame = frame_of(&library)?;
         let marks = marks_of(alloc, needs)?;
         let mut frames = earlier.frames(alloc, marks.clone()?)?;
-        let bindings = earlier.bindings(alloc, &library, marks)?;
+        let bindings = earlier.bindings(alloc, marks)?;
         adopt_imports(alloc, &mut frames, &frame, imports)?;
         Ok(Expansion {
             alloc,
@@ -134,6 +135,7 @@ impl Expansion {
             assigned: Labels::new(alloc),
             uses_left: MOST_USES,
             index: 0,
+            scope: InScope::new(alloc),
         })
     }
 

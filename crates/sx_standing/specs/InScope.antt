@@ -1,0 +1,27 @@
+-- What is in scope (R6RS 5.2): a local variable is, from its binder to the end of the form that binds it. Variables of the top of a
+-- library or program are in scope everywhere in it.
+use Rattle.std.specs.Prelude.{ℕ, Bool, ◌||◌, List, length, take, Ok, if◌then◌else◌}
+use Rattle.sx_base.specs.Act.{after}
+use Rattle.sx_base.specs.declared.name.Label.{Label}
+use Rattle.sx_core.specs.Labels.{has_label, with_label}
+use Rattle.sx_standing.specs.State.{State, Does}
+use Rattle.sx_standing.specs.declared.standing.Variable.{Variable}
+
+-- a binder's label comes into scope, but for those of the top
+abbrev pub with_local : Bool → Label → List Label → List Label
+with_local top l ls = if top then ls else with_label ls l
+
+-- only the first labels stay in scope
+abbrev pub cut : ℕ → State → State
+cut n s = record s { scope = take n s.scope }
+
+abbrev pub leaving : {A : Type 0} → ℕ → A → Does A
+leaving n x s = Ok (x, cut n s)
+
+-- what comes into scope in an action is out of scope after it
+abbrev pub within : {A : Type 0} → Does A → Does A
+within m s = after (m s) (leaving (length s.scope))
+
+-- whether a variable of the library is in scope
+abbrev pub is_in_scope : State → Variable → Bool
+is_in_scope s v = v.top || has_label s.scope v.label
