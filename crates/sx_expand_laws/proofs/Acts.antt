@@ -1,8 +1,8 @@
 -- What an action gives, where it isn't at fault.
-use Rattle.std.proofs.Common.{◌≡◌, Bool, true, false, List, [], ◌∷◌, ◌++◌, Result, Ok, Err, refl, sym, ◌∙◌, ap, subst, append-nil, append_assoc, if◌then◌else◌}
+use Rattle.std.proofs.Common.{◌≡◌, Bool, true, false, List, [], ◌∷◌, ◌++◌, length, Result, Ok, Err, refl, sym, ◌∙◌, ap, subst, append-nil, append_assoc, if◌then◌else◌}
 use Rattle.sx_base.specs.Act.{after, give, each, gather}
 use Rattle.sx_base.specs.declared.fault.Fault.{Fault}
-use Rattle.sx_core_laws.specs.Words.{Each}
+use Rattle.sx_standing.specs.InScope.{cut, leaving, within}
 use Rattle.sx_standing.specs.State.{State, Does}
 
 -- where it gives a value and a state, this holds of them
@@ -20,10 +20,19 @@ pub gave-less : {A : Type 0} (P Q : A → State → Type 0) (r : Result (A × St
 gave-less P Q (Ok x) h weaker = weaker x.0 x.1 h
 gave-less P Q (Err e) h weaker = tt
 
+-- what holds by two accounts
+pub gave-both : {A : Type 0} (P Q : A → State → Type 0) (r : Result (A × State) Fault) → Gave P r → Gave Q r → Gave (λ a t. P a t × Q a t) r
+gave-both P Q (Ok x) h k = (h, k)
+gave-both P Q (Err e) h k = tt
+
 pub gave-if : {A : Type 0} (P : A → State → Type 0) (b : Bool) (r q : Result (A × State) Fault)
     → (b ≡ true → Gave P r) → (b ≡ false → Gave P q) → Gave P (if b then r else q)
 gave-if P true r q h k = h refl
 gave-if P false r q h k = k refl
+
+-- what comes into scope is out of scope afterwards
+pub gave-within : {A : Type 0} (P : A → State → Type 0) (m : Does A) (s : State) → Gave (λ a t. P a (cut (length s.scope) t)) (m s) → Gave P (within m s)
+gave-within P m s h = gave-after (λ a t. P a (cut (length s.scope) t)) P (m s) (leaving (length s.scope)) h (λ a t k. k)
 
 -- what was given is told by the account
 pub told : {A : Type 0} (P : A → State → Type 0) (r : Result (A × State) Fault) (a : A) (t : State) → Gave P r → r ≡ Ok (a, t) → P a t
@@ -61,26 +70,23 @@ unfolding each
 each-nil step s = refl
 
 -- where what one gives and what the others give after it make up what all give, so do all
-pub gave-each : {X A : Type 0} (step : X → Does A) (Given : X → Type 0) (One : X → State → A → State → Type 0) (All : List X → State → List A → State → Type 0) (Start : State → Type 0)
+pub gave-each : {X A : Type 0} (step : X → Does A) (One : X → State → A → State → Type 0) (All : List X → State → List A → State → Type 0) (Start : State → Type 0)
     → ((s : State) → Start s → All [] s [] s)
-    → ((x : X) (s : State) → Given x → Start s → Gave (One x s) (step x s))
+    → ((x : X) (s : State) → Start s → Gave (One x s) (step x s))
     → ((x : X) (s t : State) (a : A) → Start s → One x s a t → Start t)
     → ((x : X) (xs : List X) (s t u : State) (a : A) (ys : List A) → Start s → One x s a t → All xs t ys u → All (x ∷ xs) s (a ∷ ys) u)
-    → (xs : List X) (s : State) → Each Given xs → Start s → Gave (All xs s) (each step [] xs s)
-gave-each {X} {A} step Given One All Start nil one kept joint [] s g h = subst (λ (r : Result (List A × State) Fault). Gave (All [] s) r) (sym (each-nil step s)) (nil s h)
-gave-each {X} {A} step Given One All Start nil one kept joint (x ∷ xs) s g h =
+    → (xs : List X) (s : State) → Start s → Gave (All xs s) (each step [] xs s)
+gave-each {X} {A} step One All Start nil one kept joint [] s h = subst (λ (r : Result (List A × State) Fault). Gave (All [] s) r) (sym (each-nil step s)) (nil s h)
+gave-each {X} {A} step One All Start nil one kept joint (x ∷ xs) s h =
     subst (λ (r : Result (List A × State) Fault). Gave (All (x ∷ xs) s) r) (sym (each-cons step x xs s))
-    (gave-after (One x s) (All (x ∷ xs) s) (step x s) (λ a t. after (each step [] xs t) (λ ys. give (a ∷ ys))) (one x s g.0 h)
+    (gave-after (One x s) (All (x ∷ xs) s) (step x s) (λ a t. after (each step [] xs t) (λ ys. give (a ∷ ys))) (one x s h)
     (λ a t is. gave-after (All xs t) (All (x ∷ xs) s) (each step [] xs t) (λ ys. give (a ∷ ys))
-    (gave-each step Given One All Start nil one kept joint xs t g.1 (kept x s t a h is))
+    (gave-each step One All Start nil one kept joint xs t (kept x s t a h is))
     (λ ys u so. joint x xs s t u a ys h is so)))
 
 -- over a list, each step from what is kept to what is kept next
-pub gave-gather : {X D : Type 0} (step : D → X → Does D) (Given : X → Type 0) (Holds : D → State → Type 0)
-    → ((d : D) (x : X) (s : State) → Given x → Holds d s → Gave Holds (step d x s))
-    → (d : D) (xs : List X) (s : State) → Each Given xs → Holds d s → Gave Holds (gather step d xs s)
+pub gave-gather : {X D : Type 0} (step : D → X → Does D) (Holds : D → State → Type 0) → ((d : D) (x : X) (s : State) → Holds d s → Gave Holds (step d x s))
+    → (d : D) (xs : List X) (s : State) → Holds d s → Gave Holds (gather step d xs s)
 unfolding gather
-gave-gather step Given Holds one d [] s g h = h
-gave-gather step Given Holds one d (x ∷ xs) s g h =
-    gave-after Holds Holds (step d x s) (λ e. gather step e xs) (one d x s g.0 h)
-    (λ e t k. gave-gather step Given Holds one e xs t g.1 k)
+gave-gather step Holds one d [] s h = h
+gave-gather step Holds one d (x ∷ xs) s h = gave-after Holds Holds (step d x s) (λ e. gather step e xs) (one d x s h) (λ e t k. gave-gather step Holds one e xs t k)

@@ -12,17 +12,9 @@ use Rattle.sx_frames.proofs.ScopeLemmas.{same_frame-self}
 use Rattle.sx_core.specs.Bindings.{bound_to}
 use Rattle.sx_core.specs.declared.binding.Binding.{Binding}
 use Rattle.sx_core_laws.specs.Words.{Among}
-use Rattle.sx_standing.specs.Start.{first_frame}
 use Rattle.sx_standing.specs.State.{State}
 use Rattle.sx_expand_laws.specs.States.{IsOwn, Shows, IsVariable, IndicesApart, Grows}
 use Rattle.sx_expand_laws.proofs.Fresh.{among-parts, among-first}
-
--- only the first frame of a library has variables of the top
-abbrev pub IsPlaced : LibName → Bool → FrameNo → Type 0
-IsPlaced own top f = top ≡ true → f ≡ first_frame own
-
-pub no-top : (own : LibName) (f : FrameNo) → IsPlaced own false f
-no-top own f e = absurd (cc)
 
 -- a frame that keeps its rows shows what it showed
 pub shows-more : (rs more : List Row) (l : Label) → ((r : Row) → Among rs r → Among more r) → Shows rs l → Shows more l
@@ -47,13 +39,6 @@ module _ (own : LibName) where
   pub grows-self : (s : State) → Grows own s s
   grows-self s = grows-same s s refl refl refl
 
-  variable-kept : (t u : State) (l : Label) (b : Binding) → Grows own t u → IsVariable own t l b → IsVariable own u l b
-  variable-kept t u l b k h = record {
-    variable = h.variable;
-    is = h.is;
-    shown = λ e. shows-more (rows_at (first_frame own) t.frames) (rows_at (first_frame own) u.frames) l (k.kept (first_frame own)) (h.shown e);
-  }
-
   pub grows-then : (s t u : State) → Grows own s t → Grows own t u → Grows own s u
   grows-then s t u h k = record {
     kept = λ f r a. k.kept f r (h.kept f r a);
@@ -66,12 +51,8 @@ module _ (own : LibName) where
       by_row f r (inl a) = h.rows f r a
       by_row f r (inr o) = inr o
 
-      old : (l : Label) (b : Binding) → (bound_to s.bindings l ≡ Some b) ⊎ IsVariable own t l b → (bound_to s.bindings l ≡ Some b) ⊎ IsVariable own u l b
-      old l b (inl e) = inl e
-      old l b (inr v) = inr (variable-kept t u l b k v)
-
-      by_binding : (l : Label) (b : Binding) → (bound_to t.bindings l ≡ Some b) ⊎ IsVariable own u l b → (bound_to s.bindings l ≡ Some b) ⊎ IsVariable own u l b
-      by_binding l b (inl e) = old l b (h.bindings l b e)
+      by_binding : (l : Label) (b : Binding) → (bound_to t.bindings l ≡ Some b) ⊎ (IsOwn own l.0 × IsVariable b) → (bound_to s.bindings l ≡ Some b) ⊎ (IsOwn own l.0 × IsVariable b)
+      by_binding l b (inl e) = h.bindings l b e
       by_binding l b (inr v) = inr v
 
 -- A row at the end of its frame's rows.

@@ -1,5 +1,5 @@
 -- Each reference names the binder that its leaf stands for.
-use Rattle.std.proofs.Common.{◌≡◌, ℕ, zero, suc, Bool, true, false, List, [], ◌∷◌, ◌++◌, Option, None, Some, Ok, Err, refl, sym, ◌∙◌, ap, inl, inr, if◌then◌else◌}
+use Rattle.std.proofs.Common.{◌≡◌, ℕ, zero, suc, Bool, true, false, List, [], ◌∷◌, ◌++◌, Option, None, Some, Ok, Err, refl, sym, ◌∙◌, ap, subst, inl, inr, if◌then◌else◌}
 use Rattle.std.specs.Prelude.{◌&&◌, nat_eq, nat_lt, is_some}
 use Rattle.std.specs.Cmp.Lexicographic.{pointwise}
 use Rattle.sx_base.specs.Act.{after, give}
@@ -23,7 +23,6 @@ use Rattle.sx_scope.specs.Stands.{stands, row_for, symbol_of}
 use Rattle.sx_core.specs.Bindings.{bound_to}
 use Rattle.sx_core.specs.Core.{variable}
 use Rattle.sx_core.specs.CoreForm.{at_number}
-use Rattle.sx_core.specs.Labels.{has_label}
 use Rattle.sx_core.specs.declared.binding.Binding.TheVariants as binding
 use Rattle.sx_core.specs.declared.binding.Binding.{Binding}
 use Rattle.sx_core.specs.declared.core_form.CoreForm.{CoreForm}
@@ -33,18 +32,17 @@ use Rattle.sx_standing.specs.Standing.{label_standing, numbered_as, given_as, bo
 use Rattle.sx_standing.specs.State.{State, fresh, fault_form}
 use Rattle.sx_standing.specs.declared.standing.Standing.TheVariants as standing
 use Rattle.sx_standing.specs.declared.standing.Standing.{Standing}
-use Rattle.sx_standing.specs.declared.standing.Variable.{Variable}
-use Rattle.sx_heads.specs.Plan.{variable_at, refer, reference, target_variable, target_by, target}
+use Rattle.sx_heads.specs.Plan.{reference, target}
 use Rattle.sx_heads.specs.declared.plan.Plan.TheVariants as plans
 use Rattle.sx_heads.specs.declared.plan.Plan.{Plan}
 use Rattle.sx_expand.specs.Expression.{perform, form_at, inside}
 use Rattle.sx_expand_laws.specs.Named.{RefersTo, ReferencesNameBinders, AssignmentsNameBinders, BindersAreFound, BindersStay}
 use Rattle.sx_expand_laws.specs.States.{IsOld}
 use Rattle.sx_expand_laws.specs.Trees.{StampsAre, LeavesAre}
-use Rattle.sx_expand_laws.proofs.Acts.{Gave, gave-after, gave-if, told}
-use Rattle.sx_expand_laws.proofs.Expand.{Gives}
-use Rattle.sx_expand_laws.proofs.Forms.{inside-safe}
+use Rattle.sx_expand_laws.proofs.Acts.{Gave, gave-after, gave-less, gave-if, told}
+use Rattle.sx_expand_laws.proofs.Changes.{form-later}
 use Rattle.sx_expand_laws.proofs.Naming.{as_label, counted}
+use Rattle.sx_expand_laws.proofs.References.{RefersBy, TargetBy, Refers, Targets, reference-is, target-is}
 
 -- References.
 
@@ -55,23 +53,23 @@ OfLabel l (standing.Variable v) = v.label ≡ l
 OfLabel l standing.PatternVariable = Unit {0}
 OfLabel l (standing.Primitive op) = Unit {0}
 OfLabel l (standing.Core f) = Unit {0}
-OfLabel l standing.Keyword = Unit {0}
+OfLabel l (standing.Keyword m) = Unit {0}
 
 label-kept : (s : State) (l : Label) → OfLabel l (label_standing s l)
 unfolding label_standing
 label-kept s l = by (same_library l.0.library library.Core)
   where
-    by_keyword : (n : ℕ) (b : Bool) → OfLabel l (if b then standing.Keyword else standing.Primitive (record { 0 = n }))
-    by_keyword n true = tt
-    by_keyword n false = tt
+    by_keyword : (b : Bool) → OfLabel l (if b then standing.Keyword l else standing.Primitive (record { 0 = l.0.number }))
+    by_keyword true = tt
+    by_keyword false = tt
 
-    by_form : (n : ℕ) (o : Option CoreForm) → OfLabel l (given_as n o)
-    by_form n (Some f) = tt
-    by_form n None = by_keyword n (is_keyword n)
+    by_form : (o : Option CoreForm) → OfLabel l (given_as l o)
+    by_form (Some f) = tt
+    by_form None = by_keyword (is_keyword l.0.number)
 
-    by_number : (n : ℕ) (b : Bool) → OfLabel l (if b then given_as n (at_number n) else standing.Nothing)
-    by_number n true = by_form n (at_number n)
-    by_number n false = tt
+    by_number : (b : Bool) → OfLabel l (if b then given_as l (at_number l.0.number) else standing.Nothing)
+    by_number true = by_form (at_number l.0.number)
+    by_number false = tt
 
     bound : (o : Option Binding) → OfLabel l (bound_as s l o)
     bound None = tt
@@ -81,35 +79,29 @@ label-kept s l = by (same_library l.0.library library.Core)
     bound (Some (binding.Core f)) = tt
     bound (Some (binding.Primitive o)) = tt
 
-    by : (b : Bool) → OfLabel l (if b then numbered_as l.0.number else bound_as s l (bound_to s.bindings l))
-    by true = by_number l.0.number (nat_lt l.0.number 301)
+    by : (b : Bool) → OfLabel l (if b then numbered_as l else bound_as s l (bound_to s.bindings l))
+    by true = by_number (nat_lt l.0.number 301)
     by false = bound (bound_to s.bindings l)
 
 abbrev Finishes : State → Option Label → Plan → State → Type 0
 Finishes s o (plans.Done c) u = RefersTo s o c × (u ≡ s)
 Finishes s o _ u = ⊥
 
-variable-named : (place : Span) (level : ℕ) (id : Tree) (s : State) (l : Label) (v : Variable) → v.label ≡ l → Gave (Finishes s (Some l)) (variable_at place level id v s)
-unfolding variable_at
-variable-named place level id s l v e = gave-if (Finishes s (Some l)) v.own _ _
-    (λ own-it. gave-if (Finishes s (Some l)) (nat_eq v.level level) _ _ (λ x. (inl (ap variable e), refl)) (λ x. tt))
-    (λ not-own. gave-if (Finishes s (Some l)) v.top _ _ (λ top. gave-if (Finishes s (Some l)) v.assigned _ _ (λ x. tt) (λ x. (inl (ap variable e), refl))) (λ x. tt))
-
-refer-named : (place : Span) (level : ℕ) (id : Tree) (s : State) (l : Label) (st : Standing) → label_standing s l ≡ st → OfLabel l st → Gave (Finishes s (Some l)) (refer place level id st s)
-refer-named place level id s l standing.Nothing e h = tt
-refer-named place level id s l (standing.Variable v) e h = variable-named place level id s l v h
-refer-named place level id s l standing.PatternVariable e h = tt
-refer-named place level id s l (standing.Primitive o) e h = (inr (o, (e, refl)), refl)
-refer-named place level id s l (standing.Core f) e h = tt
-refer-named place level id s l standing.Keyword e h = tt
+finishes : (level : ℕ) (s : State) (l : Label) (st : Standing) (p : Plan) (u : State) → label_standing s l ≡ st → OfLabel l st → u ≡ s → RefersBy level s st p → Finishes s (Some l) p u
+finishes level s l standing.Nothing p u is of same h = elim h [ ]
+finishes level s l (standing.Variable v) p u is of same h = subst (λ q. Finishes s (Some l) q u) (sym h.0) (inl (ap variable of), same)
+finishes level s l standing.PatternVariable p u is of same h = elim h [ ]
+finishes level s l (standing.Primitive o) p u is of same h = subst (λ q. Finishes s (Some l) q u) (sym h) (inr (o, (is, refl)), same)
+finishes level s l (standing.Core f) p u is of same h = elim h [ ]
+finishes level s l (standing.Keyword m) p u is of same h = elim h [ ]
 
 reference-named : (place : Span) (level : ℕ) (id : Tree) (s : State) → Gave (Finishes s (stands s.frames id)) (reference place level id s)
-unfolding reference standing_of
-reference-named place level id s = by (stands s.frames id)
+unfolding standing_of
+reference-named place level id s = gave-less (Refers place level s (standing_by s (stands s.frames id))) (Finishes s (stands s.frames id)) (reference place level id s) (reference-is place level s id) (λ p u k. by (stands s.frames id) p u k)
   where
-    by : (o : Option Label) → Gave (Finishes s o) (refer place level id (standing_by s o) s)
-    by None = tt
-    by (Some l) = refer-named place level id s l (label_standing s l) refl (label-kept s l)
+    by : (o : Option Label) (p : Plan) (u : State) → Refers place level s (standing_by s o) p u → Finishes s o p u
+    by None p u k = elim k.1 [ ]
+    by (Some l) p u k = finishes level s l (label_standing s l) p u refl (label-kept s l) k.0 k.1
 
 form-named : (room : ℕ) (place : Span) (level depth : ℕ) (t : Tree) (s : State) → is_leaf t ≡ true → Gave (λ c u. RefersTo s (stands s.frames t) c × (u ≡ s)) ((inside room).form place level depth t s)
 unfolding inside form_at perform
@@ -130,27 +122,21 @@ references-named room place level depth t s u c h e = told (λ d v. RefersTo s (
 
 -- Assignments.
 
-variable-assigned : (place : Span) (level : ℕ) (t id : Tree) (s : State) (o : Option Label) (v : Variable) → o ≡ Some v.label → Gave (λ l u. o ≡ Some l) (target_variable place level t id v s)
-unfolding target_variable
-variable-assigned place level t id s o v e = gave-if (λ l u. o ≡ Some l) v.own _ _
-    (λ own-it. gave-if (λ l u. o ≡ Some l) (nat_eq v.level level) _ _ (λ x. gave-if (λ l u. o ≡ Some l) (has_label s.exports v.label) _ _ (λ y. tt) (λ y. e)) (λ x. tt))
-    (λ not-own. gave-if (λ l u. o ≡ Some l) v.top _ _ (λ top. gave-if (λ l u. o ≡ Some l) (has_label s.exports v.label) _ _ (λ x. tt) (λ x. tt)) (λ x. tt))
+target-label : (level : ℕ) (s : State) (l m : Label) (st : Standing) → OfLabel l st → TargetBy level s st m → Some l ≡ Some m
+target-label level s l m standing.Nothing of h = elim h [ ]
+target-label level s l m (standing.Variable v) of h = ap Some (sym of ∙ sym h.0)
+target-label level s l m standing.PatternVariable of h = elim h [ ]
+target-label level s l m (standing.Primitive o) of h = elim h [ ]
+target-label level s l m (standing.Core f) of h = elim h [ ]
+target-label level s l m (standing.Keyword k) of h = elim h [ ]
 
 target-named : (place : Span) (level : ℕ) (t id : Tree) (s : State) → Gave (λ l u. stands s.frames id ≡ Some l) (target place level t id s)
-unfolding target standing_of
-target-named place level t id s = by (stands s.frames id)
+unfolding standing_of
+target-named place level t id s = gave-less (Targets place level s (standing_by s (stands s.frames id))) (λ l u. stands s.frames id ≡ Some l) (target place level t id s) (target-is place level s t id) (λ l u k. by (stands s.frames id) l u k)
   where
-    by_standing : (l : Label) (st : Standing) → OfLabel l st → Gave (λ m u. Some l ≡ Some m) (target_by place level t id st s)
-    by_standing l standing.Nothing h = tt
-    by_standing l (standing.Variable v) h = variable-assigned place level t id s (Some l) v (ap Some (sym h))
-    by_standing l standing.PatternVariable h = tt
-    by_standing l (standing.Primitive op) h = tt
-    by_standing l (standing.Core f) h = tt
-    by_standing l standing.Keyword h = tt
-
-    by : (o : Option Label) → Gave (λ l u. o ≡ Some l) (target_by place level t id (standing_by s o) s)
-    by None = tt
-    by (Some l) = by_standing l (label_standing s l) (label-kept s l)
+    by : (o : Option Label) (l : Label) (u : State) → Targets place level s (standing_by s o) l u → o ≡ Some l
+    by None l u k = elim k.1 [ ]
+    by (Some m) l u k = target-label level s m l (label_standing s m) (label-kept s m) k.1
 
 pub assignments-named : AssignmentsNameBinders
 assignments-named place level t id s u l e = told (λ m v. stands s.frames id ≡ Some m) (target place level t id s) l u (target-named place level t id s) e
@@ -205,6 +191,4 @@ leaf-stays fs gs P same (pair r a d) h = refl
 leaf-stays fs gs P same (vector r d) h = refl
 
 pub binders-stay : BindersStay
-binders-stay own given frames ls room place level depth t s u c sound reach g e id old =
-    let k = told (Gives own given ls s) ((inside room).form place level depth t s) c u ((inside-safe own given room).form place level depth t s frames ls sound reach g) e in
-    leaf-stays s.frames u.frames (IsOld own s) k.later.same id old
+binders-stay room place level depth t s u c e id old = leaf-stays s.frames u.frames (IsOld s.names.library s) (form-later room place level depth t s u c e).same id old

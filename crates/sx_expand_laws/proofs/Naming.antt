@@ -1,5 +1,5 @@
 -- New names, and the binding of variables.
-use Rattle.std.proofs.Common.{◌≡◌, ℕ, ◌+◌, ◌<◌, Bool, true, false, List, [], ◌∷◌, ◌++◌, Some, Ok, Err, refl, sym, ◌∙◌, ap, subst, arith, inl, inr, if◌then◌else◌, None, ◌≤◌}
+use Rattle.std.proofs.Common.{◌≡◌, ℕ, ◌+◌, ◌<◌, Bool, true, false, [], ◌∷◌, ◌++◌, Some, Ok, Err, refl, sym, ◌∙◌, ap, subst, arith, inl, inr, if◌then◌else◌, None, ◌≤◌}
 use Rattle.std.specs.Prelude.{◌⊎◌, is_some, nat_eq}
 use Rattle.sx_base.specs.Act.{after, give}
 use Rattle.sx_base.specs.Named.{Named}
@@ -7,28 +7,27 @@ use Rattle.sx_base.specs.declared.fault.FaultKind.TheVariants as kind
 use Rattle.sx_base.specs.declared.library.LibName.{LibName}
 use Rattle.sx_base.specs.declared.name.FrameNo.{FrameNo}
 use Rattle.sx_base.specs.declared.name.Label.{Label}
-use Rattle.sx_base.specs.declared.op.Op.{Op}
 use Rattle.sx_base.specs.declared.span.Span.{Span}
 use Rattle.sx_tree.specs.Tree.{Tree}
 use Rattle.sx_frames.specs.Rows.{Row, second_binder}
 use Rattle.sx_frames.specs.Scope.{rows_at, with_row, label_at}
-use Rattle.sx_frames.proofs.FrameLaws.{rows_at-with_row, rows_at-other}
+use Rattle.sx_frames.proofs.FrameLaws.{rows_at-other}
 use Rattle.sx_scope.specs.Stands.{row_for, symbol_of}
 use Rattle.sx_core.specs.Bindings.{bound_to}
 use Rattle.sx_core.specs.declared.binding.Binding.{Binding}
 use Rattle.sx_core.specs.declared.binding.Binding.TheVariants as binding
 use Rattle.sx_core.specs.declared.binding.VarInfo.{VarInfo}
-use Rattle.sx_core_laws.specs.Words.{Each, Among}
+use Rattle.sx_core_laws.specs.Words.{Among}
 use Rattle.sx_shapes.specs.Lists.{is_leaf}
 use Rattle.sx_standing.specs.Binders.{bind_variable, bind_as, row_put, put_variable, variable_for, index_at, next_index}
-use Rattle.sx_standing.specs.Start.{first_frame}
+use Rattle.sx_standing.specs.InScope.{with_local}
 use Rattle.sx_standing.specs.State.{State, fresh, fault_form}
-use Rattle.sx_expand_laws.specs.Ready.{IsForeign}
-use Rattle.sx_expand_laws.specs.States.{IsOwn, GivesForeign, Sound, IsOld, Shows, IsVariable, IndicesApart, Grows, Later, LaterBut}
+use Rattle.sx_expand_laws.specs.States.{IsOwn, IsVariable, IsTop, IndicesApart, Grows, Adds, Later, LaterBut}
 use Rattle.sx_expand_laws.proofs.Acts.{Gave, gave-if}
-use Rattle.sx_expand_laws.proofs.Fresh.{Made, among-second}
-use Rattle.sx_expand_laws.proofs.Grows.{IsPlaced, grows-same, grows-then, row-kept, row-new}
-use Rattle.sx_expand_laws.proofs.Sound.{bound-more}
+use Rattle.sx_expand_laws.proofs.Fresh.{Made}
+use Rattle.sx_expand_laws.proofs.Grows.{grows-same, grows-then, row-kept, row-new}
+use Rattle.sx_expand_laws.proofs.Scope.{binder-behind}
+use Rattle.sx_expand_laws.proofs.Later.{bound-more}
 
 -- the state behind a new name
 abbrev pub counted : State → State
@@ -36,7 +35,7 @@ counted s = record s { names = record { library = s.names.library; number = s.na
 
 -- the state with a variable bound in a frame
 abbrev pub with_variable : FrameNo → Tree → Label → VarInfo → State → State
-with_variable f id l v s = record s { frames = with_row s.frames f (row_for id l); bindings = s.bindings ++ (l, binding.Variable v) ∷ []; index = next_index v.level s.index }
+with_variable f id l v s = record s { frames = with_row s.frames f (row_for id l); bindings = s.bindings ++ (l, binding.Variable v) ∷ []; index = next_index v.level s.index; scope = with_local v.top l s.scope }
 
 abbrev pub as_label : Named → Label
 as_label n = record { 0 = n }
@@ -58,34 +57,13 @@ index-up level n = by (nat_eq level 0)
     by true = omega arith
     by false = omega arith
 
-module _ (own : LibName) (given : List Label) where
-  pub counted-sound : (s : State) → Sound own given s → Sound own given (counted s)
-  counted-sound s h = record { here = h.here; next = h.next; defined = h.defined; primitives = h.primitives; others = h.others; blank = λ f o le. h.blank f o (omega (arith, le)) }
-
-  pub counted-later : (s : State) → Sound own given s → Later own given s (counted s)
-  counted-later s h = record { sound = counted-sound s h; up = omega arith; same = λ f o. refl; grows = grows-same own s (counted s) refl refl refl }
+module _ (own : LibName) where
+  pub counted-later : (s : State) → s.names.library ≡ own → Later own s (counted s)
+  counted-later s n = record { here = refl; next = n; up = omega arith; same = λ f o. refl; grows = grows-same own s (counted s) refl refl refl; scope = refl; tops = λ l v o b. b }
 
   -- a new name is one of the library
-  pub next-made : (s : State) → Sound own given s → Made own s.names.number (s.names.number + 1) s.names
-  next-made s h = record { library = h.next; low = omega arith; high = omega arith }
-
-  pub variable-sound : (s : State) (f : FrameNo) (id : Tree) (l : Label) (v : VarInfo) → IsOwn own f.0 → IsOld own s f → IsOwn own l.0 → Sound own given s → Sound own given (with_variable f id l v s)
-  variable-sound s f id l v of old mine h = record {
-    here = h.here;
-    next = h.next;
-    defined = λ m w o e. defined m w o (bound-more s.bindings l m (binding.Variable v) (binding.Variable w) e);
-    primitives = λ m o e. primitives m o (bound-more s.bindings l m (binding.Variable v) (binding.Primitive o) e);
-    others = λ g o. subst (Each (GivesForeign own)) (sym (rows_at-other s.frames f g (row_for id l) (λ e. o (ap (λ (x : FrameNo). x.0.library) e ∙ of)))) (h.others g o);
-    blank = λ g o le. rows_at-other s.frames f g (row_for id l) (λ e. let low = old of in let is = ap (λ (x : FrameNo). x.0.number) e in omega (arith, low, is, le)) ∙ h.blank g o le;
-  }
-    where
-      defined : (m : Label) (w : VarInfo) → IsForeign own m.0 → (bound_to s.bindings m ≡ Some (binding.Variable w)) ⊎ ((m ≡ l) × (binding.Variable v ≡ binding.Variable w)) → w.top ≡ true → Among given m
-      defined m w o (inl e) t = h.defined m w o e t
-      defined m w o (inr p) t = absurd (o (ap (λ (x : Label). x.0.library) p.0 ∙ mine))
-
-      primitives : (m : Label) (o : Op) → (bound_to s.bindings m ≡ Some (binding.Primitive o)) ⊎ ((m ≡ l) × (binding.Variable v ≡ binding.Primitive o)) → o.0 < 301
-      primitives m o (inl e) = h.primitives m o e
-      primitives m o (inr p) = let bad = p.1 in absurd (cc)
+  pub next-made : (s : State) → s.names.library ≡ own → Made own s.names.number (s.names.number + 1) s.names
+  next-made s n = record { library = n; low = omega arith; high = omega arith }
 
   -- the new variable has the next index, if it has one
   variable-indices : (s : State) (f : FrameNo) (id : Tree) (l : Label) (v : VarInfo) → v.index ≡ index_at v.level s.index → IndicesApart own s → IndicesApart own (with_variable f id l v s)
@@ -108,8 +86,8 @@ module _ (own : LibName) (given : List Label) where
       apart m j w x i o q (inr p) (inl d) k r = let lt = h.below j x i q d r in let is = (index-is v.level s.index i (new-index w i p.1 k)).0 in absurd (omega (arith, lt, is))
       apart m j w x i o q (inr p) (inr p') k r = p.0 ∙ sym p'.0
 
-  variable-grows : (s : State) (f : FrameNo) (id : Tree) (l : Label) (v : VarInfo) → v.index ≡ index_at v.level s.index → IsPlaced own v.top f → IsOwn own l.0 → Grows own s (with_variable f id l v s)
-  variable-grows s f id l v ix placed mine = record {
+  variable-grows : (s : State) (f : FrameNo) (id : Tree) (l : Label) (v : VarInfo) → v.index ≡ index_at v.level s.index → IsOwn own l.0 → Grows own s (with_variable f id l v s)
+  variable-grows s f id l v ix mine = record {
     kept = row-kept s.frames f (row_for id l);
     rows = λ g r a. by_row g r (row-new s.frames f (row_for id l) g r a);
     bindings = λ m b e. by_binding m b (bound-more s.bindings l m (binding.Variable v) b e);
@@ -120,47 +98,49 @@ module _ (own : LibName) (given : List Label) where
       by_row g r (inl a) = inl a
       by_row g r (inr e) = inr (subst (λ (x : Row). IsOwn own x.label.0) (sym e) mine)
 
-      -- its row is the last one of the first frame, if it is of the top
-      shown : (m : Label) → m ≡ l → v.top ≡ true → Shows (rows_at (first_frame own) (with_row s.frames f (row_for id l))) m
-      shown m e t = record {
-        row = row_for id l;
-        there = subst (λ (g : FrameNo). Among (rows_at g (with_row s.frames f (row_for id l))) (row_for id l)) (placed t)
-            (subst (λ (rs : List Row). Among rs (row_for id l)) (sym (rows_at-with_row s.frames f (row_for id l))) (among-second (rows_at f s.frames) (row_for id l ∷ []) (row_for id l) (inl refl)));
-        label = sym e;
-      }
-
-      by_binding : (m : Label) (b : Binding) → (bound_to s.bindings m ≡ Some b) ⊎ ((m ≡ l) × (binding.Variable v ≡ b)) → (bound_to s.bindings m ≡ Some b) ⊎ IsVariable own (with_variable f id l v s) m b
+      by_binding : (m : Label) (b : Binding) → (bound_to s.bindings m ≡ Some b) ⊎ ((m ≡ l) × (binding.Variable v ≡ b)) → (bound_to s.bindings m ≡ Some b) ⊎ (IsOwn own m.0 × IsVariable b)
       by_binding m b (inl e) = inl e
-      by_binding m b (inr p) = inr (record { variable = v; is = sym p.1; shown = shown m p.0 })
+      by_binding m b (inr p) = inr (ap (λ (x : Label). x.0.library) p.0 ∙ mine, (v, sym p.1))
 
-  -- what the binding of a variable gives: a new name, and its row at the end of the frame
-  pub record Binds (f : FrameNo) (id : Tree) (s : State) (l : Label) (t : State) : Type 0 where
-    pub later : LaterBut own given f s t
+  variable-adds : (s : State) (f : FrameNo) (id : Tree) (l : Label) (v : VarInfo) → (v.top ≡ true → v.level ≡ 0) → Adds own v.top (l ∷ []) s (with_variable f id l v s)
+  variable-adds s f id l v low =
+      let b = binder-behind v.top l s.scope in
+      record { more = b.more; scope = b.is; new = b.new; tops = λ m w o t. by m w t.1 (bound-more s.bindings l m (binding.Variable v) (binding.Variable w) t.0) }
+    where
+      by : (m : Label) (w : VarInfo) → w.top ≡ true → (bound_to s.bindings m ≡ Some (binding.Variable w)) ⊎ ((m ≡ l) × (binding.Variable v ≡ binding.Variable w)) → IsTop s m w ⊎ ((v.top ≡ true) × ((w.level ≡ 0) × Among (l ∷ []) m))
+      by m w t (inl e) = inl (e, t)
+      by m w t (inr p) = let e = p.1 in let is : v ≡ w = cc in let top : v.top ≡ true = ap (λ (x : VarInfo). x.top) is ∙ t in inr (top, (ap (λ (x : VarInfo). x.level) (sym is) ∙ low top, inl p.0))
+
+  -- what the binding of a variable gives: a new name, and nothing else comes into scope
+  pub record Binds (f : FrameNo) (top : Bool) (s : State) (l : Label) (t : State) : Type 0 where
+    pub later : LaterBut own f s t
     pub label : l ≡ as_label s.names
     pub up : t.names.number ≡ s.names.number + 1
-    pub rows : rows_at f t.frames ≡ rows_at f s.frames ++ row_for id l ∷ []
+    pub adds : Adds own top (l ∷ []) s t
 
-  variable-binds : (s : State) (f : FrameNo) (id : Tree) (v : VarInfo) → v.index ≡ index_at v.level s.index → IsPlaced own v.top f → IsOwn own f.0 → IsOld own s f → Sound own given s
-      → Binds f id s (as_label s.names) (with_variable f id (as_label s.names) v (counted s))
-  variable-binds s f id v ix placed of old h = record {
-    later = record {
-      sound = variable-sound (counted s) f id (as_label s.names) v of (λ o. let k = old o in omega (arith, k)) h.next (counted-sound s h);
-      up = omega arith;
-      same = λ g o d. rows_at-other s.frames f g (row_for id (as_label s.names)) d;
-      grows = grows-then own s (counted s) (with_variable f id (as_label s.names) v (counted s)) (grows-same own s (counted s) refl refl refl) (variable-grows (counted s) f id (as_label s.names) v ix placed h.next);
-    };
-    label = refl;
-    up = refl;
-    rows = rows_at-with_row s.frames f (row_for id (as_label s.names));
-  }
+  variable-binds : (s : State) (f : FrameNo) (id : Tree) (v : VarInfo) → v.index ≡ index_at v.level s.index → (v.top ≡ true → v.level ≡ 0) → s.names.library ≡ own
+      → Binds f v.top s (as_label s.names) (with_variable f id (as_label s.names) v (counted s))
+  variable-binds s f id v ix low n =
+      let adds = variable-adds (counted s) f id (as_label s.names) v low in
+      record {
+        later = record {
+          here = refl;
+          next = n;
+          up = omega arith;
+          same = λ g o d. rows_at-other s.frames f g (row_for id (as_label s.names)) d;
+          grows = grows-then own s (counted s) (with_variable f id (as_label s.names) v (counted s)) (grows-same own s (counted s) refl refl refl) (variable-grows (counted s) f id (as_label s.names) v ix n);
+        };
+        label = refl;
+        up = refl;
+        adds = record { more = adds.more; scope = adds.scope; new = adds.new; tops = adds.tops };
+      }
 
-  pub binds : (f : FrameNo) (place : Span) (level : ℕ) (top : Bool) (id : Tree) (s : State) → IsPlaced own top f → IsOwn own f.0 → IsOld own s f → Sound own given s
-      → Gave (Binds f id s) (bind_variable f place level top id s)
+  pub binds : (f : FrameNo) (place : Span) (level : ℕ) (top : Bool) (id : Tree) (s : State) → (top ≡ true → level ≡ 0) → s.names.library ≡ own → Gave (Binds f top s) (bind_variable f place level top id s)
   unfolding bind_variable fresh
-  binds f place level top id s placed of old h =
-      gave-if (Binds f id s) (is_leaf id) (after (fresh s) (bind_as f id place level top)) (fault_form kind.BadForm id place s) (λ e. by_row (is_some (label_at s.frames f (row_for id (as_label s.names)).symbol (row_for id (as_label s.names)).marks))) (λ e. tt)
+  binds f place level top id s low n =
+      gave-if (Binds f top s) (is_leaf id) (after (fresh s) (bind_as f id place level top)) (fault_form kind.BadForm id place s) (λ e. by_row (is_some (label_at s.frames f (row_for id (as_label s.names)).symbol (row_for id (as_label s.names)).marks))) (λ e. tt)
     where
       by_row : (b : Bool)
-          → Gave (Binds f id s) (after (row_put id place (counted s) (if b then Err (second_binder (symbol_of id)) else Ok (with_row s.frames f (row_for id (as_label s.names))))) (λ _ t. after (put_variable (as_label s.names) (variable_for id level top (counted s).index) t) (λ _. give (as_label s.names))))
+          → Gave (Binds f top s) (after (row_put id place (counted s) (if b then Err (second_binder (symbol_of id)) else Ok (with_row s.frames f (row_for id (as_label s.names))))) (λ _ t. after (put_variable (as_label s.names) (variable_for id level top (counted s).index) t) (λ _. give (as_label s.names))))
       by_row true = tt
-      by_row false = variable-binds s f id (variable_for id level top s.index) refl placed of old h
+      by_row false = variable-binds s f id (variable_for id level top s.index) refl low n

@@ -6,7 +6,6 @@ use Rattle.std.proofs.lemmas.Grind.{flat_map-append}
 use Rattle.sx_base.specs.declared.library.LibName.{LibName}
 use Rattle.sx_base.specs.declared.name.FrameNo.{FrameNo}
 use Rattle.sx_base.specs.declared.name.Label.{Label}
-use Rattle.sx_tree.specs.Tree.{Tree}
 use Rattle.sx_tree.specs.declared.frame_row.FrameRow.{FrameRow}
 use Rattle.sx_frames.specs.Listed.{rows_in, AreOrdered}
 use Rattle.sx_frames.specs.Rows.{Row}
@@ -15,6 +14,7 @@ use Rattle.sx_frames.proofs.ListedLaws.{ordered_rows_in}
 use Rattle.sx_core.specs.Bindings.{bound_to}
 use Rattle.sx_core.specs.Labels.{has_label}
 use Rattle.sx_core.specs.declared.binding.Binding.{Binding}
+use Rattle.sx_core.specs.declared.binding.Binding.TheVariants as binding
 use Rattle.sx_core.specs.declared.binding.VarInfo.{VarInfo}
 use Rattle.sx_core.specs.declared.record.LibRecord.{LibRecord}
 use Rattle.sx_core_laws.specs.Words.{Each, Among}
@@ -22,12 +22,12 @@ use Rattle.sx_core_laws.specs.Records.{defined}
 use Rattle.sx_core_laws.specs.Follows.{IsOwn, IsRecorded, IsKnown, Follows, names_of, bound_labels, row_labels, export_labels, top_label}
 use Rattle.sx_core_laws.specs.Following.{AllFollow}
 use Rattle.sx_standing.specs.Own.{with_assigned, row_at, own_label, own_row, own_below, own_bindings}
-use Rattle.sx_standing.specs.Start.{started, first_frame}
+use Rattle.sx_standing.specs.Start.{started}
 use Rattle.sx_standing.specs.State.{State}
 use Rattle.sx_expand_laws.specs.Ready.{IsReady}
 use Rattle.sx_expand_laws.specs.Serves.{IsThere, IsLabelThere, Serves, AllServe}
 use Rattle.sx_expand_laws.specs.Serving.{FollowersServe, RecordsServe}
-use Rattle.sx_expand_laws.specs.States.{Shows, IsVariable, GivesSeen}
+use Rattle.sx_expand_laws.specs.States.{IsVariable}
 use Rattle.sx_expand_laws.proofs.Fresh.{each-at, each-of, each-map, each-append, among-parts, among-first, among-second}
 use Rattle.sx_expand_laws.proofs.Shown.{IsShown, row-shown}
 use Rattle.sx_expand_laws.proofs.Started.{names-append, started-foreign, started-there}
@@ -107,34 +107,29 @@ module _ (v : State) (P : Label × Binding → Type 0) (holds : (n : ℕ) (a : B
 
 -- The record that expansion gives.
 
-module _ (own : LibName) (records : List LibRecord) (imports : List (List ℕ × Label)) (forms : List Tree) (r : LibRecord) (ready : IsReady own records imports forms)
-    (runs : Runs own (flat_map defined records) (started own records imports) r) where
+module _ (own : LibName) (records : List LibRecord) (imports : List (List ℕ × Label)) (r : LibRecord) (ready : IsReady own records) (runs : Runs own (flat_map defined records) (started own records imports) r) where
   -- what its labels are bound to
-  own-variable : (n : ℕ) (b : Binding) → bound_to runs.ended.bindings (own_label runs.ended n) ≡ Some b → IsVariable own runs.ended (own_label runs.ended n) b
+  own-variable : (n : ℕ) (b : Binding) → bound_to runs.ended.bindings (own_label runs.ended n) ≡ Some b → IsVariable b
   own-variable n b e = by (runs.grows.bindings (own_label runs.ended n) b e)
     where
-      by : (bound_to (started own records imports).bindings (own_label runs.ended n) ≡ Some b) ⊎ IsVariable own runs.ended (own_label runs.ended n) b → IsVariable own runs.ended (own_label runs.ended n) b
-      by (inl k) = absurd (started-foreign own records imports forms ready (own_label runs.ended n) b k runs.next)
-      by (inr k) = k
+      by : (bound_to (started own records imports).bindings (own_label runs.ended n) ≡ Some b) ⊎ (((own_label runs.ended n).0.library ≡ own) × IsVariable b) → IsVariable b
+      by (inl k) = absurd (started-foreign own records imports ready (own_label runs.ended n) b k runs.next)
+      by (inr k) = k.1
 
   recorded : (n : ℕ) (a : Bool) (b : Binding) → bound_to runs.ended.bindings (own_label runs.ended n) ≡ Some b → IsRecorded (own_label runs.ended n, with_assigned a b)
-  recorded n a b e = let k = own-variable n b e in subst (λ (x : Binding). IsRecorded (own_label runs.ended n, with_assigned a x)) (sym k.is) tt
+  recorded n a b e = let k = own-variable n b e in subst (λ (x : Binding). IsRecorded (own_label runs.ended n, with_assigned a x)) (sym k.1) tt
 
-  top-defined : (l : Label) (v : VarInfo) → l.0.library ≡ own → (v.top ≡ true → Shows (rows_at (first_frame own) runs.ended.frames) l) → Each (Among (defined r)) (if v.top then l ∷ [] else [])
-  top-defined l v mine shown = by v.top refl
+  top-defined : (n : ℕ) (v : VarInfo) → bound_to runs.ended.bindings (own_label runs.ended n) ≡ Some (binding.Variable v) → Each (Among (defined r)) (if v.top then own_label runs.ended n ∷ [] else [])
+  top-defined n v e = by v.top refl
     where
-      seen : Shows (rows_at (first_frame own) runs.ended.frames) l → Among (defined r) l
-      seen h = subst (Among (defined r)) h.label
-          (each-at (GivesSeen own (defined r)) (rows_at (first_frame own) runs.ended.frames) h.row runs.tops h.there (ap (λ (m : Label). m.0.library) h.label ∙ mine))
-
-      by : (b : Bool) → v.top ≡ b → Each (Among (defined r)) (if b then l ∷ [] else [])
-      by true e = (seen (shown e), tt)
-      by false e = tt
+      by : (b : Bool) → v.top ≡ b → Each (Among (defined r)) (if b then own_label runs.ended n ∷ [] else [])
+      by true top = (runs.tops (own_label runs.ended n) v runs.next (e, top), tt)
+      by false top = tt
 
   told-top : (n : ℕ) (a : Bool) (b : Binding) → bound_to runs.ended.bindings (own_label runs.ended n) ≡ Some b → Each (Among (defined r)) (top_label (own_label runs.ended n, with_assigned a b))
   told-top n a b e =
       let k = own-variable n b e in
-      subst (λ (x : Binding). Each (Among (defined r)) (top_label (own_label runs.ended n, with_assigned a x))) (sym k.is) (top-defined (own_label runs.ended n) k.variable runs.next k.shown)
+      subst (λ (x : Binding). Each (Among (defined r)) (top_label (own_label runs.ended n, with_assigned a x))) (sym k.1) (top-defined n k.0 (e ∙ ap Some k.1))
 
   frames-own : Each (λ (f : FrameRow). IsOwn r f.frame.0) r.frames
   frames-own = subst (Each (λ (f : FrameRow). IsOwn r f.frame.0)) (sym runs.frames) (ordered-own r.name 0 (rows_in r.name runs.ended.frames) (ordered_rows_in r.name runs.ended.frames))
@@ -170,4 +165,4 @@ module _ (own : LibName) (records : List LibRecord) (imports : List (List ℕ ×
     }
 
 pub records-serve : RecordsServe
-records-serve own path records imports version place exports forms r h there e = record-serves own records imports forms r h (record-runs own path records imports version place exports forms r h e) there
+records-serve own path records imports version place exports forms r h there e = record-serves own records imports r h (record-runs own path records imports version place exports forms r h e) there

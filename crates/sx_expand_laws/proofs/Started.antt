@@ -1,15 +1,12 @@
 -- The state that the expansion of a library begins with.
-use Rattle.std.proofs.Common.{◌≡◌, ℕ, ◌≤◌, Bool, true, false, List, [], ◌∷◌, ◌++◌, map, Some, refl, sym, ◌∙◌, ap, subst, arith, inl, inr, cond, if◌then◌else◌}
+use Rattle.std.proofs.Common.{◌≡◌, ℕ, Bool, true, false, List, [], ◌∷◌, ◌++◌, map, Some, refl, sym, ◌∙◌, ap, subst, inl, inr, cond, if◌then◌else◌}
 use Rattle.std.specs.Prelude.{◌⊎◌, filter}
 use Rattle.std.specs.List.{flat_map}
-use Rattle.std.proofs.lemmas.Grind.{flat_map-append}
-use Rattle.sx_base.specs.Same.{same_library, same_library_decides, same_name_cases}
+use Rattle.sx_base.specs.Same.{same_name_cases}
 use Rattle.sx_base.specs.Named.{Named}
 use Rattle.sx_base.specs.declared.library.LibName.{LibName}
-use Rattle.sx_base.specs.declared.library.LibName.TheVariants as library
 use Rattle.sx_base.specs.declared.name.FrameNo.{FrameNo}
 use Rattle.sx_base.specs.declared.name.Label.{Label}
-use Rattle.sx_tree.specs.Tree.{Tree}
 use Rattle.sx_tree.specs.declared.frame_row.FrameRow.{FrameRow}
 use Rattle.sx_frames.specs.Rows.{Row}
 use Rattle.sx_frames.specs.Scope.{same_frame, rows_at, row_in}
@@ -21,12 +18,11 @@ use Rattle.sx_core.specs.declared.binding.Binding.TheVariants as binding
 use Rattle.sx_core.specs.declared.record.LibRecord.{LibRecord}
 use Rattle.sx_core_laws.specs.Words.{Each, Among}
 use Rattle.sx_core_laws.specs.Records.{defined}
-use Rattle.sx_core_laws.specs.Follows.{IsOwn, IsRecorded, IsKnown, names_of, bound_labels, row_labels, top_label, tops}
-use Rattle.sx_core_laws.specs.Following.{AllFollow}
+use Rattle.sx_core_laws.specs.Follows.{IsOwn, IsRecorded, names_of, bound_labels, top_label, tops}
 use Rattle.sx_standing.specs.Start.{bindings_of, rows_of, first_frame, import_row, started}
-use Rattle.sx_expand_laws.specs.Ready.{IsForeign, IsForeignImport, IsReady}
+use Rattle.sx_expand_laws.specs.Ready.{IsReady}
 use Rattle.sx_expand_laws.specs.Serves.{IsThere, IsLabelThere, AllServe}
-use Rattle.sx_expand_laws.specs.States.{GivesForeign, Sound, IndicesApart}
+use Rattle.sx_expand_laws.specs.States.{IsForeign, Sound, IndicesApart}
 use Rattle.sx_expand_laws.proofs.Fresh.{each-at, each-map, each-append, among-parts, among-first, among-second}
 
 -- a binding of another library, whose variables of the top are defined
@@ -36,11 +32,6 @@ Told own given (l, binding.PatternVariable level depth) = IsForeign own l.0
 Told own given (l, binding.Macro level expression) = IsForeign own l.0
 Told own given (l, binding.Core form) = ⊥
 Told own given (l, binding.Primitive o) = ⊥
-
--- a row of another library's frame with a label of one
-pub record RowForeign (own : LibName) (r : FrameRow) : Type 0 where
-  pub frame : IsForeign own r.frame.0
-  pub label : IsForeign own r.label.0
 
 pub names-append : (rs : List LibRecord) (r : LibRecord) → names_of (rs ++ r ∷ []) ≡ names_of rs ++ r.name ∷ []
 names-append [] r = refl
@@ -56,8 +47,8 @@ rows-hold P f (r ∷ rows) h = by (same_frame f r.frame) (rows-hold P f rows h.1
     by true k = (h.0, k)
     by false k = k
 
--- the labels that one record binds, defines and puts into rows
-module _ (own : LibName) (no_core : own ≡ library.Core → ⊥) (given : List Label) where
+-- the labels that records bind and define
+module _ (own : LibName) (given : List Label) where
   tops-told : (bs : List (Label × Binding)) → Each IsRecorded bs → ((l : Label) → Among (flat_map top_label bs) l → Among given l)
       → Each (λ (l : Label). IsForeign own l.0) (map (λ (b : Label × Binding). b.0) bs) → Each (Told own given) bs
   tops-told [] k t f = tt
@@ -78,58 +69,6 @@ module _ (own : LibName) (no_core : own ≡ library.Core → ⊥) (given : List 
       (each-map (λ (l : Label). IsOwn r l.0) (λ (l : Label). IsForeign own l.0) (bound_labels r) h.0.own_bindings (λ l e e'. new (inl (sym e' ∙ e)))))
       (bindings-told (earlier ++ r ∷ []) rs h.1 (λ a. new (inr a)) (λ l a. w l (among-second (defined r) (flat_map defined rs) l a)))
 
-  row-foreign : (r : LibRecord) (earlier : List LibRecord) (l : Label) → (r.name ≡ own → ⊥) → (own ≡ library.Derived → ⊥) → (Among (names_of earlier) own → ⊥) → IsLabelThere earlier r l → IsForeign own l.0
-  row-foreign r earlier l other derived before (inl mine) = λ e. other (sym mine ∙ e)
-  row-foreign r earlier l other derived before (inr (inl a)) = λ e. before (subst (Among (names_of earlier)) e a)
-  row-foreign r earlier l other derived before (inr (inr (inl core))) = λ e. no_core (sym e ∙ core)
-  row-foreign r earlier l other derived before (inr (inr (inr is))) = λ e. derived (sym e ∙ is)
-
-  -- a label that is bound in this record or an earlier one, or given, is of another library too
-  known-foreign : (r : LibRecord) (earlier : List LibRecord) (l : Label) → (r.name ≡ own → ⊥) → Each (λ (m : Label). IsOwn r m.0) (bound_labels r)
-      → ((m : Label) → Among (flat_map bound_labels earlier) m → IsForeign own m.0) → IsKnown r earlier l → IsForeign own l.0
-  known-foreign r earlier l other mine bound (inl a) = by (among-parts (bound_labels r) (flat_map bound_labels earlier) l a)
-    where
-      by : Among (bound_labels r) l ⊎ Among (flat_map bound_labels earlier) l → IsForeign own l.0
-      by (inl b) = λ e. other (sym (each-at (λ (m : Label). IsOwn r m.0) (bound_labels r) l mine b) ∙ e)
-      by (inr b) = bound l b
-  known-foreign r earlier l other mine bound (inr g) = λ e. no_core (sym e ∙ g.0)
-
-  rows-foreign : (rows : List FrameRow) → Each (λ (f : FrameRow). IsForeign own f.frame.0) rows → Each (λ (l : Label). IsForeign own l.0) (map (λ (f : FrameRow). f.label) rows) → Each (RowForeign own) rows
-  rows-foreign [] h k = tt
-  rows-foreign (r ∷ rows) h k = (record { frame = h.0; label = k.0 }, rows-foreign rows h.1 k.1)
-
-  rows-told : (earlier rs : List LibRecord) → AllServe earlier rs → (Among (names_of rs) own → ⊥) → (own ≡ library.Derived → AllFollow earlier rs) → (Among (names_of earlier) own → ⊥)
-      → ((m : Label) → Among (flat_map bound_labels earlier) m → IsForeign own m.0) → Each (RowForeign own) (rows_of rs)
-  rows-told earlier [] h new derived before bound = tt
-  rows-told earlier (r ∷ rs) h new derived before bound =
-      each-append (RowForeign own) r.frames (rows_of rs)
-      (rows-foreign r.frames (each-map (λ (f : FrameRow). f.frame.0.library ≡ r.name) (λ (f : FrameRow). IsForeign own f.frame.0) r.frames h.0.own_frames (λ f e e'. other (sym e ∙ e')))
-      (labels (same_library own library.Derived) refl))
-      (rows-told (earlier ++ r ∷ []) rs h.1 (λ a. new (inr a)) (λ e. (derived e).1) (λ a. more (among-parts (names_of earlier) (r.name ∷ []) own (subst (λ ns. Among ns own) (names-append earlier r) a)))
-      (λ m a. more-bound m (among-parts (flat_map bound_labels earlier) (flat_map bound_labels (r ∷ [])) m (subst (λ ls. Among ls m) (flat_map-append bound_labels earlier (r ∷ [])) a))))
-    where
-      other : r.name ≡ own → ⊥
-      other e = new (inl (sym e))
-
-      -- the derived library stands behind records that follow one another, any other behind records that serve
-      labels : (b : Bool) → same_library own library.Derived ≡ b → Each (λ (l : Label). IsForeign own l.0) (row_labels r)
-      labels true is = each-map (IsKnown r earlier) (λ (l : Label). IsForeign own l.0) (row_labels r) (derived ((same_library_decides own library.Derived).0 is)).0.labels.rows
-          (λ l k. known-foreign r earlier l other h.0.own_bindings bound k)
-      labels false is = each-map (IsLabelThere earlier r) (λ (l : Label). IsForeign own l.0) (row_labels r) h.0.rows
-          (λ l k. row-foreign r earlier l other (λ e. let yes = (same_library_decides own library.Derived).1 e in absurd (cc)) before k)
-
-      more : Among (names_of earlier) own ⊎ Among (r.name ∷ []) own → ⊥
-      more (inl a) = before a
-      more (inr (inl e)) = new (inl e)
-      more (inr (inr a)) = elim a [ ]
-
-      more-bound : (m : Label) → Among (flat_map bound_labels earlier) m ⊎ Among (bound_labels r ++ []) m → IsForeign own m.0
-      more-bound m (inl a) = bound m a
-      more-bound m (inr a) = last (among-parts (bound_labels r) [] m a) where
-        last : Among (bound_labels r) m ⊎ Among [] m → IsForeign own m.0
-        last (inl b) = λ e. other (sym (each-at (λ (l : Label). IsOwn r l.0) (bound_labels r) m h.0.own_bindings b) ∙ e)
-        last (inr b) = elim b [ ]
-
   -- what a label is bound to is told
   bound-told : (bs : List (Label × Binding)) (l : Label) (b : Binding) → Each (Told own given) bs → bound_to bs l ≡ Some b → Told own given (l, b)
   bound-told [] l b h e = absurd (cc)
@@ -142,44 +81,15 @@ module _ (own : LibName) (no_core : own ≡ library.Core → ⊥) (given : List 
           subst (λ (x : Binding). Told own given (l, x)) bound (subst (λ (m : Label). Told own given (m, p.1)) same h.0)
       by false is later k = later k
 
-  -- The frames.
-
-  imports-foreign : (es : List (List ℕ × Label)) → Each (IsForeignImport own) es → Each (λ (r : FrameRow). IsForeign own r.label.0) (map (import_row (first_frame own)) es)
-  imports-foreign [] h = tt
-  imports-foreign (e ∷ es) h = (h.0, imports-foreign es h.1)
-
-  no-rows : (f : FrameNo) (rows : List FrameRow) → Each (λ (r : FrameRow). f ≡ r.frame → ⊥) rows → filter (λ r. same_frame f r.frame) rows ≡ []
-  no-rows f [] h = refl
-  no-rows f (r ∷ rows) h = by (same_frame f r.frame) refl (no-rows f rows h.1)
-    where
-      by : (b : Bool) → same_frame f r.frame ≡ b → filter (λ x. same_frame f x.frame) rows ≡ [] → cond b (r ∷ filter (λ x. same_frame f x.frame) rows) (filter (λ x. same_frame f x.frame) rows) ≡ []
-      by true e k = absurd (h.0 (ap (λ (n : Named). let y : FrameNo = record { 0 = n } in y) ((same_name_cases f.0 r.frame.0).0 e)))
-      by false e k = k
-
-  later-frames : (f : FrameNo) (es : List (List ℕ × Label)) → 1 ≤ f.0.number → Each (λ (r : FrameRow). f ≡ r.frame → ⊥) (map (import_row (first_frame own)) es)
-  later-frames f [] h = tt
-  later-frames f (e ∷ es) h = ((λ is. let n = ap (λ (x : FrameNo). x.0.number) is in omega (arith, n, h)), later-frames f es h)
-
 -- What the library begins with.
 
-pub started-labels : (own : LibName) (records : List LibRecord) (imports : List (List ℕ × Label)) (forms : List Tree) → IsReady own records imports forms
-    → (f : FrameNo) → Each (GivesForeign own) (rows_at f (started own records imports).frames)
-unfolding started
-started-labels own records imports forms h f =
-    let given = flat_map defined records in
-    let rows = rows_of records ++ map (import_row (first_frame own)) imports in
-    let all : Each (RowForeign own) (rows_of records) = rows-told own h.no_core given [] records h.earlier h.new h.derived_follows (λ a. elim a [ ]) (λ m a. elim a [ ]) in
-    subst (Each (GivesForeign own)) (sym (rows_at-adopted [] f rows))
-    (rows-hold (λ l. IsForeign own l.0) f rows (each-append (λ (r : FrameRow). IsForeign own r.label.0) (rows_of records) (map (import_row (first_frame own)) imports)
-    (each-map (RowForeign own) (λ (r : FrameRow). IsForeign own r.label.0) (rows_of records) all (λ r k. k.label)) (imports-foreign own h.no_core given imports h.imported)))
-
 -- what is bound is told
-started-told : (own : LibName) (records : List LibRecord) (imports : List (List ℕ × Label)) (forms : List Tree) → IsReady own records imports forms
+started-told : (own : LibName) (records : List LibRecord) (imports : List (List ℕ × Label)) → IsReady own records
     → (l : Label) (b : Binding) → bound_to (started own records imports).bindings l ≡ Some b → Told own (flat_map defined records) (l, b)
 unfolding started
-started-told own records imports forms h l b e =
+started-told own records imports h l b e =
     let given = flat_map defined records in
-    bound-told own h.no_core given (bindings_of records) l b (bindings-told own h.no_core given [] records h.earlier h.new (λ m a. a)) e
+    bound-told own given (bindings_of records) l b (bindings-told own given [] records h.earlier h.new (λ m a. a)) e
 
 told-foreign : (own : LibName) (given : List Label) (l : Label) (b : Binding) → Told own given (l, b) → IsForeign own l.0
 told-foreign own given l (binding.Variable v) h = h.0
@@ -188,32 +98,28 @@ told-foreign own given l (binding.Macro level expression) h = h
 told-foreign own given l (binding.Core form) h = elim h [ ]
 told-foreign own given l (binding.Primitive o) h = elim h [ ]
 
-pub started-foreign : (own : LibName) (records : List LibRecord) (imports : List (List ℕ × Label)) (forms : List Tree) → IsReady own records imports forms
+pub started-foreign : (own : LibName) (records : List LibRecord) (imports : List (List ℕ × Label)) → IsReady own records
     → (l : Label) (b : Binding) → bound_to (started own records imports).bindings l ≡ Some b → IsForeign own l.0
-started-foreign own records imports forms h l b e = told-foreign own (flat_map defined records) l b (started-told own records imports forms h l b e)
+started-foreign own records imports h l b e = told-foreign own (flat_map defined records) l b (started-told own records imports h l b e)
 
-pub started-sound : (own : LibName) (records : List LibRecord) (imports : List (List ℕ × Label)) (forms : List Tree) → IsReady own records imports forms → Sound own (flat_map defined records) (started own records imports)
+pub started-sound : (own : LibName) (records : List LibRecord) (imports : List (List ℕ × Label)) → IsReady own records → Sound own (flat_map defined records) (started own records imports)
 unfolding started
-started-sound own records imports forms h =
-    let given = flat_map defined records in
-    let rows = rows_of records ++ map (import_row (first_frame own)) imports in
-    record {
-      here = refl;
-      next = refl;
-      defined = λ l v o e. (started-told own records imports forms h l (binding.Variable v) e).1;
-      primitives = λ l o e. absurd (started-told own records imports forms h l (binding.Primitive o) e);
-      others = λ f o. started-labels own records imports forms h f;
-      blank = λ f o le. rows_at-adopted [] f rows
-          ∙ ap (map row_in) (no-rows own h.no_core given f rows (each-append (λ (r : FrameRow). f ≡ r.frame → ⊥) (rows_of records) (map (import_row (first_frame own)) imports)
-          (each-map (RowForeign own) (λ (r : FrameRow). f ≡ r.frame → ⊥) (rows_of records) (rows-told own h.no_core given [] records h.earlier h.new h.derived_follows (λ a. elim a [ ]) (λ m a. elim a [ ])) (λ r k e. k.frame (ap (λ (x : FrameNo). x.0.library) (sym e) ∙ o)))
-          (later-frames own h.no_core given f imports le)));
-    }
+started-sound own records imports h = record {
+  here = refl;
+  next = refl;
+  defined = λ l v o e. (started-told own records imports h l (binding.Variable v) e).1;
+  primitives = λ l o e. absurd (started-told own records imports h l (binding.Primitive o) e);
+}
+
+pub started-scope : (own : LibName) (records : List LibRecord) (imports : List (List ℕ × Label)) → (started own records imports).scope ≡ []
+unfolding started
+started-scope own records imports = refl
 
 -- there is no variable of the library yet
-pub started-indices : (own : LibName) (records : List LibRecord) (imports : List (List ℕ × Label)) (forms : List Tree) → IsReady own records imports forms → IndicesApart own (started own records imports)
-started-indices own records imports forms h = record {
-  below = λ l v i o e k. absurd (started-foreign own records imports forms h l (binding.Variable v) e o);
-  apart = λ l m v w i o q e d k r. absurd (started-foreign own records imports forms h l (binding.Variable v) e o);
+pub started-indices : (own : LibName) (records : List LibRecord) (imports : List (List ℕ × Label)) → IsReady own records → IndicesApart own (started own records imports)
+started-indices own records imports h = record {
+  below = λ l v i o e k. absurd (started-foreign own records imports h l (binding.Variable v) e o);
+  apart = λ l m v w i o q e d k r. absurd (started-foreign own records imports h l (binding.Variable v) e o);
 }
 
 -- Where what it imports is there.

@@ -33,4 +33,4 @@ pub record IsGood (records : List LibRecord) (r : LibRecord) : Type 0 where
 abbrev pub RecordsAreGood : Type 0
 RecordsAreGood = (own : LibName) (path : List ℕ) (records : List LibRecord) (imports : List (List ℕ × Label)) (version : List ℕ) (place : Span)
     (exports : List (List ℕ × Tree)) (forms : List Tree) (r : LibRecord)
-    → IsReady own records imports forms → library_record (ready own path records imports) version place exports forms ≡ Ok r → IsGood records r × (r.name ≡ own)
+    → IsReady own records → library_record (ready own path records imports) version place exports forms ≡ Ok r → IsGood records r × (r.name ≡ own)

@@ -6,3 +6,4 @@ pub mod Indices
 pub mod Good
 pub mod Serving
 pub mod Named
+pub mod InScope

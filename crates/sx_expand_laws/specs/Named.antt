@@ -1,6 +1,5 @@
 -- Each reference names the binder that its leaf stands for.
-use Rattle.std.specs.Prelude.{◌≡◌, ℕ, ◌⊎◌, Bool, true, List, Option, None, Some, Ok}
-use Rattle.sx_base.specs.declared.library.LibName.{LibName}
+use Rattle.std.specs.Prelude.{◌≡◌, ℕ, ◌⊎◌, Bool, true, Option, None, Some, Ok}
 use Rattle.sx_base.specs.declared.name.FrameNo.{FrameNo}
 use Rattle.sx_base.specs.declared.name.Label.{Label}
 use Rattle.sx_base.specs.declared.op.Op.{Op}
@@ -16,7 +15,7 @@ use Rattle.sx_standing.specs.State.{State}
 use Rattle.sx_standing.specs.declared.standing.Standing.TheVariants as standing
 use Rattle.sx_heads.specs.Plan.{target}
 use Rattle.sx_expand.specs.Expression.{inside}
-use Rattle.sx_expand_laws.specs.States.{Sound, Reach, IsIn, IsOld}
+use Rattle.sx_expand_laws.specs.States.{IsOld}
 use Rattle.sx_expand_laws.specs.Trees.{LeavesAre}
 
 -- a reference to what an identifier stands for: to the variable of that label, or to a primitive
@@ -38,8 +37,7 @@ abbrev pub BindersAreFound : Type 0
 BindersAreFound = (frame : FrameNo) (place : Span) (level : ℕ) (top : Bool) (id : Tree) (s u : State) (l : Label)
     → bind_variable frame place level top id s ≡ Ok (l, u) → stands u.frames (stamp frame id) ≡ Some l
 
--- What an identifier stands for, whose stamps name frames that were made, stays as it is while a form in scope is expanded.
+-- What an identifier stands for, whose stamps name frames that were made, stays as it is while a form is expanded.
 abbrev pub BindersStay : Type 0
-BindersStay = (own : LibName) (given : List Label) (frames : List FrameNo) (ls : List Label) (room : ℕ) (place : Span) (level depth : ℕ) (t : Tree) (s u : State) (c : PlainCore)
-    → Sound own given s → Reach own given frames s ls → LeavesAre (IsIn own frames) t → (inside room).form place level depth t s ≡ Ok (c, u)
-    → (id : Tree) → LeavesAre (IsOld own s) id → stands u.frames id ≡ stands s.frames id
+BindersStay = (room : ℕ) (place : Span) (level depth : ℕ) (t : Tree) (s u : State) (c : PlainCore) → (inside room).form place level depth t s ≡ Ok (c, u)
+    → (id : Tree) → LeavesAre (IsOld s.names.library s) id → stands u.frames id ≡ stands s.frames id

@@ -18,5 +18,5 @@ FollowersServe = (rs : List LibRecord) → AllFollow [] rs → AllServe [] rs
 abbrev pub RecordsServe : Type 0
 RecordsServe = (own : LibName) (path : List ℕ) (records : List LibRecord) (imports : List (List ℕ × Label)) (version : List ℕ) (place : Span)
     (exports : List (List ℕ × Tree)) (forms : List Tree) (r : LibRecord)
-    → IsReady own records imports forms → Each (λ (e : List ℕ × Label). IsThere records e.1.0.library) imports
+    → IsReady own records → Each (λ (e : List ℕ × Label). IsThere records e.1.0.library) imports
     → library_record (ready own path records imports) version place exports forms ≡ Ok r → Serves records r

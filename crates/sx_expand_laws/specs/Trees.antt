@@ -14,6 +14,3 @@ LeavesAre P (atom s a) = Unit {0}
 LeavesAre P (leaf s x c) = StampsAre P c.stamps
 LeavesAre P (pair s a d) = LeavesAre P a × LeavesAre P d
 LeavesAre P (vector s d) = LeavesAre P d
-
-abbrev pub AllLeavesAre : (FrameNo → Type 0) → List Tree → Type 0
-AllLeavesAre P ts = Each (LeavesAre P) ts

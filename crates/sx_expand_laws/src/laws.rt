@@ -1,6 +1,7 @@
 //! Laws of expansion. Each function here computes nothing: what it promises is the law.
 
 ghost use Rattle.sx_expand_laws.specs.Good.{RecordsAreGood};
+ghost use Rattle.sx_expand_laws.specs.InScope.{ScopeStays};
 ghost use Rattle.sx_expand_laws.specs.Serving.{FollowersServe, RecordsServe};
 ghost use Rattle.sx_expand_laws.specs.Named.{ReferencesNameBinders, AssignmentsNameBinders, BindersAreFound, BindersStay};
 
@@ -25,4 +26,9 @@ pub fn references_name_binders()
     ensures assignments { AssignmentsNameBinders }
     ensures binders { BindersAreFound }
     ensures stay { BindersStay }
+{}
+
+/// What comes into scope in an expression is out of scope after it.
+pub fn scope_stays()
+    ensures { ScopeStays }
 {}

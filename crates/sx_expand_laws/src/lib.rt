@@ -15,13 +15,14 @@
 //! Each record that a library stands on must *serve* those behind it (`specs/Serves`): it binds only labels
 //! of its own, and what else its frames and exports give was there before it or is a name of the
 //! implementation. Records that follow one another serve, and so does every record that expansion gives; so
-//! the law applies to one after another. And no stamp of the forms may name a frame of their own library:
-//! this holds of forms that were read, since these have no stamps.
+//! the law applies to one after another. Of forms nothing is asked: their stamps and marks may be any.
 //!
-//! All rests on one invariant, `Sound` in `specs/States`, which each form keeps if it is kept inside
-//! forms; an induction on how deep forms may nest closes it. The stamps of a form name frames that are
-//! in scope, so a leaf stands for nothing that isn't; and names are made from one counter, so what was
-//! made between two states is disjoint from what was made before and after.
+//! For what is in scope is part of the state, and expansion itself asks it of each reference. So the proof has
+//! two halves, each an induction on how deep forms may nest. The first tells how a form changes a state,
+//! whatever the state and the form: it adds frames and names, and leaves the scope as it was (`Later` in
+//! `specs/States`). The second tells what a form gives: where a state is `Sound`, its core code is closed under
+//! the labels that the state reaches (`Reach`). Names are made from one counter, so what was made between two
+//! states is disjoint from what was made before and after.
 #![tactic(auto)]
 
 pub mod laws;

@@ -1,6 +1,5 @@
 pub mod NameLemmas
 pub mod ImportLemmas
-pub mod TreeLemmas
 pub mod UserLemmas
 pub mod PlaceLemmas
 pub mod MadeLemmas

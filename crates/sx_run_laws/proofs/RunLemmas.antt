@@ -39,12 +39,6 @@ same_place (a ∷ xs) [] i x e h = absurd (omega (arith, e))
 same_place (a ∷ xs) (b ∷ ys) zero x e h = (b, refl)
 same_place (a ∷ xs) (b ∷ ys) (suc i) x e h = same_place xs ys i x (omega (arith, e)) h
 
-user_no_core : (n : LibName) → IsUser n → n ≡ library.Core → ⊥
-user_no_core n u e = subst IsUser e u
-
-user_no_derived : (n : LibName) → IsUser n → n ≡ library.Derived → ⊥
-user_no_derived n u e = subst IsUser e u
-
 user_no_program : (n : LibName) → IsUser n → n ≡ library.Program → ⊥
 user_no_program n u e = subst IsUser e u
 
@@ -154,17 +148,12 @@ module _ (files : Paths) (roots : List (List ℕ)) (path : List ℕ) (found : Fo
 
     -- another library has another name, since it has another file
     is_new : IsNew (records_at records (needed f)) f.opened.form.name
-    is_new =
-        let user = user_at files roots path found s run.loaded i file f at in
-        record { new = named_anew; no_core = user_no_core f.opened.form.name user; no_derived = user_no_derived f.opened.form.name user }
-      where
-        named_anew : Among (names_of (records_at records (needed f))) f.opened.form.name → ⊥
-        named_anew a =
-            let x = needed_as f closed before f.opened.form.name a in
-            let files_same : x.file ≡ file = whole.sound.once.named x.place x.file x.library_there x.there ∙ ap file_of x.name ∙ sym (whole.sound.once.named i file f at) in
-            let places_same : x.place ≡ i = whole.sound.once.once x.place i file x.library_there f (subst (λ n. IsAt s.done x.place n x.library_there) files_same x.there) at in
-            let less = x.before in
-            absurd (omega (arith, less, places_same, place))
+    is_new a =
+        let x = needed_as f closed before f.opened.form.name a in
+        let files_same : x.file ≡ file = whole.sound.once.named x.place x.file x.library_there x.there ∙ ap file_of x.name ∙ sym (whole.sound.once.named i file f at) in
+        let places_same : x.place ≡ i = whole.sound.once.once x.place i file x.library_there f (subst (λ n. IsAt s.done x.place n x.library_there) files_same x.there) at in
+        let less = x.before in
+        absurd (omega (arith, less, places_same, place))
 
     stands_here : (r : LibRecord) → slice_get records i ≡ Some r → Stands (records_at records (needed f)) f.opened.form.name r
     stands_here r there =
@@ -189,13 +178,9 @@ module _ (files : Paths) (roots : List (List ℕ)) (path : List ℕ) (found : Fo
   program_is = program_name files roots path found s run.loaded
 
   program_new : IsNew (records_at records (needed found)) found.opened.form.name
-  program_new = record {
-    new = λ a.
-        let x = needed_as found whole.stands.closed (λ j less. stands_at j) found.opened.form.name a in
-        user_no_program x.library_there.opened.form.name (user_at files roots path found s run.loaded x.place x.file x.library_there x.there) (x.name ∙ program_is);
-    no_core = λ e. let same : library.Program ≡ library.Core = sym program_is ∙ e in cc;
-    no_derived = λ e. let same : library.Program ≡ library.Derived = sym program_is ∙ e in cc;
-  }
+  program_new a =
+      let x = needed_as found whole.stands.closed (λ j less. stands_at j) found.opened.form.name a in
+      user_no_program x.library_there.opened.form.name (user_at files roots path found s run.loaded x.place x.file x.library_there x.there) (x.name ∙ program_is)
 
   program_stands : Stands (records_at records (needed found)) library.Program program
   program_stands = subst (λ (n : LibName). Stands (records_at records (needed found)) n program) program_is

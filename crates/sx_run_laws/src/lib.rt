@@ -20,7 +20,7 @@
 //! - Where a library is needed, so is all that it needs, and this was loaded before it. So the records that a
 //!   library needs serve, each behind those of them that come earlier.
 //! - The name of a library that is loaded is a list of parts, and the library stands under the file of its name,
-//!   once. So no name is that of the program or of the implementation, and no two are the same.
+//!   once. So no name is that of the program, and no two are the same.
 //! - Import sets select and rename, and make no labels. So each imported label comes from the implementation,
 //!   or from a record that exports it: it is of that record's library, or of one that was there before it.
 //!

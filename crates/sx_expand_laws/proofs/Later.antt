@@ -1,0 +1,106 @@
+-- From states to later ones.
+use Rattle.std.proofs.Common.{◌≡◌, ◌≤◌, ◌<◌, Bool, true, false, List, [], ◌∷◌, ◌++◌, length, None, Some, refl, sym, ◌∙◌, ap, subst, arith, inl, inr, if◌then◌else◌}
+use Rattle.std.specs.Prelude.{◌⊎◌, take}
+use Rattle.std.proofs.Math.Seq.{take-append_seam}
+use Rattle.sx_base.specs.Named.{Named}
+use Rattle.sx_base.specs.Same.{same_name_cases}
+use Rattle.sx_base.specs.declared.library.LibName.{LibName}
+use Rattle.sx_base.specs.declared.name.FrameNo.{FrameNo}
+use Rattle.sx_base.specs.declared.name.Label.{Label}
+use Rattle.sx_base.specs.declared.op.Op.{Op}
+use Rattle.sx_core.specs.Bindings.{bound_to}
+use Rattle.sx_core.specs.Labels.{same_label}
+use Rattle.sx_core.specs.declared.binding.Binding.{Binding}
+use Rattle.sx_core.specs.declared.binding.Binding.TheVariants as binding
+use Rattle.sx_core.specs.declared.binding.VarInfo.{VarInfo}
+use Rattle.sx_core_laws.specs.Words.{Among}
+use Rattle.sx_standing.specs.InScope.{cut}
+use Rattle.sx_standing.specs.State.{State}
+use Rattle.sx_expand_laws.specs.States.{IsOwn, IsForeign, Sound, IsOld, IsVariable, IsTop, Grows, Adds, Later, LaterBut}
+use Rattle.sx_expand_laws.proofs.Grows.{grows-same, grows-self, grows-then}
+
+pub old-later : (own : LibName) (s t : State) (f : FrameNo) → s.names.number ≤ t.names.number → IsOld own s f → IsOld own t f
+old-later own s t f up h o = let k = h o in omega (arith, k, up)
+
+module _ (own : LibName) where
+  pub later-self : (s : State) → s.names.library ≡ own → Later own s s
+  later-self s n = record { here = refl; next = n; up = omega arith; same = λ f o. refl; grows = grows-self own s; scope = refl; tops = λ l v o b. b }
+
+  pub later-then : (s t u : State) → Later own s t → Later own t u → Later own s u
+  later-then s t u h k = record {
+    here = k.here ∙ h.here;
+    next = k.next;
+    up = omega (arith, h.up, k.up);
+    same = λ f o. k.same f (old-later own s t f h.up o) ∙ h.same f o;
+    grows = grows-then own s t u h.grows k.grows;
+    scope = k.scope ∙ h.scope;
+    tops = λ l v o b. h.tops l v o (k.tops l v o b);
+  }
+
+  pub but-self : (g : FrameNo) (s : State) → s.names.library ≡ own → LaterBut own g s s
+  but-self g s n = record { here = refl; next = n; up = omega arith; same = λ f o d. refl; grows = grows-self own s }
+
+  pub but-then : (g : FrameNo) (s t u : State) → LaterBut own g s t → LaterBut own g t u → LaterBut own g s u
+  but-then g s t u h k = record {
+    here = k.here ∙ h.here;
+    next = k.next;
+    up = omega (arith, h.up, k.up);
+    same = λ f o d. k.same f (old-later own s t f h.up o) d ∙ h.same f o d;
+    grows = grows-then own s t u h.grows k.grows;
+  }
+
+  -- Where a new frame alone has more, and local variables came into scope: these are out of scope when all that came goes.
+  pub later-within : (g : FrameNo) (ls : List Label) (s t u v : State) → Later own s t → LaterBut own g t u → Adds own false ls t u → IsOwn own g.0 → s.names.number ≤ g.0.number → Later own u v
+      → Later own s (cut (length s.scope) v)
+  later-within g ls s t u v h k a of new j = record {
+    here = j.here ∙ k.here ∙ h.here;
+    next = j.next;
+    up = omega (arith, h.up, k.up, j.up);
+    same = λ f o.
+        j.same f (old-later own t u f k.up (old-later own s t f h.up o))
+        ∙ k.same f (old-later own s t f h.up o) (λ e. let low = o (subst (λ (x : FrameNo). IsOwn own x.0) (sym e) of) in let is = ap (λ (x : FrameNo). x.0.number) e in omega (arith, low, is, new))
+        ∙ h.same f o;
+    grows = grows-then own s u (cut (length s.scope) v) (grows-then own s t u h.grows k.grows) (grows-then own u v (cut (length s.scope) v) j.grows (grows-same own v (cut (length s.scope) v) refl refl refl));
+    scope = ap (take (length s.scope)) (j.scope ∙ a.scope ∙ ap (λ ms. ms ++ a.more) h.scope) ∙ take-append_seam s.scope a.more;
+    tops = λ l w o b. h.tops l w o (old l w (a.tops l w o (j.tops l w o b)));
+  }
+    where
+      old : (l : Label) (w : VarInfo) → IsTop t l w ⊎ ((false ≡ true) × ((w.level ≡ 0) × Among ls l)) → IsTop t l w
+      old l w (inl b) = b
+      old l w (inr p) = let bad = p.0 in absurd (cc)
+
+  -- what comes is bound to variables of the library, so a sound state stays sound
+  pub sound-grown : (given : List Label) (s t : State) → t.library ≡ s.library → t.names.library ≡ own → Grows own s t → Sound own given s → Sound own given t
+  sound-grown given s t here next grows h = record {
+    here = here ∙ h.here;
+    next = next;
+    defined = λ l v foreign b top. defined l v foreign top (grows.bindings l (binding.Variable v) b);
+    primitives = λ l o b. primitives l o (grows.bindings l (binding.Primitive o) b);
+  }
+    where
+      defined : (l : Label) (v : VarInfo) → IsForeign own l.0 → v.top ≡ true → (bound_to s.bindings l ≡ Some (binding.Variable v)) ⊎ (IsOwn own l.0 × IsVariable (binding.Variable v)) → Among given l
+      defined l v foreign top (inl b) = h.defined l v foreign b top
+      defined l v foreign top (inr p) = absurd (foreign p.0)
+
+      primitives : (l : Label) (o : Op) → (bound_to s.bindings l ≡ Some (binding.Primitive o)) ⊎ (IsOwn own l.0 × IsVariable (binding.Primitive o)) → o.0 < 301
+      primitives l o (inl b) = h.primitives l o b
+      primitives l o (inr p) = let bad = p.1.1 in absurd (cc)
+
+  pub sound-later : (given : List Label) (s t : State) → Later own s t → Sound own given s → Sound own given t
+  sound-later given s t h k = sound-grown given s t h.here h.next h.grows k
+
+-- Bindings.
+
+-- what a label is bound to behind one more
+pub bound-more : (bs : List (Label × Binding)) (l m : Label) (b x : Binding) → bound_to (bs ++ (l, b) ∷ []) m ≡ Some x → (bound_to bs m ≡ Some x) ⊎ ((m ≡ l) × (b ≡ x))
+bound-more [] l m b x h = by (same_label m l) refl h
+  where
+    by : (t : Bool) → same_label m l ≡ t → (if t then Some b else None) ≡ Some x → (bound_to [] m ≡ Some x) ⊎ ((m ≡ l) × (b ≡ x))
+    by true e k = inr (ap (λ (n : Named). let y : Label = record { 0 = n } in y) ((same_name_cases m.0 l.0).0 e), cc)
+    by false e k = absurd (cc)
+bound-more (p ∷ bs) l m b x h = by (same_label m p.0) (bound-more bs l m b x) h
+  where
+    by : (t : Bool) → (bound_to (bs ++ (l, b) ∷ []) m ≡ Some x → (bound_to bs m ≡ Some x) ⊎ ((m ≡ l) × (b ≡ x)))
+        → (if t then Some p.1 else bound_to (bs ++ (l, b) ∷ []) m) ≡ Some x → ((if t then Some p.1 else bound_to bs m) ≡ Some x) ⊎ ((m ≡ l) × (b ≡ x))
+    by true later k = inl k
+    by false later k = later k

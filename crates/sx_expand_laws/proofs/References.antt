@@ -1,0 +1,94 @@
+-- What references and the targets of assignments are.
+use Rattle.std.proofs.Common.{◌≡◌, ℕ, true, false, refl, inl, inr}
+use Rattle.std.specs.Prelude.{◌⊎◌, nat_eq}
+use Rattle.std.specs.Cmp.{unsigned_Decides}
+use Rattle.sx_base.specs.declared.name.Label.{Label}
+use Rattle.sx_base.specs.declared.span.Span.{Span}
+use Rattle.sx_tree.specs.Tree.{Tree}
+use Rattle.sx_core.specs.Core.{variable, primitive}
+use Rattle.sx_core.specs.Labels.{has_label, with_label}
+use Rattle.sx_standing.specs.InScope.{is_in_scope}
+use Rattle.sx_standing.specs.Standing.{standing_of}
+use Rattle.sx_standing.specs.State.{State}
+use Rattle.sx_standing.specs.declared.standing.Standing.{Standing}
+use Rattle.sx_standing.specs.declared.standing.Standing.TheVariants as standing
+use Rattle.sx_standing.specs.declared.standing.Variable.{Variable}
+use Rattle.sx_heads.specs.Plan.{variable_at, refer, reference, target_variable, target_by, target}
+use Rattle.sx_heads.specs.declared.plan.Plan.{Plan}
+use Rattle.sx_heads.specs.declared.plan.Plan.TheVariants as plans
+use Rattle.sx_expand_laws.proofs.Acts.{Gave, gave-if}
+
+-- an expression of this level may refer to the variable: to one of the library in scope, of this level, or to one of the top of another
+abbrev pub MayRefer : ℕ → State → Variable → Type 0
+MayRefer level s v = ((v.own ≡ true) × ((v.level ≡ level) × (is_in_scope s v ≡ true))) ⊎ ((v.own ≡ false) × (v.top ≡ true))
+
+-- the plan of a reference, by what its identifier stands for
+abbrev pub RefersBy : ℕ → State → Standing → Plan → Type 0
+RefersBy level s standing.Nothing p = ⊥
+RefersBy level s (standing.Variable v) p = (p ≡ plans.Done (variable v.label)) × MayRefer level s v
+RefersBy level s standing.PatternVariable p = ⊥
+RefersBy level s (standing.Primitive op) p = p ≡ plans.Done (primitive op)
+RefersBy level s (standing.Core f) p = ⊥
+RefersBy level s (standing.Keyword l) p = ⊥
+
+abbrev pub TargetBy : ℕ → State → Standing → Label → Type 0
+TargetBy level s standing.Nothing l = ⊥
+TargetBy level s (standing.Variable v) l = (l ≡ v.label) × MayRefer level s v
+TargetBy level s standing.PatternVariable l = ⊥
+TargetBy level s (standing.Primitive op) l = ⊥
+TargetBy level s (standing.Core f) l = ⊥
+TargetBy level s (standing.Keyword m) l = ⊥
+
+abbrev pub marked : Label → State → State
+marked l s = record s { assigned = with_label s.assigned l }
+
+module _ (place : Span) (level : ℕ) (s : State) where
+  abbrev pub Refers : Standing → Plan → State → Type 0
+  Refers st p t = (t ≡ s) × RefersBy level s st p
+
+  abbrev pub Targets : Standing → Label → State → Type 0
+  Targets st l t = (t ≡ marked l s) × TargetBy level s st l
+
+  variable-is : (id : Tree) (v : Variable) → Gave (Refers (standing.Variable v)) (variable_at place level id v s)
+  unfolding variable_at
+  variable-is id v = gave-if (Refers (standing.Variable v)) v.own _ _
+      (λ own-it. gave-if (Refers (standing.Variable v)) (nat_eq v.level level) _ _
+      (λ at. gave-if (Refers (standing.Variable v)) (is_in_scope s v) _ _ (λ there. (refl, (refl, inl (own-it, ((unsigned_Decides v.level level).0 at, there))))) (λ e. tt))
+      (λ e. tt))
+      (λ not-own. gave-if (Refers (standing.Variable v)) v.top _ _
+      (λ top. gave-if (Refers (standing.Variable v)) v.assigned _ _ (λ e. tt) (λ e. (refl, (refl, inr (not-own, top)))))
+      (λ e. tt))
+
+  refer-is : (id : Tree) (st : Standing) → Gave (Refers st) (refer place level id st s)
+  refer-is id standing.Nothing = tt
+  refer-is id (standing.Variable v) = variable-is id v
+  refer-is id standing.PatternVariable = tt
+  refer-is id (standing.Primitive op) = (refl, refl)
+  refer-is id (standing.Core f) = tt
+  refer-is id (standing.Keyword l) = tt
+
+  pub reference-is : (id : Tree) → Gave (Refers (standing_of s id)) (reference place level id s)
+  unfolding reference
+  reference-is id = refer-is id (standing_of s id)
+
+  target_variable-is : (t id : Tree) (v : Variable) → Gave (Targets (standing.Variable v)) (target_variable place level t id v s)
+  unfolding target_variable
+  target_variable-is t id v = gave-if (Targets (standing.Variable v)) v.own _ _
+      (λ own-it. gave-if (Targets (standing.Variable v)) (nat_eq v.level level) _ _
+      (λ at. gave-if (Targets (standing.Variable v)) (is_in_scope s v) _ _
+      (λ there. gave-if (Targets (standing.Variable v)) (has_label s.exports v.label) _ _ (λ e. tt) (λ e. (refl, (refl, inl (own-it, ((unsigned_Decides v.level level).0 at, there))))))
+      (λ e. tt))
+      (λ e. tt))
+      (λ not-own. gave-if (Targets (standing.Variable v)) v.top _ _ (λ top. gave-if (Targets (standing.Variable v)) (has_label s.exports v.label) _ _ (λ e. tt) (λ e. tt)) (λ e. tt))
+
+  target_by-is : (t id : Tree) (st : Standing) → Gave (Targets st) (target_by place level t id st s)
+  target_by-is t id standing.Nothing = tt
+  target_by-is t id (standing.Variable v) = target_variable-is t id v
+  target_by-is t id standing.PatternVariable = tt
+  target_by-is t id (standing.Primitive op) = tt
+  target_by-is t id (standing.Core f) = tt
+  target_by-is t id (standing.Keyword l) = tt
+
+  pub target-is : (t id : Tree) → Gave (Targets (standing_of s id)) (target place level t id s)
+  unfolding target
+  target-is t id = target_by-is t id (standing_of s id)
