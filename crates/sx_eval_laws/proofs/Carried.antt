@@ -25,9 +25,8 @@ use Rattle.sx_prims.specs.Chains.{list_elements}
 use Rattle.sx_prims.specs.Cost.{cost}
 use Rattle.sx_prims.specs.Delta.{delta}
 use Rattle.sx_template.specs.Binds.{unbound}
-use Rattle.sx_template.specs.Cost as template
 use Rattle.sx_eval.specs.Codes.{code_at}
-use Rattle.sx_eval.specs.Instances.{Binds, match_of, instance_of, instance_paid, instance_with, instanced, gathered}
+use Rattle.sx_eval.specs.Instances.{Binds, match_of, instance_of, cost_of, instance_made, instance_paid, instance_with, instanced, gathered}
 use Rattle.sx_eval.specs.Lines.{lines_from}
 use Rattle.sx_eval.specs.Procedures.{first_case, has_text, text_number, text_body, truth_of}
 use Rattle.sx_eval.specs.Quoted.{datum_cost}
@@ -41,7 +40,7 @@ use Rattle.sx_eval.proofs.Paid.{within_or_past, charged_paid, charged_short}
 use Rattle.sx_eval.proofs.Spreading.{args_shorter}
 use Rattle.sx_eval_laws.specs.MoreFuel.{more_left, IsSpent, MoreIsLeft, LeavesAtLeast, LeftIsNotNeeded, SpendsPast, SpentWhereMoreIsNeeded, LeavesAtMost, FuelFalls}
 use Rattle.sx_eval_laws.specs.Runs.{ByFuel, Everywhere}
-use Rattle.sx_eval_laws.proofs.Faults.{IsOther, not_spent, Others, others-delta, others-instance}
+use Rattle.sx_eval_laws.proofs.Faults.{IsOther, not_spent, Others, others-delta, others-instance, others-measure}
 
 -- the fuel ran out, or less than k is left
 abbrev pub Short : ℕ → Outcome → Type 0
@@ -265,15 +264,22 @@ module _ (b : ℕ) where
   carried-quoted d s n le =
       carried-charged (datum_cost d) s n (made s.names (stored d s.cells)) (λ k. made s.names (stored d s.cells)) le (λ h. record { carries = λ k. refl; within = omega (arith, le) }) (λ k m. omega arith)
 
-  carried-paid : (s : State) (n : ℕ) (r : Result (Value × List Cell) Bare) → Others r → n ≤ b → Carried b (instance_paid s n r) (λ k. instance_paid s (n + k) r)
-  carried-paid s n (Ok p) other le =
-      carried-charged (template.cost (drop (length s.cells) p.1)) (store p.1 s.names) n (done p.0 (store p.1 s.names)) (λ k. done p.0 (store p.1 s.names)) le
-      (λ h. record { carries = λ k. refl; within = omega (arith, le) }) (λ k m. omega arith)
-  carried-paid s n (Err f) other le = here-fault f other s n le
+  carried-made : (s : State) (r : Result (Value × List Cell) Bare) → Others r → (n : ℕ) → n ≤ b → Carried b (instance_made s r n) (λ k. instance_made s r (n + k))
+  carried-made s (Ok p) other n le = record { carries = λ k. refl; within = le }
+  carried-made s (Err f) other n le = here-fault f other s n le
+
+  made-falls : (s : State) (r : Result (Value × List Cell) Bare) (m : ℕ) → Within m (instance_made s r m)
+  made-falls s (Ok p) m = omega arith
+  made-falls s (Err f) m = omega arith
+
+  carried-paid : (s : State) (n : ℕ) (r : Result (Value × List Cell) Bare) (c : Result ℕ Bare) → Others r → Others c → n ≤ b → Carried b (instance_paid s n r c) (λ k. instance_paid s (n + k) r c)
+  carried-paid s n r (Ok cost) other also le =
+      carried-charged cost s n (instance_made s r) (λ k. instance_made s r) le (λ h. carried-made s r other (n - cost) (omega (arith, le))) (λ k m. made-falls s r m)
+  carried-paid s n r (Err f) other also le = here-fault f also s n le
 
   carried-instance_with : (t : PlainTemplate) (s : State) (n : ℕ) (o : Option Binds) → n ≤ b → Carried b (instance_with t s n o) (λ k. instance_with t s (n + k) o)
   carried-instance_with t s n None le = here-unfit
-  carried-instance_with t s n (Some bs) le = carried-paid s n (instance_of bs t s.cells) (others-instance unbound bs t [] s.cells) le
+  carried-instance_with t s n (Some bs) le = carried-paid s n (instance_of bs t s.cells) (cost_of bs t) (others-instance unbound bs t [] s.cells) (others-measure unbound bs t []) le
 
   carried-instanced : (t : PlainTemplate) (scope : Place) (s : State) (n : ℕ) → n ≤ b → Carried b (instanced t scope s n) (λ k. instanced t scope s (n + k))
   unfolding instanced

@@ -13,7 +13,7 @@ use Rattle.sx_tree.specs.Measures.{within, fits}
 use Rattle.sx_tree.specs.Tree.{Tree, vector_of, list_of}
 use Rattle.sx_value.specs.Cells.{vector_at, string_at}
 use Rattle.sx_value.specs.FromDatum.{pairs_stored, vector_stored}
-use Rattle.sx_value.specs.ToSyntax.{Reading, fuel_spent, to_syntax}
+use Rattle.sx_value.specs.ToSyntax.{fuel_spent}
 use Rattle.sx_value.specs.declared.cell.Cell.{Cell}
 use Rattle.sx_value.specs.declared.value.Value.{Value}
 use Rattle.sx_value.specs.declared.value.Value.TheVariants as value
@@ -21,7 +21,8 @@ use Rattle.sx_prims.specs.Answers.{refused, or_refused}
 use Rattle.sx_prims.specs.Basics.{basic_made}
 use Rattle.sx_prims.specs.Chains.{chain}
 use Rattle.sx_prims.specs.Characters.{character_made}
-use Rattle.sx_prims.specs.Data.{unread, stripped, datum_answer, text_grown, all_grown, vector_grown, list_grown, level_grown, grown_to, tree_made, tree_by, syntax_answer}
+use Rattle.sx_prims.specs.Copied.{is_syntax}
+use Rattle.sx_prims.specs.Data.{datum_answer, text_grown, all_grown, vector_grown, list_grown, level_grown, grown_to, tree_made, tree_by, syntax_answer}
 use Rattle.sx_prims.specs.Delta.{row_answer, answer_by, delta}
 use Rattle.sx_prims.specs.Equality.{equal_made}
 use Rattle.sx_prims.specs.Lists.{gathered_made, list_made, appended_made, indexed_made}
@@ -32,10 +33,12 @@ use Rattle.sx_prims.specs.Raised.{raised, word_of, is_who, raised_fault}
 use Rattle.sx_prims.specs.Strings.{string_of, part_made, unpacked_made, string_made, digits_made, strings_made}
 use Rattle.sx_prims.specs.Syntax.{identifier, identifier_made, temporaries_made}
 use Rattle.sx_prims.specs.declared.made.Made.{Made}
+use Rattle.sx_prims.specs.declared.made.Made.TheVariants as made
 use Rattle.sx_prims.specs.declared.primitive.Primitive.{Primitive}
 use Rattle.sx_template.specs.Binds.{Binds, Absent}
 use Rattle.sx_template.specs.Instance as instances
 use Rattle.sx_template.specs.Lengths.{agree, or_none}
+use Rattle.sx_template.specs.Measure as measures
 
 abbrev pub IsOther : FaultKind → Type 0
 IsOther kind.FuelSpent = ⊥
@@ -63,18 +66,10 @@ others-made : (op : ℕ) (o : Option Made) → Others (or_refused op o)
 others-made op None = tt
 others-made op (Some m) = tt
 
-others-unread : (op : ℕ) (k : FaultKind) → IsOther (unread op k).kind
-others-unread op kind.TooDeep = tt
-others-unread op _ = tt
-
-others-stripped : (op : ℕ) (r : Reading Tree) → Others (stripped op r)
-others-stripped op (Ok p) = tt
-others-stripped op (Err f) = others-unread op f.kind
-
 others-datum : (op : ℕ) (args : List Value) (cells : List Cell) → Others (datum_answer op args cells)
 unfolding datum_answer
 others-datum op [] cells = tt
-others-datum op (x ∷ []) cells = others-stripped op (to_syntax cells x (2 ^ 64 - 1))
+others-datum op (x ∷ []) cells = others-if (is_syntax cells x) (Ok (made.Datum x)) (Err (refused op)) tt tt
 others-datum op (x ∷ y ∷ args) cells = tt
 
 others-within : (t : Tree) → Others (within t)
@@ -217,3 +212,32 @@ mutual
   others-parts absent bs (template.more t ellipses is) turns vs cells =
       others-add (instances.item (instances.instance absent bs t) (instances.counts absent bs t) ellipses turns vs cells) (instances.parts absent bs is turns)
       (others-item (instances.instance absent bs t) (instances.counts absent bs t) (others-instance absent bs t) ellipses turns vs cells) (others-parts absent bs is turns)
+
+-- Costs of templates.
+
+others-plus : (c d : measures.Cost) → Others c → Others d → Others (measures.plus c d)
+others-plus c d h k = others-then c (λ m. d >>= λ n. Ok (m + n)) h (λ m. others-then d (λ n. Ok (m + n)) k (λ n. tt))
+
+others-turns : (go : List ℕ → measures.Cost) → ((turns : List ℕ) → Others (go turns)) → (n i : ℕ) (turns : List ℕ) → Others (measures.turns_cost go n i turns)
+others-turns go h zero i turns = tt
+others-turns go h (suc n) i turns = others-plus (go (turns ++ i ∷ [])) (measures.turns_cost go n (i + 1) turns) (h (turns ++ i ∷ [])) (others-turns go h n (i + 1) turns)
+
+others-item_cost : (go : List ℕ → measures.Cost) (counts : ℕ → List ℕ → List ℕ) → ((turns : List ℕ) → Others (go turns)) → (ellipses : ℕ) (turns : List ℕ) → Others (measures.item_cost go counts ellipses turns)
+others-item_cost go counts h zero turns = others-plus (go turns) (Ok 1) (h turns) tt
+others-item_cost go counts h (suc ellipses) turns =
+    others-then (agree None (counts ellipses turns)) (λ n. measures.turns_cost (measures.item_cost go counts ellipses) (or_none n) 0 turns)
+    (others-agree None (counts ellipses turns)) (λ n. others-turns (measures.item_cost go counts ellipses) (others-item_cost go counts h ellipses) (or_none n) 0 turns)
+
+mutual
+  pub others-measure : (absent : Absent) (bs : Binds) (t : PlainTemplate) (turns : List ℕ) → Others (measures.measure absent bs t turns)
+  others-measure absent bs (template.variable l depth) turns = tt
+  others-measure absent bs (template.constant t) turns = tt
+  others-measure absent bs (template.list is t) turns =
+      others-plus (measures.items_cost absent bs is turns) (measures.measure absent bs t turns) (others-items_cost absent bs is turns) (others-measure absent bs t turns)
+  others-measure absent bs (template.vector is) turns = others-items_cost absent bs is turns
+
+  others-items_cost : (absent : Absent) (bs : Binds) (is : PlainItems) (turns : List ℕ) → Others (measures.items_cost absent bs is turns)
+  others-items_cost absent bs template.none turns = tt
+  others-items_cost absent bs (template.more t ellipses is) turns =
+      others-plus (measures.item_cost (measures.measure absent bs t) (instances.counts absent bs t) ellipses turns) (measures.items_cost absent bs is turns)
+      (others-item_cost (measures.measure absent bs t) (instances.counts absent bs t) (others-measure absent bs t) ellipses turns) (others-items_cost absent bs is turns)

@@ -25,6 +25,7 @@ use Rattle.sx_value.specs.declared.cell.Cell.{Cell}
 use Rattle.sx_value.specs.declared.cell.Cell.TheVariants as cell
 use Rattle.sx_value.proofs.Stored.{keeps_refl, keeps_then, keeps_added, stored_keeps, pairs_keep}
 use Rattle.sx_pattern.specs.declared.columns.Found.{Found}
+use Rattle.sx_prims.specs.Copied.{datum_in}
 use Rattle.sx_prims.specs.Answers.{Answer}
 use Rattle.sx_prims.specs.Chains.{list_elements}
 use Rattle.sx_prims.specs.Cost.{cost}
@@ -33,14 +34,13 @@ use Rattle.sx_prims.specs.Perform.{performed, temporaries}
 use Rattle.sx_prims.specs.declared.made.Made.{Made}
 use Rattle.sx_prims.specs.declared.made.Made.TheVariants as made_by
 use Rattle.sx_template.specs.Binds.{Absent, unbound}
-use Rattle.sx_template.specs.Cost as template_cost
 use Rattle.sx_template.specs.Instance as instances
 use Rattle.sx_template.specs.Lengths.{agree, or_none}
 use Rattle.sx_eval.specs.Codes as table
 use Rattle.sx_eval.specs.Codes.{code_at}
 use Rattle.sx_eval.specs.Evals.{setting_with, state_of}
 use Rattle.sx_eval.specs.Lines.{defined, with_lines, lines_from}
-use Rattle.sx_eval.specs.Instances.{Binds, match_of, instance_of, instance_paid, instance_with, instanced, gathered}
+use Rattle.sx_eval.specs.Instances.{Binds, match_of, instance_of, cost_of, instance_made, instance_paid, instance_with, instanced, gathered}
 use Rattle.sx_eval.specs.Procedures.{first_case, bindings, has_text, text_number, text_body, truth_of}
 use Rattle.sx_eval.specs.Quoted.{datum_cost}
 use Rattle.sx_eval.specs.Setting.{PlainSetting}
@@ -96,7 +96,7 @@ performed_keeps (made_by.List xs x) name cells = pairs_keep xs (x, cells)
 performed_keeps (made_by.Vector xs) name cells = keeps-one cells (cell.Vector xs)
 performed_keeps (made_by.Text text) name cells = keeps-one cells (cell.Str text)
 performed_keeps (made_by.Transformer x) name cells = keeps-one cells (cell.Transformer x)
-performed_keeps (made_by.Datum d) name cells = stored_keeps d cells
+performed_keeps (made_by.Datum x) name cells = stored_keeps (datum_in cells x) cells
 performed_keeps (made_by.Temporaries n) name cells = pairs_keep (temporaries n name) (value.Atom a.Nil, cells)
 
 -- an action on cells that only adds
@@ -158,15 +158,17 @@ mutual
       added-then cells (instances.item (instances.instance absent bs t) (instances.counts absent bs t) ellipses turns vs cells) (instances.parts absent bs is turns)
       (item_adds (instances.instance absent bs t) (instances.counts absent bs t) (instance_adds absent bs t) ellipses turns vs cells) (parts_adds absent bs is turns)
 
-keeps-paid : (s : State) (n : ℕ) (r : Result (Value × List Cell) Bare) → OkKeeps s.cells r → EndsLater s (instance_paid s n r)
-keeps-paid s n (Ok p) k =
-    let later = later_cells s p.1 k in
-    keeps-charged s (store p.1 s.names) (template_cost.cost (drop (length s.cells) p.1)) n (done p.0 (store p.1 s.names)) later (λ m. later)
-keeps-paid s n (Err f) k = later_refl s
+keeps-instance : (s : State) (r : Result (Value × List Cell) Bare) → OkKeeps s.cells r → (n : ℕ) → EndsLater s (instance_made s r n)
+keeps-instance s (Ok p) k n = later_cells s p.1 k
+keeps-instance s (Err f) k n = later_refl s
+
+keeps-paid : (s : State) (n : ℕ) (r : Result (Value × List Cell) Bare) (c : Result ℕ Bare) → OkKeeps s.cells r → EndsLater s (instance_paid s n r c)
+keeps-paid s n r (Ok cost) k = keeps-charged s s cost n (instance_made s r) (later_refl s) (keeps-instance s r k)
+keeps-paid s n r (Err f) k = later_refl s
 
 keeps-instance_with : (t : PlainTemplate) (s : State) (n : ℕ) (o : Option Binds) → EndsLater s (instance_with t s n o)
 keeps-instance_with t s n None = tt
-keeps-instance_with t s n (Some bs) = keeps-paid s n (instance_of bs t s.cells) (instance_adds unbound bs t [] s.cells)
+keeps-instance_with t s n (Some bs) = keeps-paid s n (instance_of bs t s.cells) (cost_of bs t) (instance_adds unbound bs t [] s.cells)
 
 keeps-instanced : (t : PlainTemplate) (scope : Place) (s : State) (n : ℕ) → EndsLater s (instanced t scope s n)
 unfolding instanced
@@ -428,8 +430,14 @@ module _ (w : PlainSetting) where
       (λ v t n k. keeps-lines r ls scope (store (assigned t.cells scope l v) t.names) n h (later_assigned r t scope l v h k))
   keeps-lines r (line.Expr c ∷ ls) scope s n h k = keeps-thens r _ _ (ends-later r s _ k (keeps-eval_of c scope s n)) (λ v t n k. keeps-lines r ls scope t n h k)
 
+  -- likewise, from that state on
+  pub keeps-defined : (ls : List Line) (s : State) (n : ℕ) → EndsLater s (lines_from (eval_of w) ls (next_place s) (with_cell (cell.Scope (defined ls) None) s) n)
+  keeps-defined ls s n =
+      keeps-lines s ls (next_place s) (with_cell (cell.Scope (defined ls) None) s) n (omega arith) (later_with s (cell.Scope (defined ls) None))
+
+  -- an expression with a cell of its own
+  pub keeps-alone : (c : PlainCore) (s : State) (n : ℕ) → EndsLater s (eval_of w c (next_place s) (with_cell (cell.Scope [] None) s) n)
+  keeps-alone c s n = ends-later s _ _ (later_with s (cell.Scope [] None)) (keeps-eval_of c _ _ n)
+
 pub keeps-library : LibrariesEndLater
-keeps-library w ls n =
-    let s = state_of w in
-    keeps-lines (setting_with (with_lines ls (table.seen w.codes.entries)) w) s ls (next_place s) (with_cell (cell.Scope (defined ls) None) s) n (omega arith)
-    (later_with s (cell.Scope (defined ls) None))
+keeps-library w ls n = keeps-defined (setting_with (with_lines ls (table.seen w.codes.entries)) w) ls (state_of w) n

@@ -246,8 +246,8 @@ const SPLIT: [(u32, &str); 12] = [
     (1, "(a . 5) | (1 . 5) | a -> 1"),
 ];
 
-/// How many elements the ellipses take, and what the instance costs.
-const COUNTS: [(u64, u64, &str); 19] = [
+/// How many elements the ellipses take, and what the instance costs, measured before and counted after.
+const COUNTS: [(u64, u64, &str); 22] = [
     (3, 0, "(a ...) | (1 2 3) | 1"),
     (5, 0, "((a ...) ...) | ((1 2) (3)) | 1"),
     (0, 0, "(a b ...) | (1) | 1"),
@@ -267,6 +267,9 @@ const COUNTS: [(u64, u64, &str); 19] = [
     (0, 0, "a | 1 | a"),
     (0, 3, "a | 1 | (a x y)"),
     (2, 6, "(a ...) | (1 2) | #((a 0) ...)"),
+    (3, 18, "(a ...) | (1 2 3) | ((a (a ...)) ...)"),
+    (4, 6, "((a b ...) ...) | ((1 2 3) (4)) | ((b ... a) ...)"),
+    (4, 8, "((a ...) (b ...)) | ((1 2) (3 4)) | ((a b ...) ...)"),
 ];
 
 /// What is made of pattern, value and template.
@@ -343,6 +346,7 @@ fn check_counts(rt: &impl Abort, alloc: Global, rows: &[(u64, u64, &str)]) -> Re
         let outcome = outcome(alloc, "", given, Lies::Tree, 0)?;
         assert_eq!(rt; outcome.taken, *taken);
         assert_eq!(rt; outcome.cost, *cost);
+        assert_eq!(rt; outcome.measured, Some(*cost));
     }
     Ok(())
 }
@@ -350,6 +354,14 @@ fn check_counts(rt: &impl Abort, alloc: Global, rows: &[(u64, u64, &str)]) -> Re
 #[test]
 fn elements_and_cells_are_counted(rt: HostRuntime) -> Result<(), Fail> {
     check_counts(&rt, rt.alloc(), &COUNTS)
+}
+
+/// What variables took keeps its span.
+#[test]
+fn what_a_template_adds_has_no_span(rt: HostRuntime) -> Result<(), Fail> {
+    let outcome = outcome(rt.alloc(), "", "(a) | (1) | (x a (y) #(z))", Lies::Tree, 0)?;
+    assert_eq!(rt; outcome.spans, 1);
+    Ok(())
 }
 
 /// A variable of another level is a fault, also where it stands under too few ellipses.

@@ -15,9 +15,9 @@ use sx_base::span::Span;
 use sx_base::steps::Steps;
 use sx_base::symbol::Symbol;
 use sx_core::binding::Binding;
-use sx_core::bindings::Bindings;
 use sx_core::core_form::CoreForm;
 use sx_core::template::Template;
+use sx_known::known::KnownBindings;
 use sx_pattern::columns::Found;
 use sx_pattern::compile::{Compiled, PatternVariable, compile_pattern};
 use sx_pattern::matching::matches;
@@ -25,10 +25,12 @@ use sx_printer::datum_text::datum_text;
 use sx_reader::read::read_all;
 use sx_region::region::Region;
 use sx_scope::scope::Frames;
+use sx_shapes::lists::parts_of;
 use sx_syntax::syn::{Opened, Syn};
 use sx_template::compile::compile_template;
 use sx_template::cost::cost;
 use sx_template::instance::make_instance;
+use sx_template::measure::measure;
 use sx_tree::marks::Marks;
 use sx_value::cell::Cell;
 use sx_value::from_datum::{from_datum, store_pairs};
@@ -64,13 +66,17 @@ pub struct Outcome {
     pub taken: u64,
     /// What the instance costs.
     pub cost: u64,
+    /// What was measured of it before.
+    pub measured: Option<u64>,
+    /// How many elements of the instance have a span.
+    pub spans: u64,
 }
 
 /// Frame 0 has the ellipsis and the underscore, and frame 1 the variables of the pattern.
 #[derive(Drop)]
 struct Scene {
     frames: Frames,
-    bindings: Bindings,
+    bindings: KnownBindings,
     cells: Region<Cell>,
 }
 
@@ -109,7 +115,7 @@ fn begun(alloc: Global) -> Result<Scene, Memory> {
     bind_form(alloc, &mut frames, "_", CoreForm::Underscore)?;
     Ok(Scene {
         frames,
-        bindings: Bindings::new(alloc),
+        bindings: KnownBindings::new(alloc),
         cells: Region::new(alloc),
     })
 }
@@ -243,6 +249,8 @@ fn only_text(text: String) -> Outcome {
         text,
         taken: 0,
         cost: 0,
+        measured: None,
+        spans: 0,
     }
 }
 
@@ -295,6 +303,28 @@ fn value_text(alloc: Global, cells: &Region<Cell>, value: &Value) -> Result<Stri
     }
 }
 
+/// How many elements have a span, of a value that is read as syntax.
+fn spans_in(alloc: Global, cells: &Region<Cell>, value: &Value) -> Result<u64, Memory> {
+    let Ok((tree, _)) = to_syntax(alloc, cells, value, 1_000_000) else {
+        return Ok(0);
+    };
+    let parts = parts_of(alloc, &tree)?;
+    let mut count = 0u64;
+    for element in parts.elements.as_slice() {
+        if element.span().is_some() {
+            count = count.saturating_add(1);
+        }
+    }
+    Ok(count)
+}
+
+fn measured(alloc: Global, template: &Template, found: &Found) -> Result<Option<u64>, Memory> {
+    match measure(alloc, template, found.binds.as_slice()) {
+        Ok(cost) => Ok(cost),
+        Err(_) => Ok(None),
+    }
+}
+
 fn instance(
     alloc: Global,
     scene: &mut Scene,
@@ -302,12 +332,15 @@ fn instance(
     found: &Found,
 ) -> Result<Outcome, Memory> {
     let from = scene.cells.len();
+    let measured = measured(alloc, template, found)?;
     match make_instance(alloc, template, found.binds.as_slice(), &mut scene.cells) {
         Err(stop) => Ok(only_text(bare_stop_text(alloc, &stop)?)),
         Ok(value) => Ok(Outcome {
             text: value_text(alloc, &scene.cells, &value)?,
             taken: found.taken,
             cost: cost(&scene.cells, from)?,
+            measured,
+            spans: spans_in(alloc, &scene.cells, &value)?,
         }),
     }
 }

@@ -1,5 +1,5 @@
 -- What one level of a form tells of what is made of it.
-use Rattle.std.proofs.Common.{◌≡◌, ℕ, suc, ◌≤◌, length, length-take, arith, Bool, true, false, List, [], ◌∷◌, map, take, Option, None, Some, Ok, refl, Vec, ap, sym, ◌∙◌}
+use Rattle.std.proofs.Common.{◌≡◌, ℕ, suc, Bool, true, false, List, [], ◌∷◌, map, take, Option, None, Some, Ok, refl, Vec, ap, sym, ◌∙◌}
 use Rattle.std.specs.Prelude.{Result, if◌then◌else◌}
 use Rattle.std.specs.declared.alloc.Global.{Global}
 use Rattle.sx_base.specs.Gives.{◌>>=◌, Stops}
@@ -8,27 +8,15 @@ use Rattle.sx_base.specs.declared.fault.Fault.{Fault}
 use Rattle.sx_base.specs.declared.fault.Stop.{Stop}
 use Rattle.sx_base.specs.declared.fault.Stop.TheVariants as stops
 use Rattle.sx_tree.specs.Tree.{Tree, atom, leaf, pair, vector, is_pair}
-use Rattle.sx_frames.specs.Scope.{Scope}
+use Rattle.sx_base.specs.declared.name.Label.{Label}
 use Rattle.sx_syntax.specs.Opens.{Opens}
 use Rattle.sx_syntax.specs.declared.syn.Opened.TheVariants as opened
 use Rattle.sx_shapes.specs.Lists.{is_nil, elements, tail_of}
-use Rattle.sx_pattern.specs.Keywords.{is_ellipsis, leading}
+use Rattle.sx_pattern.specs.Keywords.{is_ellipsis}
 use Rattle.sx_pattern.proofs.Levels.{elements_chain}
 use Rattle.sx_template.specs.declared.compile.Made.{Made}
 use Rattle.sx_template.specs.declared.compile.Made.TheVariants.{Fixed}
-use Rattle.sx_template.specs.Compile.{Context, Element, template, elements_made, tail_made, with_template, forms_walked, leaf_made, list_made, unescaped, vector_made, vector_template, list_joined, escape_of, escaped_form, list_template, dots, dots_behind, dots_taken}
-
--- no more forms are ellipses than there are
-leading_within : (fs : Scope) (ts : List Tree) → leading fs ts ≤ length ts
-leading_within fs [] = omega arith
-leading_within fs (t ∷ ts) = go (leading_within fs ts) (is_ellipsis fs t)
-  where
-    go : leading fs ts ≤ length ts → (b : Bool) → (if b then suc (leading fs ts) else 0) ≤ length (t ∷ ts)
-    go h true = omega (arith, h)
-    go h false = omega arith
-
-pub leading_taken : (fs : Scope) (ts : List Tree) (n : ℕ) → n ≡ leading fs ts → n ≡ length (take n ts)
-leading_taken fs ts n h = omega (arith, length-take n ts, h, leading_within fs ts)
+use Rattle.sx_template.specs.Compile.{Context, Element, template, elements_made, tail_made, with_template, forms_walked, leaf_made, list_made, unescaped, vector_made, vector_template, list_joined, escape_of, escaped_form, list_template, dots, dots_behind, dot_count, first_label}
 
 module _ (c : Context) where
   pub elements_are : (t : Tree) → elements_made c t ≡ map (with_template c) (elements t)
@@ -43,18 +31,16 @@ module _ (c : Context) where
   tail_is (pair s a d) = tail_is d
   tail_is (vector s d) = refl
 
-  dots_are : (ts : List Tree) → dots c.frames (map (with_template c) ts) ≡ take (leading c.frames ts) ts
-  dots_are [] = refl
-  dots_are (t ∷ ts) = go (dots_are ts) (is_ellipsis c.frames t)
+  pub dots_are : (escaped : Bool) (ts : List Tree) → dots_behind c.frames escaped (map (with_template c) ts) ≡ take (dot_count c.frames escaped ts) ts
+  dots_are true [] = refl
+  dots_are true (t ∷ ts) = refl
+  dots_are false [] = refl
+  dots_are false (t ∷ ts) = go (dots_are false ts) (is_ellipsis c.frames t)
     where
-      go : dots c.frames (map (with_template c) ts) ≡ take (leading c.frames ts) ts → (b : Bool)
-          → (if b then t ∷ dots c.frames (map (with_template c) ts) else []) ≡ take (if b then suc (leading c.frames ts) else 0) (t ∷ ts)
+      go : dots c.frames (map (with_template c) ts) ≡ take (dot_count c.frames false ts) ts → (b : Bool)
+          → (if b then t ∷ dots c.frames (map (with_template c) ts) else []) ≡ take (if b then suc (dot_count c.frames false ts) else 0) (t ∷ ts)
       go ih true = ap (λ us. t ∷ us) ih
       go ih false = refl
-
-  pub dots_are_taken : (escaped : Bool) (ts : List Tree) → dots_behind c.frames escaped (map (with_template c) ts) ≡ dots_taken c.frames escaped ts
-  dots_are_taken true ts = refl
-  dots_are_taken false ts = dots_are ts
 
   module _ (escaped : Bool) (under : ℕ) where
     pub made_atom : (e : Atom) (t : Tree) → Opens (opened.Atom e) t → template c t escaped under ≡ Ok (Fixed false t)
@@ -83,7 +69,7 @@ module _ (c : Context) where
 
   by_form : (escaped : Bool) (under : ℕ) (t : Tree) (ts : List Tree) (ends : Bool)
       → list_made c escaped t (map (with_template c) ts) (template c (tail_of t)) under (escape_of c.frames escaped (map (with_template c) ts) ends)
-      ≡ on_form escaped under t ts (escaped_form c.frames escaped ts ends)
+      ≡ on_form escaped under t ts (escaped_form (first_label c.frames ts) escaped ts ends)
   by_form true under t ts ends = refl
   by_form false under t [] ends = refl
   by_form false under t (x ∷ []) ends = refl
@@ -97,7 +83,7 @@ module _ (c : Context) where
   by_form false under t (x ∷ (y ∷ (z ∷ zs))) ends = refl
 
   made_list : (escaped : Bool) (under : ℕ) (t : Tree) → is_pair t ≡ true
-      → template c t escaped under ≡ on_form escaped under t (elements t) (escaped_form c.frames escaped (elements t) (is_nil (tail_of t)))
+      → template c t escaped under ≡ on_form escaped under t (elements t) (escaped_form (first_label c.frames (elements t)) escaped (elements t) (is_nil (tail_of t)))
   made_list escaped under (atom p b) h = absurd (cc)
   made_list escaped under (leaf p y k) h = absurd (cc)
   made_list escaped under (pair p a d) h =
@@ -107,17 +93,28 @@ module _ (c : Context) where
   made_list escaped under (vector p d) h = absurd (cc)
 
   module _ (escaped : Bool) (under : ℕ) (t : Tree) (h : is_pair t ≡ true) where
-    pub list_escaped : (u : Tree) → escaped_form c.frames escaped (elements t) (is_nil (tail_of t)) ≡ Some u
+    pub list_escaped : (u : Tree) → escaped_form (first_label c.frames (elements t)) escaped (elements t) (is_nil (tail_of t)) ≡ Some u
         → template c t escaped under ≡ (template c u true under >>= λ m. Ok (unescaped m))
     list_escaped u e = made_list escaped under t h ∙ ap (on_form escaped under t (elements t)) e
 
-    pub list_plain : escaped_form c.frames escaped (elements t) (is_nil (tail_of t)) ≡ None → template c t escaped under ≡ list_template c t escaped under
+    pub list_plain : escaped_form (first_label c.frames (elements t)) escaped (elements t) (is_nil (tail_of t)) ≡ None → template c t escaped under ≡ list_template c t escaped under
     list_plain e = made_list escaped under t h ∙ ap (on_form escaped under t (elements t)) e
 
-    -- what is at fault in an escaped form is at fault in the whole
-    pub escaped_stops : (u : Tree) (ts : List Tree) (tail : Tree) (ends : Bool) (stop : Stop) → ts ≡ elements t → tail ≡ tail_of t → ends ≡ is_nil tail
-        → Some u ≡ escaped_form c.frames escaped ts ends → Stops stop (template c u true under) → Stops stop (template c t escaped under)
-    escaped_stops u ts tail ends stops.Memory are last ended e k = tt
-    escaped_stops u ts tail ends (stops.Fault f) are last ended e k =
+    -- what an escaped form gives, the whole gives
+    pub escaped_gives : (u : Tree) (first : Option Label) (ts : List Tree) (tail : Tree) (ends : Bool) (m : Made) → first ≡ first_label c.frames ts → ts ≡ elements t → tail ≡ tail_of t
+        → ends ≡ is_nil tail → Some u ≡ escaped_form first escaped ts ends → template c u true under ≡ Ok m → template c t escaped under ≡ Ok (unescaped m)
+    escaped_gives u first ts tail ends m label are last ended e k =
         let nil : is_nil (tail_of t) ≡ ends = ap is_nil (sym last) ∙ sym ended in
-        list_escaped u ((λ i. escaped_form c.frames escaped (sym are i) (nil i)) ∙ sym e) ∙ ap (λ r. r >>= λ m. Ok (unescaped m)) k
+        let by_label : escaped_form (first_label c.frames (elements t)) escaped (elements t) (is_nil (tail_of t)) ≡ escaped_form first escaped ts ends =
+        (λ i. escaped_form (first_label c.frames (sym are i)) escaped (sym are i) (nil i)) ∙ ap (λ o. escaped_form o escaped ts ends) (sym label) in
+        list_escaped u (by_label ∙ sym e) ∙ ap (λ r. r >>= λ n. Ok (unescaped n)) k
+
+    -- what is at fault in an escaped form is at fault in the whole
+    pub escaped_stops : (u : Tree) (first : Option Label) (ts : List Tree) (tail : Tree) (ends : Bool) (stop : Stop) → first ≡ first_label c.frames ts → ts ≡ elements t → tail ≡ tail_of t
+        → ends ≡ is_nil tail → Some u ≡ escaped_form first escaped ts ends → Stops stop (template c u true under) → Stops stop (template c t escaped under)
+    escaped_stops u first ts tail ends stops.Memory label are last ended e k = tt
+    escaped_stops u first ts tail ends (stops.Fault f) label are last ended e k =
+        let nil : is_nil (tail_of t) ≡ ends = ap is_nil (sym last) ∙ sym ended in
+        let by_label : escaped_form (first_label c.frames (elements t)) escaped (elements t) (is_nil (tail_of t)) ≡ escaped_form first escaped ts ends =
+        (λ i. escaped_form (first_label c.frames (sym are i)) escaped (sym are i) (nil i)) ∙ ap (λ o. escaped_form o escaped ts ends) (sym label) in
+        list_escaped u (by_label ∙ sym e) ∙ ap (λ r. r >>= λ m. Ok (unescaped m)) k

@@ -4,6 +4,9 @@ pub mod Sizes
 pub mod Agreed
 pub mod Costs
 pub mod Parts
+pub mod Labels
 pub mod Levels
 pub mod Items
 pub mod Walks
+pub mod Measured
+pub mod Unseen

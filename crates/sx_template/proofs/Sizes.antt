@@ -1,11 +1,12 @@
 -- Parts are smaller than what they are part of.
-use Rattle.std.proofs.Common.{◌≡◌, ℕ, zero, suc, ◌+◌, ◌<◌, List, [], ◌∷◌, length, get_or, None, Some, arith, Bool, true, false}
+use Rattle.std.proofs.Common.{◌≡◌, ℕ, zero, suc, ◌+◌, ◌<◌, List, [], ◌∷◌, length, get_or, Option, None, Some, arith, Bool, true, false}
 use Rattle.sx_tree.specs.Tree.{Tree, chain, nil}
 use Rattle.sx_tree.specs.Measures.{size}
 use Rattle.sx_tree.proofs.MeasureLaws.{size-some}
-use Rattle.sx_frames.specs.Scope.{Scope}
+use Rattle.sx_base.specs.declared.name.Label.{Label}
+use Rattle.sx_core.specs.declared.core_form.CoreForm.TheVariants as form
 use Rattle.sx_shapes.specs.Lists.{elements}
-use Rattle.sx_pattern.specs.Keywords.{is_ellipsis}
+use Rattle.sx_pattern.specs.Keywords.{is_form}
 use Rattle.sx_pattern.proofs.Sizes.{elements_within}
 use Rattle.sx_template.specs.Compile.{escaped_form}
 use Rattle.std.specs.Prelude.{if◌then◌else◌}
@@ -25,17 +26,17 @@ item_smaller (x ∷ is) (suc i) d h = omega (arith, item_smaller is i d (omega a
 first_smaller : (x y : Tree) → size y < size (chain (x ∷ (y ∷ [])) nil)
 first_smaller x y = omega (arith, size-some x)
 
-escaped_below : (fs : Scope) (escaped ends : Bool) (ts : List Tree) (u : Tree) → escaped_form fs escaped ts ends ≡ Some u → size u < size (chain ts nil)
-escaped_below fs true ends ts u h = absurd (cc)
-escaped_below fs false ends [] u h = absurd (cc)
-escaped_below fs false ends (x ∷ []) u h = absurd (cc)
-escaped_below fs false false (x ∷ (y ∷ [])) u h = absurd (cc)
-escaped_below fs false true (x ∷ (y ∷ [])) u h = go (is_ellipsis fs x) h
+escaped_below : (first : Option Label) (escaped ends : Bool) (ts : List Tree) (u : Tree) → escaped_form first escaped ts ends ≡ Some u → size u < size (chain ts nil)
+escaped_below first true ends ts u h = absurd (cc)
+escaped_below first false ends [] u h = absurd (cc)
+escaped_below first false ends (x ∷ []) u h = absurd (cc)
+escaped_below first false false (x ∷ (y ∷ [])) u h = absurd (cc)
+escaped_below first false true (x ∷ (y ∷ [])) u h = go (is_form form.Ellipsis first) h
   where
     go : (b : Bool) → (if b then Some y else None) ≡ Some u → size u < size (chain (x ∷ (y ∷ [])) nil)
     go true e = let f : y ≡ u = cc in rw (← f) (first_smaller x y)
     go false e = absurd (cc)
-escaped_below fs false ends (x ∷ (y ∷ (z ∷ zs))) u h = absurd (cc)
+escaped_below first false ends (x ∷ (y ∷ (z ∷ zs))) u h = absurd (cc)
 
-pub escaped_smaller : (fs : Scope) (escaped ends : Bool) (t u : Tree) → escaped_form fs escaped (elements t) ends ≡ Some u → size u < size t
-escaped_smaller fs escaped ends t u h = omega (arith, escaped_below fs escaped ends (elements t) u h, elements_within t)
+pub escaped_smaller : (first : Option Label) (escaped ends : Bool) (t u : Tree) → escaped_form first escaped (elements t) ends ≡ Some u → size u < size t
+escaped_smaller first escaped ends t u h = omega (arith, escaped_below first escaped ends (elements t) u h, elements_within t)

@@ -1,5 +1,5 @@
 -- The template of a form (libraries report 12.4). What is at fault first is the fault.
-use Rattle.std.specs.Prelude.{◌≡◌, ℕ, zero, suc, ◌+◌, ◌-◌, max, nat_lt, nat_eq, slice_get, Bool, true, false, ◌||◌, List, [], ◌∷◌, ◌++◌, length, take, map, Option, None, Some, Result, Ok, Err, if◌then◌else◌}
+use Rattle.std.specs.Prelude.{◌≡◌, ℕ, zero, suc, ◌+◌, ◌-◌, max, nat_lt, nat_eq, slice_get, Bool, true, false, ◌||◌, List, [], ◌∷◌, ◌++◌, length, map, Option, None, Some, Result, Ok, Err, if◌then◌else◌}
 use Rattle.sx_base.specs.Gives.{◌>>=◌}
 use Rattle.sx_base.specs.declared.fault.Bare.{Bare}
 use Rattle.sx_base.specs.declared.fault.BareStop.{BareStop}
@@ -11,7 +11,7 @@ use Rattle.sx_base.specs.declared.fault.Stop.TheVariants as stop
 use Rattle.sx_base.specs.declared.name.Label.{Label}
 use Rattle.sx_base.specs.declared.span.Span.{Span}
 use Rattle.sx_tree.specs.Tree as tree
-use Rattle.sx_tree.specs.Tree.{Tree, span_of, spanned, list_of, vector_of}
+use Rattle.sx_tree.specs.Tree.{Tree, span_of, spanned, unspanned, list_of, vector_of}
 use Rattle.sx_tree.specs.Measures.{within}
 use Rattle.sx_frames.specs.Scope.{Scope}
 use Rattle.sx_scope.specs.Stands.{stands}
@@ -22,7 +22,7 @@ use Rattle.sx_core.specs.declared.binding.Binding.TheVariants as binding
 use Rattle.sx_core.specs.declared.core_form.CoreForm.TheVariants as form
 use Rattle.sx_shapes.specs.At.{fault_at, place_of}
 use Rattle.sx_shapes.specs.Lists.{is_nil, elements, tail_of}
-use Rattle.sx_pattern.specs.Keywords.{is_form, is_ellipsis, leading}
+use Rattle.sx_pattern.specs.Keywords.{is_form, is_ellipsis}
 use Rattle.sx_template.specs.declared.compile.Made.{Made}
 use Rattle.sx_template.specs.declared.compile.Made.TheVariants.{Fixed, Varied}
 use Rattle.sx_template.specs.declared.compile.MadeItem.{MadeItem}
@@ -76,9 +76,14 @@ dots fs (x ∷ xs) = if is_ellipsis fs x.0 then x.0 ∷ dots fs xs else []
 abbrev pub dots_behind : Scope → Bool → List Element → List Tree
 dots_behind fs escaped xs = if escaped then [] else dots fs xs
 
--- as trees alone
-abbrev pub dots_taken : Scope → Bool → List Tree → List Tree
-dots_taken fs escaped ts = if escaped then [] else take (leading fs ts) ts
+-- as trees alone: how many there are, and what the form behind them stands for
+abbrev pub dot_count : Scope → Bool → List Tree → ℕ
+dot_count fs escaped [] = 0
+dot_count fs escaped (t ∷ ts) = if is_special escaped (stands fs t) then suc (dot_count fs escaped ts) else 0
+
+abbrev pub first_label : Scope → List Tree → Option Label
+first_label fs [] = None
+first_label fs (t ∷ ts) = stands fs t
 
 -- how many ellipses behind it have a variable of depth before them
 abbrev pub reach : Made → ℕ
@@ -112,8 +117,12 @@ walked c escaped under skips items (x ∷ xs) =
 
 -- Lists and vectors.
 
+-- what a template adds has no span, so that a fault there has the place of the use
+abbrev pub constant_of : Tree → PlainTemplate
+constant_of t = constant (unspanned t)
+
 abbrev pub template_of : Made → PlainTemplate
-template_of (Fixed changed t) = constant t
+template_of (Fixed changed t) = constant_of t
 template_of (Varied t r) = t
 
 abbrev pub items_of : List MadeItem → PlainItems
@@ -173,7 +182,7 @@ fixed_list place t items changed tail =
 abbrev pub list_joined : Span → Tree → List MadeItem → Made → Result Made Fault
 list_joined place t items (Varied tail r) = Ok (Varied (list (items_of items) tail) (max (reaches items) r))
 list_joined place t items (Fixed changed tail) =
-    if all_fixed items then fixed_list place t items changed tail else Ok (Varied (list (items_of items) (constant tail)) (reaches items))
+    if all_fixed items then fixed_list place t items changed tail else Ok (Varied (list (items_of items) (constant_of tail)) (reaches items))
 
 abbrev pub fixed_vector : Span → Tree → List MadeItem → Result Made Fault
 fixed_vector place t items = if any_changed items then rebuilt place t (within (vector_of (trees items))) else Ok (Fixed false t)
@@ -232,9 +241,10 @@ with_template c t = (t, template c t)
 abbrev pub forms_walked : Context → Bool → ℕ → List Tree → Result (List MadeItem) Fault
 forms_walked c escaped under ts = walked c escaped under 0 [] (map (with_template c) ts)
 
-abbrev pub escaped_form : Scope → Bool → List Tree → Bool → Option Tree
-escaped_form fs false (t ∷ (u ∷ [])) true = if is_ellipsis fs t then Some u else None
-escaped_form fs escaped ts ends = None
+-- where the first of the forms stands for this
+abbrev pub escaped_form : Option Label → Bool → List Tree → Bool → Option Tree
+escaped_form first false (t ∷ (u ∷ [])) true = if is_form form.Ellipsis first then Some u else None
+escaped_form first escaped ts ends = None
 
 abbrev pub list_template : Context → Tree → Bool → ℕ → Result Made Fault
 list_template c t escaped under =

@@ -3,3 +3,4 @@ pub mod Binds
 pub mod Lengths
 pub mod Instance
 pub mod Cost
+pub mod Measure

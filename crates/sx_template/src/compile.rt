@@ -1,15 +1,16 @@
 //! Templates of forms.
 
-ghost use Rattle.std.specs.Prelude.{◌≡◌, ◌≤◌, ◌++◌, ◌∷◌, [], false, true, length, take, option_map, IfOk, OnOk};
+ghost use Rattle.std.specs.Prelude.{◌≡◌, ◌++◌, ◌∷◌, [], false, true, drop, option_map, IfOk, OnOk};
 ghost use Rattle.sx_base.specs.Gives.{Gives};
 ghost use Rattle.sx_tree.specs.Tree.{is_pair, span_of, spanned, list_of, vector_of};
 ghost use Rattle.sx_tree.specs.Measures.{within};
 ghost use Rattle.sx_core.specs.Template.{list, vector};
 ghost use Rattle.sx_core.specs.TemplateView.{items};
 ghost use Rattle.sx_core.specs.Bindings.{bound_to};
+ghost use Rattle.sx_scope.specs.Stands.{stands};
 ghost use Rattle.sx_shapes.specs.Lists.{tail_of, elements};
 ghost use Rattle.sx_template.specs.declared.compile.Made.TheVariants.{Fixed, Varied};
-ghost use Rattle.sx_template.specs.Compile.{variable_made, bound_made, label_made, is_special, leaf_made, dots_taken, reach, fitted, item_made, step, template_of, items_of, reaches, is_fixed, all_fixed, is_changed, any_changed, tree_before, trees, StopsAt, rebuilt, fixed_list, list_joined, fixed_vector, vector_joined, unescaped, template, with_template, forms_walked, escaped_form, list_template, escaped_template, vector_template, compiled};
+ghost use Rattle.sx_template.specs.Compile.{variable_made, bound_made, label_made, is_special, leaf_made, dot_count, first_label, reach, fitted, item_made, constant_of, template_of, items_of, reaches, is_fixed, all_fixed, is_changed, any_changed, tree_before, trees, StopsAt, rebuilt, fixed_list, list_joined, fixed_vector, vector_joined, unescaped, template, with_template, forms_walked, escaped_form, list_template, escaped_template, vector_template, compiled};
 
 use std::alloc::Global;
 use sx_base::fault::{Bare, BareStop, Fault, FaultKind, Stop};
@@ -19,10 +20,10 @@ use sx_base::name::Label;
 use sx_base::span::Span;
 use sx_base::symbol::Symbol;
 use sx_core::binding::Binding;
-use sx_core::bindings::Bindings;
 use sx_core::core_form::CoreForm;
 use sx_core::template::{Item, Template, TemplateNode};
-use sx_pattern::keywords::{is_ellipsis, is_form, leading};
+use sx_known::known::KnownBindings;
+use sx_pattern::keywords::is_form;
 use sx_scope::scope::Frames;
 use sx_shapes::at::{fault_at, place_of};
 use sx_shapes::lists::{is_nil, parts_of};
@@ -49,19 +50,22 @@ pub(crate) struct MadeItem {
 /// It is `OutOfContext` at a pattern variable of another level, and `BadTemplate` at one under too few
 /// ellipses, at an ellipsis without a variable of depth before it, and at an ellipsis that is the whole
 /// form, stands first or as tail; what comes first is the fault. A list of just an ellipsis and a form
-/// is that form, in which ellipses have no meaning. Whether a variable is in scope isn't looked at.
+/// is that form, in which ellipses have no meaning. Whether a variable is in scope isn't looked at. Parts
+/// without pattern variables lose their spans, so that a fault at one has the place of the use.
 pub fn compile_template(
     alloc: Global,
     form: &Syn,
     place: &Span,
     frames: &Frames,
-    bindings: &Bindings,
+    bindings: &KnownBindings,
     level: u32,
 ) -> Result<Template, Stop>
     ensures { Gives (λ t. t) result (compiled (record { frames = frames.now; bindings = bindings.now; level = level; place = place.now }) form.now) }
 {
-    let made = template(alloc, form, false, 0, place, frames, bindings, level)?;
-    Ok(template_of(made))
+    let label = label_of(form, frames)?;
+    let made = template(alloc, form, label, false, 0, place, frames, bindings, level)?;
+    let template = template_of(alloc, made)?;
+    Ok(template)
 }
 
 fn variable_made(
@@ -74,7 +78,7 @@ fn variable_made(
     depth: u32,
     place: &Span,
     frames: &Frames,
-    bindings: &Bindings,
+    bindings: &KnownBindings,
     level: u32,
 ) -> Result<Made, Stop>
     ensures { Gives (λ m. m) result (variable_made (record { frames = frames.now; bindings = bindings.now; level = level; place = place.now }) under symbol.now form.now label own_level depth) }
@@ -97,7 +101,7 @@ fn label_made(
     label: Option<Label>,
     place: &Span,
     frames: &Frames,
-    bindings: &Bindings,
+    bindings: &KnownBindings,
     level: u32,
 ) -> Result<Made, Stop>
     ensures { Gives (λ m. m) result (label_made (record { frames = frames.now; bindings = bindings.now; level = level; place = place.now }) under symbol.now form.now label) }
@@ -131,20 +135,22 @@ fn is_special(escaped: bool, label: &Option<Label>) -> bool
     is_form(CoreForm::Ellipsis, label)
 }
 
+/// What is made of a leaf that stands for this.
 fn leaf_made(
     alloc: Global,
     form: &Syn,
     symbol: &Symbol,
+    label: Option<Label>,
     escaped: bool,
     under: u64,
     place: &Span,
     frames: &Frames,
-    bindings: &Bindings,
+    bindings: &KnownBindings,
     level: u32,
 ) -> Result<Made, Stop>
+    requires { label ≡ stands frames.now form.now }
     ensures { Gives (λ m. m) result (leaf_made (record { frames = frames.now; bindings = bindings.now; level = level; place = place.now }) escaped symbol.now form.now under) }
 {
-    let label = frames.stands(form)?;
     if is_special(escaped, &label) {
         return Err(fault_at(alloc, FaultKind::BadTemplate, form, place, None));
     }
@@ -153,16 +159,50 @@ fn leaf_made(
     )
 }
 
-/// The ellipses that these forms begin with; in an escaped template there are none.
-#[tactic(auto, using(crate::proofs::Levels::leading_taken))]
-fn dots<'a>(forms: &'a [Syn], escaped: bool, frames: &Frames) -> Result<&'a [Syn], Memory>
-    ensures { IfOk result (λ es. es.now ≡ dots_taken frames.now escaped forms.now) }
+/// The label that a form stands for. What is no leaf stands for none, and isn't opened where its height tells so.
+#[tactic(auto, using(crate::proofs::Labels::high_stands))]
+fn label_of(form: &Syn, frames: &Frames) -> Result<Option<Label>, Memory>
+    ensures { IfOk result (λ l. l ≡ stands frames.now form.now) }
 {
-    if escaped {
-        return Ok(&[]);
+    if form.height() > 1 {
+        return Ok(None);
     }
-    let count = leading(forms, frames)?;
-    Ok(&forms[..count])
+    frames.stands(form)
+}
+
+/// The label that the first form stands for.
+fn first_label(forms: &[Syn], frames: &Frames) -> Result<Option<Label>, Memory>
+    ensures { IfOk result (λ l. l ≡ first_label frames.now forms.now) }
+{
+    match forms.split_first() {
+        None => Ok(None),
+        Some((form, _)) => label_of(form, frames),
+    }
+}
+
+/// The ellipses that forms begin with.
+#[derive(Drop)]
+pub(crate) struct Ellipses {
+    /// How many there are.
+    pub(crate) count: usize,
+    /// The label of the form behind them.
+    pub(crate) next: Option<Label>,
+}
+
+/// The ellipses that these forms begin with; in an escaped template there are none. No form is looked up twice.
+fn ellipses_of(forms: &[Syn], escaped: bool, frames: &Frames) -> Result<Ellipses, Memory>
+    ensures count { IfOk result (λ e. e.count ≡ dot_count frames.now escaped forms.now) }
+    ensures next { IfOk result (λ e. e.next ≡ first_label frames.now (drop (dot_count frames.now escaped forms.now) forms.now)) }
+{
+    let mut count = 0;
+    for form in forms {
+        let label = label_of(form, frames)?;
+        if !is_special(escaped, &label) {
+            return Ok(Ellipses { count, next: label });
+        }
+        count += 1;
+    }
+    Ok(Ellipses { count, next: None })
 }
 
 fn reach(made: &Made) -> u32
@@ -190,14 +230,22 @@ fn fitted(alloc: Global, made: Made, ellipses: &[Syn], place: &Span) -> Result<M
     })
 }
 
-fn template_of(made: Made) -> Template
-    ensures { result ≡ template_of made }
+/// The template of a part that stays as it is, without its spans.
+fn constant_of(alloc: Global, form: &Syn) -> Result<Template, Memory>
+    ensures { IfOk result (λ t. t ≡ constant_of form.now) }
+{
+    let form = form.unspanned(alloc)?;
+    Ok(Template {
+        node: TemplateNode::Constant(form),
+    })
+}
+
+fn template_of(alloc: Global, made: Made) -> Result<Template, Memory>
+    ensures { IfOk result (λ t. t ≡ template_of made) }
 {
     match made {
-        Made::Fixed(_, form) => Template {
-            node: TemplateNode::Constant(form),
-        },
-        Made::Varied(template, _) => template,
+        Made::Fixed(_, form) => constant_of(alloc, &form),
+        Made::Varied(template, _) => Ok(template),
     }
 }
 
@@ -207,7 +255,7 @@ fn items_of(alloc: Global, made: Items<MadeItem>) -> Result<Vec<Item>, Memory>
 {
     let mut list = Vec::new(alloc);
     for MadeItem { made, ellipses } in made.into_vec() {
-        let template = template_of(made);
+        let template = template_of(alloc, made)?;
         list.push(Item { template, ellipses })?;
     }
     Ok(list)
@@ -408,8 +456,8 @@ fn list_joined(
             if all_fixed(items.as_slice()) {
                 return fixed_list(alloc, form, place, items, changed, tail);
             }
-            let node = TemplateNode::Constant(tail);
-            let made = varied_list(alloc, items, Template { node }, reach)?;
+            let tail = constant_of(alloc, &tail)?;
+            let made = varied_list(alloc, items, tail, reach)?;
             Ok(made)
         }
     }
@@ -442,40 +490,42 @@ fn unescaped(made: Made) -> Made
     }
 }
 
-/// The form that an ellipsis before it escapes, in a list of just these two.
+/// The form that an ellipsis before it escapes, in a list of just these two, of which the first stands for this.
 fn escaped_form<'a>(
     forms: &'a [Syn],
+    first: &Option<Label>,
     escaped: bool,
     ends: bool,
-    frames: &Frames,
-) -> Result<Option<&'a Syn>, Memory>
-    ensures { IfOk result (λ f. option_map (λ t. t.now) f ≡ escaped_form frames.now escaped forms.now ends) }
+) -> Option<&'a Syn>
+    ensures { option_map (λ t. t.now) result ≡ escaped_form first.now escaped forms.now ends }
 {
     if escaped || !ends {
-        return Ok(None);
+        return None;
     }
-    let [first, second] = forms else {
-        return Ok(None);
+    let [_, second] = forms else {
+        return None;
     };
-    if is_ellipsis(first, frames)? {
-        Ok(Some(second))
+    if is_form(CoreForm::Ellipsis, first) {
+        Some(second)
     } else {
-        Ok(None)
+        None
     }
 }
 
-/// What is made of a form, round which so many ellipses stand.
+/// What is made of a form that stands for this, round which so many ellipses stand.
 #[cycle(template)]
 fn template(
     alloc: Global,
     form: &Syn,
+    label: Option<Label>,
     escaped: bool,
     under: u64,
     place: &Span,
     frames: &Frames,
-    bindings: &Bindings,
+    bindings: &KnownBindings,
     level: u32,
 ) -> Result<Made, Stop>
+    requires { label ≡ stands frames.now form.now }
     ensures { Gives (λ m. m) result (template (record { frames = frames.now; bindings = bindings.now; level = level; place = place.now }) form.now escaped under) }
 {
     match form.open(alloc)? {
@@ -484,7 +534,7 @@ fn template(
             Ok(Made::Fixed(false, form))
         }
         Opened::Symbol(symbol) => leaf_made(
-            alloc, form, &symbol, escaped, under, place, frames, bindings, level,
+            alloc, form, &symbol, label, escaped, under, place, frames, bindings, level,
         ),
         Opened::Pair(_, _) => {
             list_template(alloc, form, escaped, under, place, frames, bindings, level)
@@ -504,12 +554,15 @@ fn vector_template(
     under: u64,
     place: &Span,
     frames: &Frames,
-    bindings: &Bindings,
+    bindings: &KnownBindings,
     level: u32,
 ) -> Result<Made, Stop>
     ensures { Gives (λ m. m) result (vector_template (record { frames = frames.now; bindings = bindings.now; level = level; place = place.now }) form.now forms.now escaped under) }
 {
-    let items = elements(alloc, forms, escaped, under, place, frames, bindings, level)?;
+    let first = first_label(forms, frames)?;
+    let items = elements(
+        alloc, forms, first, escaped, under, place, frames, bindings, level,
+    )?;
     vector_joined(alloc, form, place, items)
 }
 
@@ -522,7 +575,7 @@ fn list_template(
     under: u64,
     place: &Span,
     frames: &Frames,
-    bindings: &Bindings,
+    bindings: &KnownBindings,
     level: u32,
 ) -> Result<Made, Stop>
     requires { is_pair form.now ≡ true }
@@ -530,13 +583,18 @@ fn list_template(
 {
     let parts = parts_of(alloc, form)?;
     let ends = is_nil(alloc, &parts.tail)?;
-    if let Some(inner) = escaped_form(parts.elements.as_slice(), escaped, ends, frames)? {
-        let made = template(alloc, inner, true, under, place, frames, bindings, level)?;
+    let first = first_label(parts.elements.as_slice(), frames)?;
+    if let Some(inner) = escaped_form(parts.elements.as_slice(), &first, escaped, ends) {
+        let label = label_of(inner, frames)?;
+        let made = template(
+            alloc, inner, label, true, under, place, frames, bindings, level,
+        )?;
         return Ok(unescaped(made));
     }
     let items = elements(
         alloc,
         parts.elements.as_slice(),
+        first,
         escaped,
         under,
         place,
@@ -544,9 +602,11 @@ fn list_template(
         bindings,
         level,
     )?;
+    let last = label_of(&parts.tail, frames)?;
     let tail = template(
         alloc,
         &parts.tail,
+        last,
         escaped,
         under,
         place,
@@ -557,61 +617,61 @@ fn list_template(
     list_joined(alloc, form, place, items, tail)
 }
 
-/// What is made of the elements of a list or vector.
+/// What is made of the elements of a list or vector, of which the first stands for this.
 #[cycle(template)]
 #[tactic(auto, using(crate::proofs::Walks::forms_on, crate::proofs::Walks::forms_stop))]
 fn elements(
     alloc: Global,
     forms: &[Syn],
+    first: Option<Label>,
     escaped: bool,
     under: u64,
     place: &Span,
     frames: &Frames,
-    bindings: &Bindings,
+    bindings: &KnownBindings,
     level: u32,
 ) -> Result<Items<MadeItem>, Stop>
+    requires { first ≡ first_label frames.now forms.now }
     ensures { Gives (λ is. is) result (forms_walked (record { frames = frames.now; bindings = bindings.now; level = level; place = place.now }) escaped under forms.now) }
 {
     let mut items = Items::new(alloc);
-    let mut skips = 0;
+    let mut label = first;
     let mut left = forms;
     while let Some((form, behind)) = left.split_first() {
-        let ellipses = dots(behind, escaped, frames)?;
-        skips = step(
-            alloc, skips, form, ellipses, &mut items, escaped, under, place, frames, bindings,
-            level,
+        let Ellipses { count, next } = ellipses_of(behind, escaped, frames)?;
+        let (ellipses, after) = behind.split_at(count);
+        let made = item(
+            alloc, form, label, ellipses, escaped, under, place, frames, bindings, level,
         )?;
-        left = behind;
+        items.push(made)?;
+        label = next;
+        left = after;
     }
     Ok(items)
 }
 
-/// Adds what is made of an element with the ellipses behind it, or skips an ellipsis that was taken with
-/// an element before. It gives how many of the next elements are to be skipped.
+/// What is made of an element that stands for this, with the ellipses behind it.
 #[cycle(template)]
-fn step(
+fn item(
     alloc: Global,
-    skips: usize,
     form: &Syn,
+    label: Option<Label>,
     ellipses: &[Syn],
-    items: &mut Items<MadeItem>,
     escaped: bool,
     under: u64,
     place: &Span,
     frames: &Frames,
-    bindings: &Bindings,
+    bindings: &KnownBindings,
     level: u32,
-) -> Result<usize, Stop>
-    ensures { Gives (λ n. (n, items.new)) result (step (record { frames = frames.now; bindings = bindings.now; level = level; place = place.now }) escaped under skips (with_template (record { frames = frames.now; bindings = bindings.now; level = level; place = place.now }) form.now) ellipses.now items.old) }
+) -> Result<MadeItem, Stop>
+    requires { label ≡ stands frames.now form.now }
+    ensures { Gives (λ i. i) result (item_made (record { frames = frames.now; bindings = bindings.now; level = level; place = place.now }) escaped under (with_template (record { frames = frames.now; bindings = bindings.now; level = level; place = place.now }) form.now) ellipses.now) }
 {
-    if let Some(left) = skips.checked_sub(1) {
-        return Ok(left);
-    }
     let Some(inner) = under.checked_add(ellipses.len() as u64) else {
         return Err(Stop::Memory);
     };
-    let made = template(alloc, form, escaped, inner, place, frames, bindings, level)?;
-    let item = fitted(alloc, made, ellipses, place)?;
-    items.push(item)?;
-    Ok(ellipses.len())
+    let made = template(
+        alloc, form, label, escaped, inner, place, frames, bindings, level,
+    )?;
+    fitted(alloc, made, ellipses, place)
 }

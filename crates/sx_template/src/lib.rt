@@ -20,7 +20,7 @@
 //! the first two lengths under one ellipsis that differ, found before any part of it is built; and the
 //! cells that were there stay as they were. Only want of memory is free.
 //!
-//! A part without pattern variables stays a syntax tree; all others are made in the store. Templates are
+//! A part without pattern variables stays a syntax tree, without spans; all others are made in the store. Templates are
 //! the type of sx_core, values and cells those of sx_value. The evaluator stands on this crate, and the
 //! expander, which looks at the scope of variables itself.
 #![tactic(auto)]
@@ -30,3 +30,4 @@ pub mod compile;
 pub mod cost;
 pub mod instance;
 pub mod lengths;
+pub mod measure;

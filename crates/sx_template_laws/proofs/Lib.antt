@@ -4,3 +4,4 @@ pub mod Renamed
 pub mod Columns
 pub mod Alikes
 pub mod Comes
+pub mod Measuring

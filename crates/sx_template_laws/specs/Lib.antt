@@ -1,3 +1,4 @@
 pub mod Ready
 pub mod Renaming
 pub mod Repeating
+pub mod Measuring

@@ -12,7 +12,9 @@ ghost use Rattle.sx_pattern.specs.Matched.{matched, nothing};
 ghost use Rattle.sx_pattern.specs.declared.columns.Found.{Found};
 ghost use Rattle.sx_template.specs.Binds.{Binds, Absent};
 ghost use Rattle.sx_template.specs.Instance.{instance};
+ghost use Rattle.sx_template.specs.Measure.{measure};
 ghost use Rattle.sx_match_laws.specs.Renaming.{renamed_value, renamed_row, renamed_cell};
+ghost use Rattle.sx_template_laws.specs.Measuring.{Tells};
 ghost use Rattle.sx_template_laws.specs.Ready.{Ready};
 ghost use Rattle.sx_template_laws.specs.Repeating.{variables, Distinct, IsRepeat, GivesBack};
 ghost use Rattle.sx_template_laws.specs.Renaming.{renamed_template, renamed_absent, renamed_made};
@@ -36,4 +38,10 @@ pub fn a_repeated_pattern_gives_back_what_it_took()
     ensures { (a : Absent) (fs : Scope) (cells : List Cell) → Whole cells → (p : PlainPattern) (v : Value) → FitsIn cells v → (f : Found) →
         matched fs cells p v (nothing 0) ≡ Some f → (t : PlainTemplate) → IsRepeat 0 p t → Distinct (variables p) →
         GivesBack fs cells v cells (instance a f.binds t [] cells) }
+{}
+
+/// What is measured before an instance is made is what the cells of the instance cost, or the fault that it
+/// has.
+pub fn what_is_measured_is_what_it_costs()
+    ensures { (a : Absent) (binds : Binds) (t : PlainTemplate) (cells : List Cell) → Tells cells (measure a binds t []) (instance a binds t [] cells) }
 {}

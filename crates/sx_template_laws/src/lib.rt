@@ -11,6 +11,9 @@
 //! new ones of the store, whether or not the value was a syntax tree; what variables took is the value
 //! itself. `specs/Repeating` says what it is to be the same data.
 //!
+//! An instance is measured before it is made. What is measured is what the cells cost that it then adds, and
+//! where lengths differ both give the same fault.
+//!
 //! Nothing runs here, and no program stands on this crate.
 #![tactic(auto)]
 

@@ -19,11 +19,10 @@ use Rattle.sx_value.specs.declared.value.Value.TheVariants as value
 use Rattle.sx_value.specs.declared.cell.Cell.{Cell}
 use Rattle.sx_value.specs.declared.cell.Cell.TheVariants as cell
 use Rattle.sx_template.specs.Binds.{unbound, looked_up, listed, turn_of, through, innermost, reached, value_of}
-use Rattle.sx_template.specs.Cost as template_cost
 use Rattle.sx_template.specs.Instance as instances
 use Rattle.sx_template.specs.Lengths.{agree, or_none}
 use Rattle.sx_prims_laws.proofs.Taken.{each_and}
-use Rattle.sx_eval.specs.Instances.{Binds, with_bind, gathered, gathered_items, instance_of, instance_paid, instance_with, instanced}
+use Rattle.sx_eval.specs.Instances.{Binds, with_bind, gathered, gathered_items, instance_of, cost_of, instance_made, instance_paid, instance_with, instanced}
 use Rattle.sx_eval.specs.Setting.{PlainSetting}
 use Rattle.sx_eval.specs.State.{State, done, store}
 use Rattle.sx_eval.specs.Variables.{bind_in, parent_in, upwards, here_or_up, bind_found}
@@ -34,7 +33,7 @@ use Rattle.sx_whole_laws.specs.WholeWorld.{ValueReady, ValuesReady, BindReady, B
 use Rattle.sx_whole_laws.proofs.Growth.{grows_refl, grows_then}
 use Rattle.sx_whole_laws.proofs.Made.{vector_good}
 use Rattle.sx_whole_laws.proofs.Steady.{binds_still, values_still}
-use Rattle.sx_whole_laws.proofs.Wells.{well_later, well_charged}
+use Rattle.sx_whole_laws.proofs.Wells.{well_charged}
 use Rattle.sx_whole_laws.proofs.Worlds.{Stored, pairs_good}
 
 -- the binds of variables are ready
@@ -220,16 +219,17 @@ module _ (w : PlainSetting) (bs : Binds) where
         (item_given (instances.instance unbound bs t) (instances.counts unbound bs t) (instance_given t) ellipses turns xs cells world b r)
         (λ ys after g whole k. parts_given is turns ys after whole (binds_still w cells after g bs b) k)
 
-well_paid : (w : PlainSetting) (s : State) (n : ℕ) (r : Result (Value × List Cell) Bare) → WholeWorld w s.cells → Given w (ValueReady w) s.cells r → EndsWell w s.cells (instance_paid s n r)
-well_paid w s n (Ok p) world h =
-    let cost = template_cost.cost (drop (length s.cells) p.1) in
-    let after = store p.1 s.names in
-    well_later w s.cells p.1 (instance_paid s n (Ok p)) h.0 (well_charged w cost after n (done p.0 after) h.1.0 (λ m e. (grows_refl p.1, h.1)))
-well_paid w s n (Err f) world h = (grows_refl s.cells, world)
+well_made : (w : PlainSetting) (s : State) (r : Result (Value × List Cell) Bare) → WholeWorld w s.cells → Given w (ValueReady w) s.cells r → (n : ℕ) → EndsWell w s.cells (instance_made s r n)
+well_made w s (Ok p) world h n = h
+well_made w s (Err f) world h n = (grows_refl s.cells, world)
+
+well_paid : (w : PlainSetting) (s : State) (n : ℕ) (r : Result (Value × List Cell) Bare) (c : Result ℕ Bare) → WholeWorld w s.cells → Given w (ValueReady w) s.cells r → EndsWell w s.cells (instance_paid s n r c)
+well_paid w s n r (Ok cost) world h = well_charged w cost s n (instance_made s r) world (λ m e. well_made w s r world h m)
+well_paid w s n r (Err f) world h = (grows_refl s.cells, world)
 
 well_with : (w : PlainSetting) (t : PlainTemplate) (s : State) (n : ℕ) (o : Option Binds) → WholeWorld w s.cells → GatherReady w s.cells o → EndsWell w s.cells (instance_with t s n o)
 well_with w t s n None world h = absurd h
-well_with w t s n (Some bs) world h = well_paid w s n (instance_of bs t s.cells) world (instance_given w bs t [] s.cells world h)
+well_with w t s n (Some bs) world h = well_paid w s n (instance_of bs t s.cells) (cost_of bs t) world (instance_given w bs t [] s.cells world h)
 
 pub well_instance : (w : PlainSetting) (t : PlainTemplate) (scope : Place) (s : State) (n : ℕ) → WholeWorld w s.cells → FindsAll (BoundFrom s.cells (Some scope)) t → EndsWell w s.cells (instanced t scope s n)
 unfolding instanced

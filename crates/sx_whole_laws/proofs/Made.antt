@@ -11,6 +11,7 @@ use Rattle.sx_value.specs.declared.value.Value.TheVariants as value
 use Rattle.sx_value.specs.declared.cell.Cell.{Cell}
 use Rattle.sx_value.specs.declared.cell.Cell.TheVariants as cell
 use Rattle.sx_value.proofs.Wholes.{lies_here, all_lie_here, added_found}
+use Rattle.sx_prims.specs.Copied.{datum_in}
 use Rattle.sx_prims.specs.Answers.{Answer}
 use Rattle.sx_prims.specs.Cost.{cost}
 use Rattle.sx_prims.specs.Delta.{delta}
@@ -126,7 +127,7 @@ performed_good w (made_by.List xs x) name cells world r = pairs_good w xs x cell
 performed_good w (made_by.Vector xs) name cells world r = vector_good w cells xs world r
 performed_good w (made_by.Text text) name cells world r = string_good w cells text world
 performed_good w (made_by.Transformer x) name cells world r = transformer_good w cells x world r
-performed_good w (made_by.Datum d) name cells world r = stored_good w d cells world
+performed_good w (made_by.Datum x) name cells world r = stored_good w (datum_in cells x) cells world
 performed_good w (made_by.Temporaries n) name cells world r =
     pairs_good w (temporaries n name) (value.Atom a.Nil) cells world (temporaries_ready w cells n name) (record { fits = tt; ready = tt })
 
