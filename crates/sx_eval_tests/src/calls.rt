@@ -1,5 +1,6 @@
-/// Calls of primitives and of `apply`. A cost is taken before the number and kinds of arguments are looked at.
-pub const CALLS: [&[u8]; 85] = [
+/// Calls of primitives and of `apply`. A cost is taken before the kinds of arguments are looked at; a wrong number of
+/// them costs nothing.
+pub const CALLS: [&[u8]; 86] = [
     b"(+ 1 2 3) 10 6 4",
     br#"(car '()) 3 PrimFault ("car")"#,
     b"(car '()) 2 FuelSpent ()",
@@ -53,6 +54,7 @@ pub const CALLS: [&[u8]; 85] = [
     br#"(car '(1) 2) 5 Arity ("2")"#,
     b"(car '(1) 2) 4 FuelSpent ()",
     br#"(cons 1) 3 Arity ("1")"#,
+    br#"(substring "abc") 6 Arity ("1")"#,
     b"(- 5) 3 -5 0",
     b"(div 7 2) 4 3 0",
     br#"(div 1 0) 4 PrimFault ("div")"#,

@@ -1,6 +1,6 @@
 /// `syntax` and `syntax-case`. In these rows `?a` is a pattern variable, `??a` one under an ellipsis, `???a` one
 /// under two, and every other identifier of a pattern is a literal.
-pub const SYNTAX: [&[u8]; 70] = [
+pub const SYNTAX: [&[u8]; 71] = [
     b"#'x 1 (syntax x) 0",
     b"#'(a b) 1 (syntax (a b)) 0",
     b"(syntax-case 5 () (_ 1)) 4 1 0",
@@ -30,6 +30,7 @@ pub const SYNTAX: [&[u8]; 70] = [
     b"(syntax-case #'(of 1) () ((if ?a) 1) (_ 2)) 5 2 0",
     b"(syntax-case '(if 1) () ((if ?a) 1) (_ 2)) 7 2 0",
     br#"(syntax-case '((1 2) (3 4 5)) () (((??a ...) (??b ...)) #'((??a ??b) ...))) 16 EllipsisLength ("2" "3")"#,
+    br#"(syntax-case '((1 2) (3 4 5)) () (((??a ...) (??b ...)) #'((??b ...) (??a ??b) ...))) 16 EllipsisLength ("2" "3")"#,
     b"(syntax-case '((1 2) (3 4 5)) () (((??a ...) (??b ...)) #'((??a ??b) ...))) 15 FuelSpent ()",
     b"(syntax-case '((1 2) (3 4)) () (((??a ...) (??b ...)) #'((??a ??b) ...))) 20 ((1 3) (2 4)) 0",
     b"(syntax-case '((1 2) (3)) () (((???a ...) ...) #'(???a ... ...))) 17 (1 2 3) 0",
@@ -70,5 +71,5 @@ pub const SYNTAX: [&[u8]; 70] = [
     b"(letrec ((nest (lambda (n x) (if (zero? n) x (nest (- n 1) (list x)))))) (datum->syntax #'k (nest 1000 '()))) 16015 TooDeep ()",
     b"(letrec ((nest (lambda (n x) (if (zero? n) x (nest (- n 1) (list x)))))) (datum->syntax #'k (nest 1000 '()))) 16014 FuelSpent ()",
     b"(letrec ((nest (lambda (n x) (if (zero? n) x (nest (- n 1) (list x)))))) (pair? (syntax->datum (nest 999 '())))) 16000 #t 0",
-    b"(letrec ((nest (lambda (n x) (if (zero? n) x (nest (- n 1) (list x)))))) (syntax->datum (nest 1000 '()))) 16014 TooDeep ()",
+    b"(letrec ((nest (lambda (n x) (if (zero? n) x (nest (- n 1) (list x)))))) (pair? (syntax->datum (nest 1000 '())))) 16016 #t 0",
 ];

@@ -317,13 +317,15 @@ fn syntax_costs_what_it_says(rt: HostRuntime) -> Result<(), Fail> {
     check(&rt, rt.alloc(), &SYNTAX)
 }
 
-/// A loop that spends all fuel, a recursion that ends by fuel and not with the stack, and a list of a
-/// million cells that is built and added up.
-const LONG: [&[u8]; 4] = [
+/// A loop that spends all fuel, a recursion that ends by fuel and not with the stack, a list of a million cells
+/// that is built and added up, an instance of 400 million pairs that isn't made, and a datum of 100,000 levels.
+const LONG: [&[u8]; 6] = [
     b"(letrec ((loop (lambda (n) (if (zero? n) #'1 (loop (- n 1)))))) (loop 399999)) 4000000 (syntax 1) 0",
     b"(letrec ((loop (lambda (n) (if (zero? n) #'1 (loop (- n 1)))))) (loop 400000)) 4000000 FuelSpent ()",
     b"(letrec ((f (lambda (n) (+ 1 (f n))))) (f 0)) 4000000 FuelSpent ()",
     b"(letrec ((count (lambda (n acc) (if (zero? n) acc (count (- n 1) (cons n acc))))) (total (lambda (l acc) (if (null? l) acc (total (cdr l) (+ acc (car l))))))) (total (count 1000000 '()) 0)) 29000020 500000500000 0",
+    b"(letrec ((count (lambda (n acc) (if (zero? n) acc (count (- n 1) (cons n acc)))))) (syntax-case (count 20000 '()) () ((??a ...) #'((??a (??a ...)) ...)))) 4000000 FuelSpent ()",
+    b"(letrec ((nest (lambda (n x) (if (zero? n) x (nest (- n 1) (list x)))))) (pair? (syntax->datum (nest 100000 '())))) 1600016 #t 0",
 ];
 
 fn check_long(

@@ -9,3 +9,5 @@ pub mod Names
 pub mod Placed
 pub mod Called
 pub mod Waiting
+pub mod Readable
+pub mod Copies

@@ -19,3 +19,4 @@ pub mod Cost
 pub mod Delta
 pub mod Table
 pub mod AnswerSet
+pub mod Copied

@@ -13,6 +13,7 @@
 #![tactic(auto)]
 
 pub mod chains;
+pub mod copied;
 pub mod cost;
 pub mod fault;
 pub mod laws;

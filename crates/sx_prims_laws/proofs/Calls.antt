@@ -5,7 +5,6 @@ use Rattle.sx_base.specs.declared.atom.Atom.TheVariants as a
 use Rattle.sx_base.specs.declared.fault.Bare.{Bare}
 use Rattle.sx_tree.specs.Tree.{Tree}
 use Rattle.sx_frames.specs.Scope.{Scope}
-use Rattle.sx_value.specs.ToSyntax.{Reading, to_syntax}
 use Rattle.sx_value.specs.Cells.{Each, FitsIn, Lies, CellLies, Whole}
 use Rattle.sx_value.specs.declared.value.Value.{Value}
 use Rattle.sx_value.specs.declared.value.Value.TheVariants as value
@@ -21,6 +20,7 @@ use Rattle.sx_prims.specs.Chains.{pair_of, list_elements, tail_after}
 use Rattle.sx_prims.specs.Characters as characters
 use Rattle.sx_prims.specs.Characters.{character_made}
 use Rattle.sx_prims.specs.Data as data_of
+use Rattle.sx_prims.specs.Copied.{is_syntax}
 use Rattle.sx_prims.specs.Data.{datum_answer, syntax_answer}
 use Rattle.sx_prims.specs.Delta.{row_answer, answer_by, delta}
 use Rattle.sx_prims.specs.Each.{if_some, all_of, all_are, each_next, place_from, without, before_last, last_of}
@@ -229,19 +229,15 @@ module _ (P : Value → Type 0) (cells : List Cell) (holds : HoldsIn P cells) wh
 
   -- Data and trees.
 
-  stripped_ok : (op : ℕ) (r : Reading Tree) → AnswerOr (data_of.stripped op r)
-  stripped_ok op (Ok p) = tt
-  stripped_ok op (Err f) = tt
+  answer_if : (t : Bool) (a b : Answer) → AnswerOr a → AnswerOr b → AnswerOr (if t then a else b)
+  answer_if true a b h k = h
+  answer_if false a b h k = k
 
   datum_ok : (op : ℕ) (args : List Value) → AnswerOr (datum_answer op args cells)
   unfolding datum_answer
   datum_ok op [] = tt
-  datum_ok op (x ∷ []) = stripped_ok op (to_syntax cells x (2 ^ 64 - 1))
+  datum_ok op (x ∷ []) = answer_if (is_syntax cells x) (Ok (made.Datum x)) (Err (refused op)) tt tt
   datum_ok op (x ∷ y ∷ args) = tt
-
-  answer_if : (t : Bool) (a b : Answer) → AnswerOr a → AnswerOr b → AnswerOr (if t then a else b)
-  answer_if true a b h k = h
-  answer_if false a b h k = k
 
   tree_ok : (op : ℕ) (x : Value) (o : Option Tree) → AnswerOr (data_of.tree_by op cells x o)
   tree_ok op x None = tt
