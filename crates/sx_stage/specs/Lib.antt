@@ -1,0 +1,5 @@
+pub mod Libraries
+pub mod Stage
+pub mod Running
+pub mod Transformers
+pub mod Uses

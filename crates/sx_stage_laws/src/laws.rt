@@ -1,0 +1,33 @@
+//! Laws of the stage. Each function here computes nothing: what it promises is the law.
+
+ghost use Rattle.sx_stage_laws.specs.Grows.{BeginGrows, FinishGrows, ValueGrows, VariableGrows, UseGrows};
+ghost use Rattle.sx_stage_laws.specs.Uses.{UsesDropCells, KeptUsesOnlyCount};
+ghost use Rattle.sx_stage_laws.specs.Reached.{WantedAreReached, ReachedAreWanted, EvaluatedInOrder, StaysClosed, ReachedAreEvaluated};
+
+/// The cells after a use are those with which the transformer was called. Where it was kept before, nothing
+/// changes but the names that are taken and the fuel that is spent.
+pub fn uses_drop_their_cells()
+    ensures cells { UsesDropCells }
+    ensures kept { KeptUsesOnlyCount }
+{}
+
+/// No call forgets a cell that it found, a library that was evaluated or a transformer that was kept, or gives
+/// a name free. A keyword begins and is finished before it is kept.
+pub fn nothing_is_forgotten()
+    ensures begins { BeginGrows }
+    ensures finishes { FinishGrows }
+    ensures asks { ValueGrows }
+    ensures asks_variable { VariableGrows }
+    ensures uses { UseGrows }
+{}
+
+/// The libraries that are wanted for an expression are those to which a chain of references leads. They are
+/// evaluated in the order of loading, unless the first links of all chains were. So each record that a chain
+/// reaches is evaluated then, if what was evaluated was closed under references, and it is closed afterwards.
+pub fn libraries_on_demand()
+    ensures reached { WantedAreReached }
+    ensures wanted { ReachedAreWanted }
+    ensures in_order { EvaluatedInOrder }
+    ensures closed { StaysClosed }
+    ensures all { ReachedAreEvaluated }
+{}
