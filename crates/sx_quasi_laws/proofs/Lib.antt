@@ -1,0 +1,7 @@
+pub mod Puts
+pub mod Tails
+pub mod Means
+pub mod Quiets
+pub mod Forms
+pub mod InsertQuiets
+pub mod Numbers

@@ -1,0 +1,4 @@
+pub mod Makes
+pub mod Filled
+pub mod Quiet
+pub mod Numbered
