@@ -1,10 +1,10 @@
 -- Import sets as finite maps.
 use Rattle.std.proofs.Common.{◌≡◌, ◌∙◌, sym, ap, true≢false, ℕ, cond, append_assoc, subst}
 use Rattle.std.proofs.lemmas.List.{append-nil}
-use Rattle.std.specs.Prelude.{Bool, true, false, List, [], ◌∷◌, ◌++◌, ◌&&◌, Option, None, Some, Result, Ok, Err, is_some, nat_eq, refl, filter, not, if◌then◌else◌}
+use Rattle.std.specs.Prelude.{Bool, true, false, List, [], ◌∷◌, ◌++◌, ◌&&◌, Option, None, Some, Result, Ok, Err, is_some, refl, filter, not, if◌then◌else◌}
 use Rattle.std.specs.Cmp.{unsigned_Decides}
 use Rattle.sx_base.specs.Gives.{◌>>=◌}
-use Rattle.sx_base.specs.Same.{texts_decides, same_name, same_name_cases}
+use Rattle.sx_base.specs.Same.{texts_decides, same_name_cases}
 use Rattle.sx_base.specs.declared.fault.Fault.{Fault}
 use Rattle.sx_base.specs.declared.name.Label.{Label}
 use Rattle.sx_base.specs.declared.span.Span.{Span}
@@ -14,10 +14,10 @@ use Rattle.sx_import.specs.Table.{same_text, value_of}
 use Rattle.sx_import.specs.Turns.{turns}
 use Rattle.sx_import.specs.declared.set.NameAt.{NameAt}
 
-same_of : (a b : List ℕ) → same_text a b ≡ true → a ≡ b
+pub same_of : (a b : List ℕ) → same_text a b ≡ true → a ≡ b
 same_of a b h = (texts_decides a b).0 h
 
-same_self : (a : List ℕ) → same_text a a ≡ true
+pub same_self : (a : List ℕ) → same_text a a ≡ true
 same_self a = (texts_decides a a).1 refl
 
 -- names that pass a test
@@ -75,7 +75,7 @@ or_else-assoc : {A : Type 0} (a b c : Option A) → or_else (or_else a b) c ≡ 
 or_else-assoc None b c = refl
 or_else-assoc (Some a) b c = refl
 
-value-append : {V : Type 0} (n : List ℕ) (es fs : List (List ℕ × V)) → value_of n (es ++ fs) ≡ or_else (value_of n es) (value_of n fs)
+pub value-append : {V : Type 0} (n : List ℕ) (es fs : List (List ℕ × V)) → value_of n (es ++ fs) ≡ or_else (value_of n es) (value_of n fs)
 value-append n [] fs = refl
 value-append {V} n (e ∷ es) fs = by (same_text n e.0) (value-append n es fs)
   where
@@ -99,7 +99,7 @@ added n all e es =
     ∙ ap (or_else (value_of n all)) (sym (value-append n (e ∷ []) es))
 
 -- a value and a fault are two things
-no_value : {A : Type 0} (f : Fault) (a : A) → ◌≡◌ {A = Result A Fault} (Err f) (Ok a) → ⊥
+pub no_value : {A : Type 0} (f : Fault) (a : A) → ◌≡◌ {A = Result A Fault} (Err f) (Ok a) → ⊥
 no_value f a h = cc
 
 no_fault : {A : Type 0} (f : Fault) (a : A) → ◌≡◌ {A = Result A Fault} (Ok a) (Err f) → ⊥
@@ -108,7 +108,7 @@ no_fault f a h = cc
 same_fault : {A : Type 0} (f g : Fault) → ◌≡◌ {A = Result A Fault} (Err f) (Err g) → f ≡ g
 same_fault f g h = cc
 
-same_value : {A : Type 0} (a b : A) → ◌≡◌ {A = Result A Fault} (Ok a) (Ok b) → a ≡ b
+pub same_value : {A : Type 0} (a b : A) → ◌≡◌ {A = Result A Fault} (Ok a) (Ok b) → a ≡ b
 same_value a b h = cc
 
 -- what one step of joining is

@@ -1,1 +1,3 @@
 pub mod AlgebraLemmas
+pub mod VersionLemmas
+pub mod RenameLemmas

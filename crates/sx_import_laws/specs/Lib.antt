@@ -1,1 +1,3 @@
 pub mod Algebra
+pub mod Versions
+pub mod Renames

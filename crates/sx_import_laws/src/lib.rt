@@ -1,4 +1,4 @@
-//! What import sets do, seen as finite maps from names to labels (R6RS 7.1).
+//! What import sets do, seen as finite maps from names to labels, and which versions they take (R6RS 7.1).
 //!
 //! `(rename (only (m) a b) (a c))` takes from the names of `(m)` those that are `a` or `b`, and then the
 //! label of `a` stands under `c`. The definition goes along lists, in the order of the names; here it is
@@ -6,7 +6,8 @@
 //!
 //! The promise: `only` and `except` select names, `prefix` moves each name, after a `rename` each name of
 //! the set stands for its label under its new name, and the names of two sets join to the union of both,
-//! refused exactly where a name would stand for two labels.
+//! refused exactly where a name would stand for two labels. An import set gives each name once. A version
+//! reference fits by what its parts fit.
 //!
 //! Here are no calls to make: each function stands for the laws that it ensures.
 #![tactic(auto)]
@@ -15,6 +16,8 @@ ghost use Rattle.std.specs.Prelude.{◌≡◌, ◌++◌, ℕ, List, [], None, Ok
 ghost use Rattle.sx_base.specs.declared.fault.Fault.{Fault};
 ghost use Rattle.sx_base.specs.declared.span.Span.{Span};
 ghost use Rattle.sx_import_laws.specs.Algebra.{or_else, IsOnce, Has, Conflicts};
+ghost use Rattle.sx_import_laws.specs.Renames.{PrefixMovesEachInPlace, PrefixLeavesNoneWithout, PrefixKeepsNamesOnce, RenameGivesEachOnce, RenameKeepsLabels, RenameKeepsOrder, RenameKeepsLabelsApart, RenameIsOneToOne, ImportsGiveEachOnce};
+ghost use Rattle.sx_import_laws.specs.Versions.{VersionsMakeNoReference, AndFitsWhereAllDo, OrFitsWhereOneDoes, NotFitsWhereItsPartDoesNot, ListFitsByPlaces, NumbersMakeNoPart, NumberFitsItself, SignsCompare, AndFitsNumbers, OrFitsNumbers, NotFitsNumbers};
 ghost use Rattle.sx_import.specs.Names.{Labelled, only, except, prefixed, renamed, is_among, joined};
 ghost use Rattle.sx_import.specs.Table.{value_of};
 ghost use Rattle.sx_import.specs.declared.set.NameAt.{NameAt};
@@ -36,4 +39,45 @@ pub fn joined_names_are_a_union()
     ensures has { (span : Span) (all more r : Labelled) → joined span all more ≡ Ok r → Has r more }
     ensures once { (span : Span) (all more r : Labelled) → IsOnce all → joined span all more ≡ Ok r → IsOnce r }
     ensures conflict { (span : Span) (all more : Labelled) (f : Fault) → joined span all more ≡ Err f → Conflicts span all more f }
+{}
+
+/// After a `prefix` each name has it, in its place and with its label.
+pub fn prefixes_move_each_name()
+    ensures in_place { PrefixMovesEachInPlace }
+    ensures none_without { PrefixLeavesNoneWithout }
+    ensures once { PrefixKeepsNamesOnce }
+{}
+
+/// A `rename` keeps labels and order, and two names become one only where they stand for one label.
+pub fn renames_keep_names_apart()
+    ensures once { RenameGivesEachOnce }
+    ensures labels { RenameKeepsLabels }
+    ensures order { RenameKeepsOrder }
+    ensures apart { RenameKeepsLabelsApart }
+    ensures one_to_one { RenameIsOneToOne }
+{}
+
+/// What an import set gives has each name once.
+pub fn imports_give_each_name_once()
+    ensures { ImportsGiveEachOnce }
+{}
+
+/// A version reference takes what its parts tell: `and` fits where each part does, `or` where one does, `not`
+/// where its part doesn't, and a list of parts where each fits the number at its place.
+pub fn versions_fit_by_parts()
+    ensures any_version { VersionsMakeNoReference }
+    ensures all { AndFitsWhereAllDo }
+    ensures one { OrFitsWhereOneDoes }
+    ensures none { NotFitsWhereItsPartDoesNot }
+    ensures places { ListFitsByPlaces }
+{}
+
+/// The same of one number of a version: a number takes itself, `>=` what isn't less, `<=` what isn't more.
+pub fn numbers_fit_by_parts()
+    ensures any_number { NumbersMakeNoPart }
+    ensures itself { NumberFitsItself }
+    ensures compared { SignsCompare }
+    ensures all { AndFitsNumbers }
+    ensures one { OrFitsNumbers }
+    ensures none { NotFitsNumbers }
 {}

@@ -41,7 +41,7 @@ Stay old new = (i : ℕ) (file : List ℕ) (a : Found) → IsAt old i file a →
 
 module _ (old new : Libraries) (stay : Stay old new) where
   pub brings_still : (set : ImportSet) (place : ℕ) → Brings old set place → Brings new set place
-  brings_still set place b = record { from = b.from; library = b.library; there = stay b.from (file_of set.library) b.library b.there; brought = b.brought }
+  brings_still set place b = record { not_given = b.not_given; from = b.from; library = b.library; there = stay b.from (file_of set.library) b.library b.there; brought = b.brought }
 
   pub brought_still : (imports : List Import) (place : ℕ) → IsBrought old imports place → IsBrought new imports place
   brought_still imports place b = record { n = b.n; import = b.import; among = b.among; brings = brings_still b.import.set place b.brings }

@@ -9,3 +9,6 @@ pub mod SourceLemmas
 pub mod LookLemmas
 pub mod ReadLemmas
 pub mod ReadingLemmas
+pub mod ChainLemmas
+pub mod RootLemmas
+pub mod FileLemmas

@@ -1,6 +1,6 @@
 -- A file is loaded after its imports, one after another, and these after theirs.
-use Rattle.std.proofs.Common.{◌≡◌, ℕ, zero, suc, Bool, true, List, [], ◌∷◌, length, Result, Ok, Err, Option, Some, None, refl, subst, inl, inr}
-use Rattle.std.specs.Prelude.{◌⊎◌, slice_get}
+use Rattle.std.proofs.Common.{◌≡◌, ℕ, zero, suc, ◌<◌, ◌≤◌, Bool, true, false, List, [], ◌∷◌, length, Result, Ok, Err, Option, Some, None, refl, subst, inl, inr, arith}
+use Rattle.std.specs.Prelude.{◌⊎◌, nat_le, slice_get}
 use Rattle.std.proofs.lemmas.Option.{slice_get_within}
 use Rattle.sx_base.specs.Gives.{◌>>=◌}
 use Rattle.sx_base.specs.declared.fault.Fault.{Fault}
@@ -11,7 +11,7 @@ use Rattle.sx_load.specs.Load.{Loads, Loader, lifted, file_limit, program_in, re
 use Rattle.sx_load.specs.declared.found.Opened.{Opened}
 use Rattle.sx_load.specs.declared.found.Found.{Found}
 use Rattle.sx_load.specs.declared.found.Loading.{Loading}
-use Rattle.sx_load_laws.specs.Laws.{IsImported, IsBrought}
+use Rattle.sx_load_laws.specs.Laws.{IsImported, IsBrought, Needs}
 use Rattle.sx_load_laws.proofs.MarkLemmas.{length-no_needs, no_mark}
 use Rattle.sx_load_laws.proofs.Invariant.{Stands, nothing_sound, imported_still, brings_still, Grows, grows_not, grows_on}
 use Rattle.sx_load_laws.proofs.OpenLemmas.{Ends, ends_on, ends_ok}
@@ -25,6 +25,7 @@ pub record ReferredAll (o : Opened) (needs : List Bool) (s : Loading) (is : List
   pub keeps : (p : ℕ) → slice_get needs p ≡ Some true → slice_get n.0 p ≡ Some true
   pub imported : (k : ℕ) (i : Import) → slice_get is k ≡ Some i → IsImported n.1.done i.set (found_of o n.0 n.1)
   pub only : (p : ℕ) → slice_get n.0 p ≡ Some true → (slice_get needs p ≡ Some true) ⊎ IsBrought n.1.done is p
+  pub covers : (p : ℕ) → length s.done ≤ p → p < length n.1.done → slice_get n.0 p ≡ Some true
 
 module _ (o : Opened) (needs : List Bool) (s : Loading) (i : Import) (is : List Import) (m n : List Bool × Loading) (r : Referred o needs s i.set m) (rest : ReferredAll o m.0 m.1 is n) where
   first : IsImported n.1.done i.set (found_of o n.0 n.1)
@@ -43,6 +44,13 @@ module _ (o : Opened) (needs : List Bool) (s : Loading) (i : Import) (is : List 
     | inr b ↦ inr (record { n = suc b.n; import = b.import; among = b.among; brings = b.brings })
   ]
 
+  covers : (p : ℕ) → length s.done ≤ p → p < length n.1.done → slice_get n.0 p ≡ Some true
+  covers p low high = by (nat_le (length m.1.done) p) refl
+    where
+      by : (b : Bool) → nat_le (length m.1.done) p ≡ b → slice_get n.0 p ≡ Some true
+      by true h = let least : length m.1.done ≤ p = grind (arith, h) in rest.covers p least high
+      by false h = let less : p < length m.1.done = grind (arith, h) in rest.keeps p (r.covers p low less)
+
   pub and_the_rest : ReferredAll o needs s (i ∷ is) n
   and_the_rest = record {
     sound = rest.sound;
@@ -51,6 +59,7 @@ module _ (o : Opened) (needs : List Bool) (s : Loading) (i : Import) (is : List 
     keeps = λ p h. rest.keeps p (r.keeps p h);
     imported = each;
     only = only;
+    covers = covers;
   }
 
 module _ (files : Paths) (roots : List (List ℕ)) where
@@ -64,6 +73,7 @@ module _ (files : Paths) (roots : List (List ℕ)) where
     keeps = λ p h. h;
     imported = λ k i h. absurd (cc);
     only = λ p h. inl h;
+    covers = λ p low high. absurd (omega (arith, low, high));
   }
   refers_each inside well o needs s (i ∷ is) sound standing =
       ends_on (Referred o needs s i.set) (ReferredAll o needs s (i ∷ is)) IsSound (refer files roots inside needs s i.set) (λ n. refer_each files roots inside n.0 n.1 is)
@@ -81,6 +91,7 @@ module _ (files : Paths) (roots : List (List ℕ)) where
         opened = refl;
         place = refl;
         stands = record { after = r.imported; closed = r.standing.closed; only = λ p h. elim (r.only p h) [ inl m ↦ absurd (no_mark p m) | inr b ↦ b ] };
+        covers = r.covers;
       })
 
   pub loads_file : (room : ℕ) → LoadsWell (load_file files roots room)
@@ -95,6 +106,7 @@ pub record IsWhole (l : Found × Loading) : Type 0 where
   pub sound : IsSound l.1
   pub place : l.0.place ≡ length l.1.done
   pub stands : Stands l.1.done l.0
+  pub covers : (p : ℕ) → p < length l.1.done → Needs l.0 p
 
 module _ (files : Paths) (roots : List (List ℕ)) (path : List ℕ) where
   loads_program : (r : Reading) → Ends IsWhole IsSound (program_from files roots path r)
@@ -105,7 +117,7 @@ module _ (files : Paths) (roots : List (List ℕ)) (path : List ℕ) where
       by : (r : Result Opened Fault) → Ends IsWhole IsSound (lifted (with_source nothing_loaded path held) r >>= (λ o. load_file files roots most_libraries o (with_source nothing_loaded path held)))
       by (Ok o) =
           ends_ok (IsLoaded o (with_source nothing_loaded path held)) IsWhole IsSound (load_file files roots most_libraries o (with_source nothing_loaded path held))
-          (λ l h. record { sound = h.sound; place = h.place; stands = h.stands }) (loads_file files roots most_libraries o (with_source nothing_loaded path held) nothing_sound)
+          (λ l h. record { sound = h.sound; place = h.place; stands = h.stands; covers = λ p high. h.covers p (omega arith) high }) (loads_file files roots most_libraries o (with_source nothing_loaded path held) nothing_sound)
       by (Err f) = nothing_sound
 
   loads : Ends IsWhole IsSound (load files roots path)

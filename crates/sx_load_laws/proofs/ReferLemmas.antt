@@ -1,6 +1,6 @@
 -- One import is loaded, and what was loaded before stays as it was.
-use Rattle.std.proofs.Common.{◌≡◌, ℕ, ◌+◌, ◌<◌, Bool, true, false, List, [], ◌∷◌, ◌++◌, length, Result, Ok, Err, Option, Some, None, refl, sym, ap, subst, ◌∙◌, inl, inr, arith, length-append, true≢false}
-use Rattle.std.specs.Prelude.{◌⊎◌, is_some, slice_get, if◌then◌else◌}
+use Rattle.std.proofs.Common.{◌≡◌, ℕ, ◌+◌, ◌<◌, ◌≤◌, Bool, true, false, List, [], ◌∷◌, ◌++◌, length, Result, Ok, Err, Option, Some, None, refl, sym, ap, subst, ◌∙◌, inl, inr, arith, length-append, true≢false}
+use Rattle.std.specs.Prelude.{◌⊎◌, is_some, nat_le, slice_get, if◌then◌else◌}
 use Rattle.std.proofs.lemmas.Option.{slice_get_within}
 use Rattle.sx_base.specs.Gives.{◌>>=◌}
 use Rattle.sx_base.specs.declared.fault.Fault.{Fault}
@@ -46,6 +46,8 @@ pub record Referred (o : Opened) (needs : List Bool) (s : Loading) (set : Import
   pub keeps : (p : ℕ) → slice_get needs p ≡ Some true → slice_get n.0 p ≡ Some true
   pub imported : IsImported n.1.done set (found_of o n.0 n.1)
   pub only : (p : ℕ) → slice_get n.0 p ≡ Some true → (slice_get needs p ≡ Some true) ⊎ Brings n.1.done set p
+  -- all that was loaded for it is needed
+  pub covers : (p : ℕ) → length s.done ≤ p → p < length n.1.done → slice_get n.0 p ≡ Some true
 
 -- a library that is loaded is taken among those that are needed
 module _ (o : Opened) (needs : List Bool) (t : Loading) (set : ImportSet) (library : Found) (k : ℕ)
@@ -88,11 +90,15 @@ module _ (o : Opened) (needs : List Bool) (t : Loading) (set : ImportSet) (libra
     ]
   ]
 
-  brings : (p : ℕ) → (p ≡ library.place) ⊎ Needs library p → Brings t.done set p
-  brings p h = record { from = k; library = library; there = there; brought = elim h [ inl e ↦ inl (e ∙ place) | inr m ↦ inr m ] }
+  brings : is_some (exports set.library) ≡ false → (p : ℕ) → (p ≡ library.place) ⊎ Needs library p → Brings t.done set p
+  brings not_given p h = record { not_given = not_given; from = k; library = library; there = there; brought = elim h [ inl e ↦ inl (e ∙ place) | inr m ↦ inr m ] }
 
-  pub takes : (s : Loading) → Grows s t → is_some (exports set.library) ≡ false → version_fits library.opened.form.version set.version ≡ true → Referred o needs s set (with_needs needs library, t)
-  takes s grows not_given fits = record {
+  covered : (p : ℕ) → (p ≡ library.place) ⊎ Needs library p → slice_get (with_needs needs library) p ≡ Some true
+  covered p h = elim h [ inl e ↦ subst (λ q. slice_get (with_needs needs library) q ≡ Some true) (sym (e ∙ place)) itself | inr m ↦ comes_too p m ]
+
+  pub takes : (s : Loading) → Grows s t → is_some (exports set.library) ≡ false → version_fits library.opened.form.version set.version ≡ true
+      → ((p : ℕ) → length s.done ≤ p → p < length t.done → (p ≡ library.place) ⊎ Needs library p) → Referred o needs s set (with_needs needs library, t)
+  takes s grows not_given fits all = record {
     sound = sound;
     grows = grows;
     standing = record { wide = length-with_needs needs library ∙ standing.wide; closed = closed };
@@ -101,7 +107,8 @@ module _ (o : Opened) (needs : List Bool) (t : Loading) (set : ImportSet) (libra
       given = λ e. absurd (true≢false (sym e ∙ not_given));
       loaded_before = λ e. record { place = k; library = library; there = there; before = within; fits = fits; needed = itself };
     };
-    only = λ p h. elim (mark_cases needs library p h) [ inl old ↦ inl old | inr new ↦ inr (brings p new) ];
+    only = λ p h. elim (mark_cases needs library p h) [ inl old ↦ inl old | inr new ↦ inr (brings not_given p new) ];
+    covers = λ p low high. covered p (all p low high);
   }
 
 -- ---- a library that is new
@@ -113,6 +120,7 @@ pub record IsLoaded (o : Opened) (s : Loading) (l : Found × Loading) : Type 0 w
   pub opened : l.0.opened ≡ o
   pub place : l.0.place ≡ length l.1.done
   pub stands : Stands l.1.done l.0
+  pub covers : (p : ℕ) → length s.done ≤ p → p < length l.1.done → Needs l.0 p
 
 module _ (s : Loading) (set : ImportSet) (sound : IsSound s) (new : New s set) (o : Opened) (t : Loading) (opening : Opens s set (o, t)) where
   begun_is : t.begun ≡ s.begun ++ (file_of set.library, tt) ∷ []
@@ -172,6 +180,20 @@ module _ (s : Loading) (set : ImportSet) (sound : IsSound s) (new : New s set) (
       slack = let a = loaded.grows.slack in let b = begun_more in let c = as_many in let d = done_more in omega arith;
     }
 
+    -- what was loaded since is the library itself, or was loaded for it
+    all_for_it : (p : ℕ) → length s.done ≤ p → p < length (with_done u (file_of set.library) found).done → (p ≡ found.place) ⊎ Needs found p
+    all_for_it p low high = by (nat_le (length u.done) p) refl
+      where
+        by : (b : Bool) → nat_le (length u.done) p ≡ b → (p ≡ found.place) ⊎ Needs found p
+        by true h =
+            let least : length u.done ≤ p = grind (arith, h) in
+            let last : p ≡ length u.done = omega (arith, least, high, done_more) in
+            inl (last ∙ sym loaded.place)
+        by false h =
+            let less : p < length u.done = grind (arith, h) in
+            let since : length t.done ≤ p = omega (arith, low, as_many) in
+            inr (loaded.covers p since less)
+
     pub settles : (p : Opened) (needs : List Bool) → Standing p s needs → Ends (Referred p needs s set) IsSound (settled set needs found u)
     unfolding settled
     settles p needs standing = by (version_fits found.opened.form.version set.version) refl
@@ -180,7 +202,7 @@ module _ (s : Loading) (set : ImportSet) (sound : IsSound s) (new : New s set) (
             → Ends (Referred p needs s set) IsSound (lifted (with_done u (file_of set.library) found)
             (if b then Ok (with_needs needs found, with_done u (file_of set.library) found) else Err (about kind.VersionRefused set)))
         by true fits =
-            takes p needs (with_done u (file_of set.library) found) set found (length u.done) end_sound (standing_still p s (with_done u (file_of set.library) found) needs end_grows standing) end_there s end_grows new.not_given fits
+            takes p needs (with_done u (file_of set.library) found) set found (length u.done) end_sound (standing_still p s (with_done u (file_of set.library) found) needs end_grows standing) end_there s end_grows new.not_given fits all_for_it
         by false fits = end_sound
 
 -- ---- an import
@@ -216,10 +238,11 @@ module _ (files : Paths) (roots : List (List ℕ)) (p : Opened) (needs : List Bo
         keeps = λ q m. m;
         imported = record { given = λ e. h.fits; loaded_before = λ e. absurd (true≢false (sym h.given ∙ e)) };
         only = λ q m. inl m;
+        covers = λ q low high. absurd (omega (arith, low, high));
       }
       by_known (known.Loaded _) h =
           let r = row_of (file_of set.library) s.done h.library h.there in
-          subst (λ n. Referred p needs s set (n, s)) h.marks (takes p needs s set h.library r.0 sound standing r.1 s (grows_not s) h.not_given h.fits)
+          subst (λ n. Referred p needs s set (n, s)) h.marks (takes p needs s set h.library r.0 sound standing r.1 s (grows_not s) h.not_given h.fits (λ p low high. absurd (omega (arith, low, high))))
       by_known known.New h = loads_new inside well h
 
       by : (r : Result Known Fault) → ((k : Known) → r ≡ Ok k → Is s needs set k) → Ends (Referred p needs s set) IsSound (refer_to files roots inside needs s set r)

@@ -72,8 +72,9 @@ NeedsAreClosed loaded found = (place : ℕ) → Needs found place → IsNeeded l
 abbrev pub AllNeedsAreClosed : Libraries → Type 0
 AllNeedsAreClosed loaded = Each NeedsAreClosed loaded
 
--- the library of an import set is at this place, or needs the one there
+-- the library of an import set, which the implementation doesn't give, is at this place, or needs the one there
 pub record Brings (loaded : Libraries) (set : ImportSet) (place : ℕ) : Type 0 where
+  pub not_given : is_some (exports set.library) ≡ false
   pub from : ℕ
   pub library : Found
   pub there : IsAt loaded from (file_of set.library) library

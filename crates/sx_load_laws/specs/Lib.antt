@@ -1,2 +1,5 @@
 pub mod Laws
 pub mod Sources
+pub mod Chains
+pub mod Roots
+pub mod Files

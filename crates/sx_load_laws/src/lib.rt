@@ -15,8 +15,9 @@
 //!
 //! The promise: each library is loaded once, after those that it imports, each of which has a version that
 //! fits; and it needs just these and what they need. Where loading stops with a fault, this holds of the
-//! libraries that were loaded before. What is kept of a path is what the files hold there, and a path where
-//! a file is was read once.
+//! libraries that were loaded before. The program needs all of them, by chains of imports. Each stands in the
+//! file of its name below the first root that has this file, and no other library does. What is kept of a
+//! path is what the files hold there, and a path where a file is was read once.
 //!
 //! Here are no calls to make: each function stands for the laws that it ensures.
 #![tactic(auto)]
@@ -28,6 +29,9 @@ ghost use Rattle.sx_load.specs.Load.{load};
 ghost use Rattle.sx_load.specs.declared.found.Found.{Found};
 ghost use Rattle.sx_load.specs.declared.found.Loading.{Loading};
 ghost use Rattle.sx_load_laws.specs.Laws.{AreLoadedOnce, AreAfterTheirImports, IsAfterItsImports, AllNeedsAreClosed, NeedsAreClosed, OnlyImportsAreNeeded, OnlyTheirImportsAreNeeded};
+ghost use Rattle.sx_load_laws.specs.Chains.{ChainsLeadToNeeds, NeedsAll, ImportsLeadToAll};
+ghost use Rattle.sx_load_laws.specs.Files.{PartsHaveNoSlash, PartsHaveNoDot, PartsComeBack, FilesTellLibraries};
+ghost use Rattle.sx_load_laws.specs.Roots.{AllStandBelow};
 ghost use Rattle.sx_load_laws.specs.Sources.{AreAsHeld, AreFoundOnce, AreFoundOnceButLast};
 
 /// Each library is loaded once. A place is how many libraries were loaded before.
@@ -64,4 +68,25 @@ pub fn each_file_read_once()
     ensures once { (files : Paths) (roots : List (List ℕ)) (path : List ℕ) (program : Found) (s : Loading) → load files roots path ≡ Ok (program, s) → AreFoundOnce s.sources }
     ensures held_until { (files : Paths) (roots : List (List ℕ)) (path : List ℕ) (s : Loading) (f : Fault) → load files roots path ≡ Err (s, f) → AreAsHeld files s.sources }
     ensures once_until { (files : Paths) (roots : List (List ℕ)) (path : List ℕ) (s : Loading) (f : Fault) → load files roots path ≡ Err (s, f) → AreFoundOnceButLast s.sources }
+{}
+
+/// A program needs all that is loaded with it: a chain of imports leads from the program to each library.
+pub fn all_is_needed()
+    ensures needed { (files : Paths) (roots : List (List ℕ)) (path : List ℕ) (program : Found) (s : Loading) → load files roots path ≡ Ok (program, s) → NeedsAll s.done program }
+    ensures chains { (files : Paths) (roots : List (List ℕ)) (path : List ℕ) (program : Found) (s : Loading) → load files roots path ≡ Ok (program, s) → ChainsLeadToNeeds s.done program }
+    ensures all { (files : Paths) (roots : List (List ℕ)) (path : List ℕ) (program : Found) (s : Loading) → load files roots path ≡ Ok (program, s) → ImportsLeadToAll s.done program }
+{}
+
+/// Each library is what the file of its name holds below the first root that has this file.
+pub fn first_root_counts()
+    ensures libraries { (files : Paths) (roots : List (List ℕ)) (path : List ℕ) (program : Found) (s : Loading) → load files roots path ≡ Ok (program, s) → AllStandBelow files roots s.done }
+    ensures stopped { (files : Paths) (roots : List (List ℕ)) (path : List ℕ) (s : Loading) (f : Fault) → load files roots path ≡ Err (s, f) → AllStandBelow files roots s.done }
+{}
+
+/// Different libraries stand in different files, and no part of a name goes to another folder.
+pub fn files_tell_libraries()
+    ensures no_slash { PartsHaveNoSlash }
+    ensures no_dot { PartsHaveNoDot }
+    ensures decoded { PartsComeBack }
+    ensures told { FilesTellLibraries }
 {}
