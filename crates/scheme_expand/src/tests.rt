@@ -1,6 +1,6 @@
 ghost use Rattle.std.specs.Prelude.{◌≡◌, ◌<◌};
 
-use crate::programs::PROGRAMS;
+use crate::primitives::primitives;
 use crate::status::Status;
 use crate::top::run;
 use std::alloc::Global;
@@ -10,6 +10,8 @@ use std::sync::ledger::{Blank, Ledger};
 use std::test::Fail;
 use sx_base::steps::Steps;
 use sx_outside::{MemFiles, MemSink};
+use sx_prims::table::PrimTable;
+use sx_standing::means::Counts;
 
 // What a run answered and wrote.
 #[derive(Drop)]
@@ -22,31 +24,15 @@ struct Outcome {
 // A path, and the bytes there.
 type Held<'a> = (&'a str, &'a [u8]);
 
-// A run over some files and words; the calls with these numbers fail.
-fn run_over(
-    alloc: Global,
-    held: &[Held],
-    words: &[&str],
-    reads: &[u64],
-    outs: &[(u64, usize)],
-    errs: &[(u64, usize)],
-) -> Result<Outcome, Fail> {
-    run_counted::<Brand>(alloc, held, words, reads, outs, errs, Blank::new(1))
+// Files and sinks in memory.
+#[derive(Drop)]
+struct Outside {
+    files: MemFiles,
+    out: MemSink,
+    err: MemSink,
 }
 
-fn run_counted<N: Ledger>(
-    alloc: Global,
-    held: &[Held],
-    words: &[&str],
-    reads: &[u64],
-    outs: &[(u64, usize)],
-    errs: &[(u64, usize)],
-    blank: Blank,
-) -> Result<Outcome, Fail>
-    requires name { blank.name ≡ N.name }
-    requires parts { (blank.parts ≡ N.parts) × (0 < N.parts) }
-{
-    let mut nodes = Steps::<N>::open(blank);
+fn mem_files(alloc: Global, held: &[Held], reads: &[u64]) -> Result<MemFiles, Fail> {
     let mut pairs = Vec::new(alloc);
     for (path, bytes) in held {
         pairs.push((
@@ -54,78 +40,101 @@ fn run_counted<N: Ledger>(
             Vec::from_slice(alloc, bytes)?,
         ))?;
     }
-    let mut files = MemFiles::new(alloc, pairs, Vec::from_slice(alloc, reads)?);
-    let mut out = MemSink::new(alloc, Vec::from_slice(alloc, outs)?);
-    let mut err = MemSink::new(alloc, Vec::from_slice(alloc, errs)?);
-    out.reserve(1000)?;
-    err.reserve(1000)?;
+    Ok(MemFiles::new(alloc, pairs, Vec::from_slice(alloc, reads)?))
+}
+
+fn mem_sink(alloc: Global, calls: &[(u64, usize)]) -> Result<MemSink, Fail> {
+    let mut sink = MemSink::new(alloc, Vec::from_slice(alloc, calls)?);
+    sink.reserve(1000)?;
+    Ok(sink)
+}
+
+fn texts(alloc: Global, words: &[&str]) -> Result<Vec<String>, Fail> {
     let mut texts = Vec::new(alloc);
     for word in words {
         texts.push(String::from_str(alloc, word)?)?;
     }
-    let status = run(alloc, &texts, &mut files, &mut out, &mut err, &mut nodes);
+    Ok(texts)
+}
+
+// A run over some files and words; the calls with these numbers fail.
+fn run_over(
+    alloc: Global,
+    prims: &PrimTable,
+    held: &[Held],
+    words: &[&str],
+    reads: &[u64],
+    outs: &[(u64, usize)],
+    errs: &[(u64, usize)],
+) -> Result<Outcome, Fail> {
+    let words = texts(alloc, words)?;
+    let files = mem_files(alloc, held, reads)?;
+    let out = mem_sink(alloc, outs)?;
+    let err = mem_sink(alloc, errs)?;
+    let mut outside = Outside { files, out, err };
+    let status = run_uncounted(alloc, prims, &words, &mut outside);
     Ok(Outcome {
         status,
-        out: String::from_utf8_lossy(alloc, out.bytes())?,
-        err: String::from_utf8_lossy(alloc, err.bytes())?,
+        out: String::from_utf8_lossy(alloc, outside.out.bytes())?,
+        err: String::from_utf8_lossy(alloc, outside.err.bytes())?,
     })
+}
+
+// A run whose nodes and fuel nobody counts.
+fn run_uncounted(
+    alloc: Global,
+    prims: &PrimTable,
+    words: &[String],
+    outside: &mut Outside,
+) -> Status {
+    run_counted::<Brand, Brand>(alloc, prims, words, outside, Blank::new(1), Blank::new(1))
+}
+
+fn run_counted<N: Ledger, L: Ledger>(
+    alloc: Global,
+    prims: &PrimTable,
+    words: &[String],
+    outside: &mut Outside,
+    nodes: Blank,
+    steps: Blank,
+) -> Status
+    requires name { nodes.name ≡ N.name }
+    requires parts { (nodes.parts ≡ N.parts) × (0 < N.parts) }
+    requires step_name { steps.name ≡ L.name }
+    requires step_parts { (steps.parts ≡ L.parts) × (0 < L.parts) }
+{
+    let mut nodes = Steps::<N>::open(nodes);
+    let mut steps = Steps::<L>::open(steps);
+    run_both(alloc, prims, words, outside, &mut nodes, &mut steps)
+}
+
+// Both counters are borrowed for one time, as `Counts` has them.
+fn run_both<'a, N: Ledger, L: Ledger>(
+    alloc: Global,
+    prims: &PrimTable,
+    words: &[String],
+    outside: &mut Outside,
+    nodes: &'a mut Steps<N>,
+    steps: &'a mut Steps<L>,
+) -> Status {
+    let mut counts = Counts { nodes, steps };
+    run(
+        alloc,
+        words,
+        &mut outside.files,
+        &mut outside.out,
+        &mut outside.err,
+        prims,
+        &mut counts,
+    )
 }
 
 const USAGE: &str =
     "usage: scheme-expand [--root DIR[:DIR]...] [--cache DIR] [--report] [--write core|xref] PROGRAM | --make N\n";
 
-// What a run over a program is to answer and write.
-fn expected(alloc: Global, answer: &str) -> Result<Outcome, Fail> {
-    let mut out = String::new(alloc);
-    let mut err = String::new(alloc);
-    if answer.starts_with("p.sps:") {
-        err.push_str(answer)?;
-        err.push_str("\n")?;
-        return Ok(Outcome {
-            status: Status::Fault,
-            out,
-            err,
-        });
-    }
-    out.push_str("(import (rnrs))\n")?;
-    if !answer.is_empty() {
-        out.push_str(answer)?;
-        out.push_str("\n")?;
-    }
-    Ok(Outcome {
-        status: Status::Done,
-        out,
-        err,
-    })
-}
-
-// Whether a program gives its text, or the line of its fault, and nothing else.
-fn gives(alloc: Global, source: &str, answer: &str) -> Result<bool, Fail> {
-    let held = [("p.sps", source.as_bytes())];
-    let ran = run_over(alloc, &held, &["p.sps"], &[], &[], &[])?;
-    let expected = expected(alloc, answer)?;
-    Ok(
-        ran.status == expected.status
-            && ran.out.as_str() == expected.out.as_str()
-            && ran.err.as_str() == expected.err.as_str(),
-    )
-}
-
-fn check_programs(rt: &impl Abort, alloc: Global, programs: &[(&str, &str)]) -> Result<(), Fail> {
-    for (source, answer) in programs {
-        assert!(rt; gives(alloc, source, answer)?, "{source}");
-    }
-    Ok(())
-}
-
-#[test]
-fn programs_give_their_text_or_their_first_fault(rt: HostRuntime) -> Result<(), Fail> {
-    check_programs(&rt, rt.alloc(), &PROGRAMS)
-}
-
 // Words, and whether the program is expanded: else they are refused. The map of identifiers and libraries
 // made in memory aren't built, and the words for them are refused too.
-const WORDS: [(&[&str], bool); 14] = [
+const WORDS: &[(&[&str], bool)] = &[
     (&["p.sps"], true),
     (&["--", "p.sps"], true),
     (&["--report", "p.sps"], true),
@@ -143,8 +152,8 @@ const WORDS: [(&[&str], bool); 14] = [
 ];
 
 // Whether the words are taken, or refused with the usage line and nothing else.
-fn are_taken(alloc: Global, words: &[&str], taken: bool) -> Result<bool, Fail> {
-    let ran = run_over(alloc, EMPTY_PROGRAM, words, &[], &[], &[])?;
+fn are_taken(alloc: Global, prims: &PrimTable, words: &[&str], taken: bool) -> Result<bool, Fail> {
+    let ran = run_over(alloc, prims, EMPTY_PROGRAM, words, &[], &[], &[])?;
     let (status, out, err) = if taken {
         (Status::Done, "(import (rnrs))\n", "")
     } else {
@@ -153,20 +162,32 @@ fn are_taken(alloc: Global, words: &[&str], taken: bool) -> Result<bool, Fail> {
     Ok(ran.status == status && ran.out.as_str() == out && ran.err.as_str() == err)
 }
 
-fn check_words(rt: &impl Abort, alloc: Global, rows: &[(&[&str], bool)]) -> Result<(), Fail> {
+fn check_all_words(
+    rt: &impl Abort,
+    alloc: Global,
+    prims: &PrimTable,
+    rows: &[(&[&str], bool)],
+) -> Result<(), Fail> {
     for (words, taken) in rows {
-        assert!(rt; are_taken(alloc, words, *taken)?, "{words:?}");
+        assert!(rt; are_taken(alloc, prims, words, *taken)?, "{words:?}");
     }
     Ok(())
 }
 
+fn check_words(rt: &impl Abort, alloc: Global, rows: &[(&[&str], bool)]) -> Result<(), Fail> {
+    match primitives(alloc)? {
+        Some(prims) => check_all_words(rt, alloc, &prims, rows),
+        None => Err("rows in order are refused".into()),
+    }
+}
+
 #[test]
 fn words_are_taken_or_refused_with_the_usage_line(rt: HostRuntime) -> Result<(), Fail> {
-    check_words(&rt, rt.alloc(), &WORDS)
+    check_words(&rt, rt.alloc(), WORDS)
 }
 
 // Files and words, the calls of the outside that fail, and what a run over them answers and writes.
-#[derive(Drop)]
+#[derive(Clone, Copy)]
 struct Case<'a> {
     held: &'a [Held<'a>],
     words: &'a [&'a str],
@@ -180,7 +201,7 @@ struct Case<'a> {
 
 const EMPTY_PROGRAM: &[Held] = &[("p.sps", b"(import (rnrs base))")];
 
-const FAILURES: [Case; 5] = [
+const FAILURES: &[Case] = &[
     Case {
         held: &[],
         words: &["p.sps"],
@@ -251,7 +272,7 @@ const M_AT_FAULT: Held = (
 
 const USES_M: Held = ("p.sps", b"(import (rnrs) (m)) a");
 
-const LIBRARIES: [Case; 7] = [
+const LIBRARIES: &[Case] = &[
     Case {
         held: &[M, USES_M],
         words: &["--report", "p.sps"],
@@ -325,42 +346,79 @@ const LIBRARIES: [Case; 7] = [
 ];
 
 // Whether a run over the case answers and writes what it should.
-fn ends_so(alloc: Global, case: &Case) -> Result<bool, Fail> {
+fn ends_so(alloc: Global, prims: &PrimTable, case: &Case) -> Result<bool, Fail> {
     let (held, words) = (case.held, case.words);
-    let ran = run_over(alloc, held, words, case.reads, case.outs, case.errs)?;
+    let ran = run_over(alloc, prims, held, words, case.reads, case.outs, case.errs)?;
     Ok(ran.status == case.status && ran.out.as_str() == case.out && ran.err.as_str() == case.err)
 }
 
-fn check_cases(rt: &impl Abort, alloc: Global, cases: &[Case]) -> Result<(), Fail> {
+fn check_all_cases(
+    rt: &impl Abort,
+    alloc: Global,
+    prims: &PrimTable,
+    cases: &[Case],
+) -> Result<(), Fail> {
     for case in cases {
-        assert!(rt; ends_so(alloc, case)?, "{}", case.err);
+        assert!(rt; ends_so(alloc, prims, case)?, "{}", case.err);
     }
     Ok(())
 }
 
+fn check_cases(rt: &impl Abort, alloc: Global, cases: &[Case]) -> Result<(), Fail> {
+    match primitives(alloc)? {
+        Some(prims) => check_all_cases(rt, alloc, &prims, cases),
+        None => Err("rows in order are refused".into()),
+    }
+}
+
 #[test]
 fn failures_of_the_outside_end_a_run_as_they_should(rt: HostRuntime) -> Result<(), Fail> {
-    check_cases(&rt, rt.alloc(), &FAILURES)
+    check_cases(&rt, rt.alloc(), FAILURES)
 }
 
 #[test]
 fn libraries_stand_before_the_program_and_in_the_report(rt: HostRuntime) -> Result<(), Fail> {
-    check_cases(&rt, rt.alloc(), &LIBRARIES)
+    check_cases(&rt, rt.alloc(), LIBRARIES)
+}
+
+// Whether a run over a program of so many bytes answers and writes this.
+fn length_gives(
+    alloc: Global,
+    prims: &PrimTable,
+    length: usize,
+    status: Status,
+    out: &str,
+    err: &str,
+) -> Result<bool, Fail> {
+    let mut source = Vec::from_slice(alloc, b"(import (rnrs))")?;
+    source.resize(length, b' ')?;
+    let case = Case {
+        held: &[("p.sps", &source)],
+        words: &["p.sps"],
+        reads: &[],
+        outs: &[],
+        errs: &[],
+        status,
+        out,
+        err,
+    };
+    ends_so(alloc, prims, &case)
+}
+
+fn check_lengths(rt: &impl Abort, alloc: Global, prims: &PrimTable) -> Result<(), Fail> {
+    let out = "(import (rnrs))\n";
+    assert!(rt; length_gives(alloc, prims, 4_194_304, Status::Done, out, "")?);
+    let err = "p.sps:1:1: 9 TooLong\n";
+    assert!(rt; length_gives(alloc, prims, 4_194_305, Status::Fault, "", err)?);
+    Ok(())
 }
 
 #[test]
 fn a_file_of_the_greatest_length_is_read_and_a_longer_one_is_not(
     rt: HostRuntime,
 ) -> Result<(), Fail> {
-    let alloc = rt.alloc();
-    let mut source = Vec::from_slice(alloc, b"(import (rnrs))")?;
-    source.resize(4_194_304, b' ')?;
-    let read = run_over(alloc, &[("p.sps", &source)], &["p.sps"], &[], &[], &[])?;
-    assert_eq!(rt; read.out.as_str(), "(import (rnrs))\n");
-    assert_eq!(rt; read.status, Status::Done);
-    source.push(b' ')?;
-    let refused = run_over(alloc, &[("p.sps", &source)], &["p.sps"], &[], &[], &[])?;
-    assert_eq!(rt; refused.err.as_str(), "p.sps:1:1: 9 TooLong\n");
-    assert_eq!(rt; refused.status, Status::Fault);
-    Ok(())
+    match primitives(rt.alloc())? {
+        Some(prims) => check_lengths(&rt, rt.alloc(), &prims),
+        None => Err("rows in order are refused".into()),
+    }
 }

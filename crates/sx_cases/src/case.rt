@@ -1,0 +1,103 @@
+//! The text of a case.
+
+use std::alloc::{AllocError, Global};
+use std::fmt::Write;
+use std::test::Fail;
+use sx_base::items::Items;
+use sx_base::symbol::Symbol;
+
+/// A program among files, and what is written of it.
+#[derive(Drop)]
+pub struct Case {
+    /// The directories under which libraries are looked for.
+    pub roots: Items<Symbol>,
+    /// Files by path, among them `p.sps`.
+    pub files: Vec<(String, Vec<u8>)>,
+    /// All core text, or the line of the fault.
+    pub wanted: String,
+}
+
+// The place behind this text of a file, as the line of a fault begins with it.
+fn place_behind(alloc: Global, path: &str, text: &str) -> Result<String, AllocError> {
+    let row = text.split("\n").count();
+    let line = match text.rsplit_once("\n") {
+        Some((_, line)) => line,
+        None => text,
+    };
+    let column = line.chars().count().saturating_add(1);
+    format!(in alloc; "{path}:{row}:{column}: ")
+}
+
+impl Case {
+    fn put(&mut self, alloc: Global, path: &str, text: String) -> Result<(), AllocError> {
+        let path = String::from_str(alloc, path)?;
+        self.files.push((path, text.into_bytes()))?;
+        Ok(())
+    }
+
+    // Where the sign stands in a file, a fault with that place is wanted.
+    fn put_file(&mut self, alloc: Global, path: &str, text: &str) -> Result<(), AllocError> {
+        match text.split_once("§") {
+            Some((before, behind)) => {
+                self.wanted = place_behind(alloc, path, before)?;
+                let text = format!(in alloc; "{before}{behind}")?;
+                self.put(alloc, path, text)
+            }
+            None => {
+                let text = String::from_str(alloc, text)?;
+                self.put(alloc, path, text)
+            }
+        }
+    }
+
+    // The program, and the other files, each behind its path.
+    fn put_files(&mut self, alloc: Global, text: &str) -> Result<(), AllocError> {
+        let Some((program, others)) = text.split_once("\nfile ") else {
+            return self.put_file(alloc, "p.sps", text);
+        };
+        self.put_file(alloc, "p.sps", program)?;
+        for other in others.split("\nfile ") {
+            let (path, text) = other.split_once("\n").unwrap_or((other, ""));
+            self.put_file(alloc, path, text)?;
+        }
+        Ok(())
+    }
+
+    fn put_answer(&mut self, answer: &str) -> Result<(), AllocError> {
+        if answer.is_empty() {
+            return Ok(());
+        }
+        self.wanted.push_str(answer)?;
+        self.wanted.push_str("\n")
+    }
+}
+
+// The directories that the first line names, and what stands behind it.
+fn parted_roots(text: &str) -> (&str, &str) {
+    match text.strip_prefix("root ") {
+        Some(rest) => rest.split_once("\n").unwrap_or((rest, "")),
+        None => (".", text),
+    }
+}
+
+fn roots_of(alloc: Global, names: &str) -> Result<Items<Symbol>, Fail> {
+    let mut roots = Items::new(alloc);
+    for name in names.split(" ") {
+        roots.push(Symbol::new(alloc, name)?)?;
+    }
+    Ok(roots)
+}
+
+/// Reads a case.
+pub fn read_case(alloc: Global, text: &str) -> Result<Case, Fail> {
+    let (files, answer) = text.split_once("\n=>").ok_or("no answer")?;
+    let (roots, files) = parted_roots(files);
+    let mut case = Case {
+        roots: roots_of(alloc, roots)?,
+        files: Vec::new(alloc),
+        wanted: String::from_str(alloc, "(import (rnrs))\n")?,
+    };
+    case.put_files(alloc, files)?;
+    case.put_answer(answer.strip_prefix(" ").unwrap_or(answer))?;
+    Ok(case)
+}

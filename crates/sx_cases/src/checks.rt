@@ -1,0 +1,216 @@
+ghost use Rattle.std.specs.Prelude.{◌≡◌, ◌<◌};
+
+use crate::case::read_case;
+use crate::outcome::outcome;
+use crate::primitives::primitives;
+use crate::tables::core_faults::{BAD_FORMS, BINDERS, BODIES, KEYWORDS, REFERENCES};
+use crate::tables::core_forms::{DEFINITIONS, EXPRESSIONS, PROCEDURES};
+use crate::tables::deep::DEEP;
+use crate::tables::defining::DEFINING;
+use crate::tables::endless::ENDLESS;
+use crate::tables::fault_pairs::FAULT_PAIRS;
+use crate::tables::form_faults::FORM_FAULTS;
+use crate::tables::hygiene::HYGIENE;
+use crate::tables::identifiers::IDENTIFIERS;
+use crate::tables::imports::IMPORTS;
+use crate::tables::late::LATE;
+use crate::tables::let_syntax::LET_SYNTAX;
+use crate::tables::levels::LEVELS;
+use crate::tables::libraries::LIBRARIES;
+use crate::tables::loading::{BAD, FIRST_FAULTS, NAMES, ORDER, ROOTS, SETS, VERSIONS};
+use crate::tables::patterns::PATTERNS;
+use crate::tables::positions::POSITIONS;
+use crate::tables::realistic::REALISTIC;
+use crate::tables::transformer_faults::TRANSFORMER_FAULTS;
+use crate::tables::transformers::TRANSFORMERS;
+use std::alloc::{AllocError, Global};
+use std::marker::Brand;
+use std::sync::ledger::{Blank, Ledger};
+use std::test::Fail;
+use sx_base::steps::Steps;
+use sx_prelude::prelude::Prelude;
+use sx_prims::table::PrimTable;
+use sx_stage::earlier::Earlier;
+use sx_standing::means::{Counts, Means};
+
+// A case comes to what it should.
+fn check_case<N: Ledger, L: Ledger>(
+    alloc: Global,
+    prelude: &Prelude,
+    prims: &PrimTable,
+    text: &str,
+    counts: &mut Counts<N, L>,
+) -> Result<(), Fail> {
+    let case = read_case(alloc, text)?;
+    let given = outcome(
+        alloc,
+        prelude,
+        prims,
+        case.files,
+        case.roots.as_slice(),
+        counts,
+    )?;
+    if given.as_str() == case.wanted.as_str() {
+        return Ok(());
+    }
+    Err(Fail::new(format!(in alloc; "{given}of {text}")?))
+}
+
+fn check_table<N: Ledger, L: Ledger>(
+    alloc: Global,
+    prelude: &Prelude,
+    prims: &PrimTable,
+    table: &str,
+    counts: &mut Counts<N, L>,
+) -> Result<(), Fail> {
+    for text in table.split("\n\n") {
+        check_case(alloc, prelude, prims, text, counts)?;
+    }
+    Ok(())
+}
+
+fn check_tables<N: Ledger, L: Ledger>(
+    alloc: Global,
+    prelude: &Prelude,
+    prims: &PrimTable,
+    tables: &[String],
+    counts: &mut Counts<N, L>,
+) -> Result<(), Fail> {
+    for table in tables {
+        check_table(alloc, prelude, prims, table.as_str(), counts)?;
+    }
+    Ok(())
+}
+
+// The codes of the procedures that are texts are made once.
+fn check_over<N: Ledger, L: Ledger>(
+    alloc: Global,
+    prims: &PrimTable,
+    tables: &[String],
+    counts: &mut Counts<N, L>,
+) -> Result<(), Fail> {
+    let earlier = Earlier {
+        records: &[],
+        needs: &[],
+    };
+    let means = Means { earlier, prims };
+    match Prelude::new(alloc, &means, counts) {
+        Ok(prelude) => check_tables(alloc, &prelude, prims, tables, counts),
+        Err(_) => Err("no memory".into()),
+    }
+}
+
+// Both counters are borrowed for one time, as `Counts` has them.
+fn check_both<'a, N: Ledger, L: Ledger>(
+    alloc: Global,
+    prims: &PrimTable,
+    tables: &[String],
+    nodes: &'a mut Steps<N>,
+    steps: &'a mut Steps<L>,
+) -> Result<(), Fail> {
+    let mut counts = Counts { nodes, steps };
+    check_over(alloc, prims, tables, &mut counts)
+}
+
+fn check_counted<N: Ledger, L: Ledger>(
+    alloc: Global,
+    prims: &PrimTable,
+    tables: &[String],
+    nodes: Blank,
+    steps: Blank,
+) -> Result<(), Fail>
+    requires name { nodes.name ≡ N.name }
+    requires parts { (nodes.parts ≡ N.parts) × (0 < N.parts) }
+    requires step_name { steps.name ≡ L.name }
+    requires step_parts { (steps.parts ≡ L.parts) × (0 < L.parts) }
+{
+    let mut nodes = Steps::<N>::open(nodes);
+    let mut steps = Steps::<L>::open(steps);
+    check_both(alloc, prims, tables, &mut nodes, &mut steps)
+}
+
+// The same, counting for nobody.
+fn check_uncounted(alloc: Global, prims: &PrimTable, tables: &[String]) -> Result<(), Fail> {
+    check_counted::<Brand, Brand>(alloc, prims, tables, Blank::new(1), Blank::new(1))
+}
+
+// Texts that are owned, since a function that counts for nobody may not be handed a `&str`.
+fn texts(alloc: Global, tables: &[&str]) -> Result<Vec<String>, AllocError> {
+    let mut all = Vec::new(alloc);
+    for table in tables {
+        all.push(String::from_str(alloc, table)?)?;
+    }
+    Ok(all)
+}
+
+fn check(alloc: Global, tables: &[&str]) -> Result<(), Fail> {
+    let tables = texts(alloc, tables)?;
+    match primitives(alloc)? {
+        Some(prims) => check_uncounted(alloc, &prims, &tables),
+        None => Err("rows in order are refused".into()),
+    }
+}
+
+// Programs without libraries of their own and without macros.
+const CORE_FORMS: [&str; 8] = [
+    EXPRESSIONS,
+    PROCEDURES,
+    DEFINITIONS,
+    BAD_FORMS,
+    REFERENCES,
+    BINDERS,
+    BODIES,
+    KEYWORDS,
+];
+
+// Imports, and the libraries that are loaded for them.
+const LOADING: [&str; 8] = [
+    IMPORTS,
+    SETS,
+    ORDER,
+    FIRST_FAULTS,
+    VERSIONS,
+    NAMES,
+    BAD,
+    ROOTS,
+];
+
+// What macros expand to: binders and references, patterns and transformers.
+const MACROS: [&str; 6] = [HYGIENE, DEEP, DEFINING, IDENTIFIERS, PATTERNS, TRANSFORMERS];
+
+// Where macros are bound.
+const SCOPES: [&str; 5] = [LET_SYNTAX, LEVELS, LATE, LIBRARIES, REALISTIC];
+
+// Uses, transformers, patterns and templates at fault.
+const FAULTS: [&str; 5] = [
+    POSITIONS,
+    FORM_FAULTS,
+    TRANSFORMER_FAULTS,
+    FAULT_PAIRS,
+    ENDLESS,
+];
+
+#[test]
+fn core_forms_expand(rt: HostRuntime) -> Result<(), Fail> {
+    check(rt.alloc(), &CORE_FORMS)
+}
+
+#[test]
+fn imports_bind_what_loaded_libraries_export(rt: HostRuntime) -> Result<(), Fail> {
+    check(rt.alloc(), &LOADING)
+}
+
+#[test]
+fn macros_expand(rt: HostRuntime) -> Result<(), Fail> {
+    check(rt.alloc(), &MACROS)
+}
+
+#[test]
+fn macros_are_bound_where_they_should_be(rt: HostRuntime) -> Result<(), Fail> {
+    check(rt.alloc(), &SCOPES)
+}
+
+#[test]
+fn macros_at_fault_are_told_at_their_places(rt: HostRuntime) -> Result<(), Fail> {
+    check(rt.alloc(), &FAULTS)
+}
