@@ -23,7 +23,7 @@ use Rattle.sx_expand_laws.proofs.Naming.{Binds, binds, next-made}
 pub record BindsAll (own : LibName) (f : FrameNo) (s : State) (ls : List Label) (t : State) : Type 0 where
   pub later : LaterBut own f s t
   pub labels : FreshLabels own s.names.number t.names.number ls
-  pub adds : Adds own false ls s t
+  pub adds : Adds own false ls [] s t
 
 abbrev pub spec_label : BoundSpec → Label
 spec_label b = b.label
@@ -42,7 +42,7 @@ module _ (own : LibName) (f : FrameNo) where
   bound-more-labels s t u l ls h b k = record {
     later = but-then own f s t u b.later k.later;
     labels = fresh-append label_name own s.names.number t.names.number u.names.number (l ∷ []) ls b.later.up k.later.up (fresh-one label_name own s.names.number t.names.number l (label-made s t l h b)) k.labels;
-    adds = adds-then own false (l ∷ []) ls s t u b.adds k.adds;
+    adds = adds-then own false (l ∷ []) ls [] [] s t u b.adds k.adds;
   }
 
   binds-all : (place : Span) (level : ℕ) (ids : List Tree) (s : State) → s.names.library ≡ own → Gave (BindsAll own f s) (bind_all f place level ids s)
@@ -71,7 +71,7 @@ module _ (own : LibName) (f : FrameNo) where
       (λ r u c. record {
         later = but-then own f s t u b.later c.later;
         labels = fresh-append label_name own s.names.number t.names.number u.names.number ls (rest_labels r) b.later.up c.later.up b.labels c.labels;
-        adds = adds-then own false ls (rest_labels r) s t u b.adds c.adds;
+        adds = adds-then own false ls (rest_labels r) [] [] s t u b.adds c.adds;
       }))
 
   -- the variables of a `letrec`

@@ -1,5 +1,5 @@
 -- From states to later ones.
-use Rattle.std.proofs.Common.{◌≡◌, ◌≤◌, ◌<◌, Bool, true, false, List, [], ◌∷◌, ◌++◌, length, None, Some, refl, sym, ◌∙◌, ap, subst, arith, inl, inr, if◌then◌else◌}
+use Rattle.std.proofs.Common.{◌≡◌, ◌≤◌, ◌<◌, Bool, true, false, List, [], ◌∷◌, ◌++◌, length, None, Some, append-nil, refl, sym, ◌∙◌, ap, subst, arith, inl, inr, if◌then◌else◌}
 use Rattle.std.specs.Prelude.{◌⊎◌, take}
 use Rattle.std.proofs.Math.Seq.{take-append_seam}
 use Rattle.sx_base.specs.Named.{Named}
@@ -13,11 +13,13 @@ use Rattle.sx_core.specs.Labels.{same_label}
 use Rattle.sx_core.specs.declared.binding.Binding.{Binding}
 use Rattle.sx_core.specs.declared.binding.Binding.TheVariants as binding
 use Rattle.sx_core.specs.declared.binding.VarInfo.{VarInfo}
-use Rattle.sx_core_laws.specs.Words.{Among}
+use Rattle.sx_core_laws.specs.Templates.{Depths}
+use Rattle.sx_core_laws.specs.Words.{Each, Among}
 use Rattle.sx_standing.specs.InScope.{cut}
 use Rattle.sx_standing.specs.State.{State}
-use Rattle.sx_expand_laws.specs.States.{IsOwn, IsForeign, Sound, IsOld, IsVariable, IsTop, Grows, Adds, Later, LaterBut}
+use Rattle.sx_expand_laws.specs.States.{IsOwn, IsForeign, Sound, IsOld, IsAdded, IsBound, IsTop, Grows, Adds, Later, LaterBut}
 use Rattle.sx_expand_laws.proofs.Grows.{grows-same, grows-self, grows-then}
+use Rattle.sx_expand_laws.proofs.Scope.{adds-later}
 
 pub old-later : (own : LibName) (s t : State) (f : FrameNo) → s.names.number ≤ t.names.number → IsOld own s f → IsOld own t f
 old-later own s t f up h o = let k = h o in omega (arith, k, up)
@@ -49,10 +51,35 @@ module _ (own : LibName) where
     grows = grows-then own s t u h.grows k.grows;
   }
 
+  pub but-later : (g : FrameNo) (s t : State) → Later own s t → LaterBut own g s t
+  but-later g s t h = record { here = h.here; next = h.next; up = h.up; same = λ f o d. h.same f o; grows = h.grows }
+
+  -- where a new frame alone has more, and nothing came into scope
+  pub later-framed : (g : FrameNo) (s t u : State) → Later own s t → LaterBut own g t u → Adds own false [] [] t u → IsOwn own g.0 → s.names.number ≤ g.0.number → Later own s u
+  later-framed g s t u h k a of new = record {
+    here = k.here ∙ h.here;
+    next = k.next;
+    up = omega (arith, h.up, k.up);
+    same = λ f o.
+        k.same f (old-later own s t f h.up o) (λ e. let low = o (subst (λ (x : FrameNo). IsOwn own x.0) (sym e) of) in let is = ap (λ (x : FrameNo). x.0.number) e in omega (arith, low, is, new))
+        ∙ h.same f o;
+    grows = grows-then own s t u h.grows k.grows;
+    scope = a.scope ∙ ap (λ ms. t.scope ++ ms) (nothing a.more a.new) ∙ append-nil t.scope ∙ h.scope;
+    tops = λ l w o b. h.tops l w o (old l w (a.tops l w o b));
+  }
+    where
+      nothing : (ms : List Label) → Each (Among []) ms → ms ≡ []
+      nothing [] e = refl
+      nothing (m ∷ ms) e = elim e.0 [ ]
+
+      old : (l : Label) (w : VarInfo) → IsTop t l w ⊎ ((false ≡ true) × ((w.level ≡ 0) × Among [] l)) → IsTop t l w
+      old l w (inl b) = b
+      old l w (inr p) = elim p.1.1 [ ]
+
   -- Where a new frame alone has more, and local variables came into scope: these are out of scope when all that came goes.
-  pub later-within : (g : FrameNo) (ls : List Label) (s t u v : State) → Later own s t → LaterBut own g t u → Adds own false ls t u → IsOwn own g.0 → s.names.number ≤ g.0.number → Later own u v
+  pub later-within : (g : FrameNo) (ls : List Label) (ds : Depths) (s t u v : State) → Later own s t → LaterBut own g t u → Adds own false ls ds t u → IsOwn own g.0 → s.names.number ≤ g.0.number → Later own u v
       → Later own s (cut (length s.scope) v)
-  later-within g ls s t u v h k a of new j = record {
+  later-within g ls ds s t u v h k a of new j = record {
     here = j.here ∙ k.here ∙ h.here;
     next = j.next;
     up = omega (arith, h.up, k.up, j.up);
@@ -60,7 +87,7 @@ module _ (own : LibName) where
         j.same f (old-later own t u f k.up (old-later own s t f h.up o))
         ∙ k.same f (old-later own s t f h.up o) (λ e. let low = o (subst (λ (x : FrameNo). IsOwn own x.0) (sym e) of) in let is = ap (λ (x : FrameNo). x.0.number) e in omega (arith, low, is, new))
         ∙ h.same f o;
-    grows = grows-then own s u (cut (length s.scope) v) (grows-then own s t u h.grows k.grows) (grows-then own u v (cut (length s.scope) v) j.grows (grows-same own v (cut (length s.scope) v) refl refl refl));
+    grows = grows-then own s u (cut (length s.scope) v) (grows-then own s t u h.grows k.grows) (grows-then own u v (cut (length s.scope) v) j.grows (grows-same own v (cut (length s.scope) v) refl refl refl (omega arith)));
     scope = ap (take (length s.scope)) (j.scope ∙ a.scope ∙ ap (λ ms. ms ++ a.more) h.scope) ∙ take-append_seam s.scope a.more;
     tops = λ l w o b. h.tops l w o (old l w (a.tops l w o (j.tops l w o b)));
   }
@@ -70,24 +97,26 @@ module _ (own : LibName) where
       old l w (inr p) = let bad = p.0 in absurd (cc)
 
   -- what comes is bound to variables of the library, so a sound state stays sound
-  pub sound-grown : (given : List Label) (s t : State) → t.library ≡ s.library → t.names.library ≡ own → Grows own s t → Sound own given s → Sound own given t
-  sound-grown given s t here next grows h = record {
+  pub sound-grown : (given : List Label) (s t : State) → t.library ≡ s.library → t.names.library ≡ own → Grows own s t → (Each (IsBound s) s.scope → Each (IsBound t) t.scope) → Sound own given s → Sound own given t
+  sound-grown given s t here next grows bound h = record {
     here = here ∙ h.here;
     next = next;
     defined = λ l v foreign b top. defined l v foreign top (grows.bindings l (binding.Variable v) b);
     primitives = λ l o b. primitives l o (grows.bindings l (binding.Primitive o) b);
+    in_scope = bound h.in_scope;
+    numbered = grows.numbered h.numbered;
   }
     where
-      defined : (l : Label) (v : VarInfo) → IsForeign own l.0 → v.top ≡ true → (bound_to s.bindings l ≡ Some (binding.Variable v)) ⊎ (IsOwn own l.0 × IsVariable (binding.Variable v)) → Among given l
+      defined : (l : Label) (v : VarInfo) → IsForeign own l.0 → v.top ≡ true → (bound_to s.bindings l ≡ Some (binding.Variable v)) ⊎ (IsOwn own l.0 × IsAdded (binding.Variable v)) → Among given l
       defined l v foreign top (inl b) = h.defined l v foreign b top
       defined l v foreign top (inr p) = absurd (foreign p.0)
 
-      primitives : (l : Label) (o : Op) → (bound_to s.bindings l ≡ Some (binding.Primitive o)) ⊎ (IsOwn own l.0 × IsVariable (binding.Primitive o)) → o.0 < 301
+      primitives : (l : Label) (o : Op) → (bound_to s.bindings l ≡ Some (binding.Primitive o)) ⊎ (IsOwn own l.0 × IsAdded (binding.Primitive o)) → o.0 < 301
       primitives l o (inl b) = h.primitives l o b
-      primitives l o (inr p) = let bad = p.1.1 in absurd (cc)
+      primitives l o (inr p) = elim p.1 [ ]
 
   pub sound-later : (given : List Label) (s t : State) → Later own s t → Sound own given s → Sound own given t
-  sound-later given s t h k = sound-grown given s t h.here h.next h.grows k
+  sound-later given s t h k = sound-grown given s t h.here h.next h.grows (adds-later own false s t h).bound k
 
 -- Bindings.
 
@@ -104,3 +133,21 @@ bound-more (p ∷ bs) l m b x h = by (same_label m p.0) (bound-more bs l m b x) 
         → (if t then Some p.1 else bound_to (bs ++ (l, b) ∷ []) m) ≡ Some x → ((if t then Some p.1 else bound_to bs m) ≡ Some x) ⊎ ((m ≡ l) × (b ≡ x))
     by true later k = inl k
     by false later k = later k
+
+-- what a label is bound to stays so behind one more
+pub bound-kept : (bs : List (Label × Binding)) (l m : Label) (b x : Binding) → bound_to bs m ≡ Some x → bound_to (bs ++ (l, b) ∷ []) m ≡ Some x
+bound-kept [] l m b x h = absurd (cc)
+bound-kept (p ∷ bs) l m b x h = by (same_label m p.0) (bound-kept bs l m b x) h
+  where
+    by : (t : Bool) → (bound_to bs m ≡ Some x → bound_to (bs ++ (l, b) ∷ []) m ≡ Some x) → (if t then Some p.1 else bound_to bs m) ≡ Some x → (if t then Some p.1 else bound_to (bs ++ (l, b) ∷ []) m) ≡ Some x
+    by true later k = k
+    by false later k = later k
+
+-- behind its binding a label is bound
+pub bound-last : (bs : List (Label × Binding)) (l : Label) (b : Binding) → (x : Binding) × (bound_to (bs ++ (l, b) ∷ []) l ≡ Some x)
+bound-last [] l b = (b, ap (λ t. if t then Some b else None) ((same_name_cases l.0 l.0).1 refl))
+bound-last (p ∷ bs) l b = by (same_label l p.0) (bound-last bs l b)
+  where
+    by : (t : Bool) → (x : Binding) × (bound_to (bs ++ (l, b) ∷ []) l ≡ Some x) → (x : Binding) × ((if t then Some p.1 else bound_to (bs ++ (l, b) ∷ []) l) ≡ Some x)
+    by true later = (p.1, refl)
+    by false later = later

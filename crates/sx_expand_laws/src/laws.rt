@@ -18,8 +18,8 @@ pub fn records_serve()
     ensures records { RecordsServe }
 {}
 
-/// Each reference names the binder that its leaf stands for: a leaf becomes a reference to the label
-/// that it stands for, an assignment has the label of its target, the identifier of a binder stands for
+/// Each reference names the binder that its leaf stands for: a leaf that is no use of a keyword becomes a
+/// reference to the label that it stands for, an assignment has the label of its target, the identifier of a binder stands for
 /// the binder's label, and no form that is expanded meanwhile changes what an identifier stands for.
 pub fn references_name_binders()
     ensures references { ReferencesNameBinders }

@@ -12,6 +12,7 @@ use Rattle.sx_tree.specs.Leaves.{tree_of}
 use Rattle.sx_core.specs.declared.record.LibRecord.{LibRecord}
 use Rattle.sx_import.specs.declared.set.NameAt.{NameAt}
 use Rattle.sx_forms.specs.declared.form.LibraryForm.{LibraryForm}
+use Rattle.sx_eval.specs.Codes.{Codes}
 use Rattle.sx_expand.specs.Expanding.{ready, library_record}
 use Rattle.sx_library.specs.Imports.{form_names}
 
@@ -42,9 +43,10 @@ export_tree e = (e.0, leaf (Some e.1.span) e.1.name blank)
 
 -- ---- the record
 
--- the names that the form imports, then its body, after these records
-unfoldable pub expand_library : List LibRecord → List ℕ → LibraryForm → List PlainDatum → Result LibRecord Fault
-expand_library records path form body =
+-- the names that the form imports, then its body, after these records; what procedures mean that are texts is given
+unfoldable pub expand_library : Result Codes Fault → List LibRecord → List ℕ → LibraryForm → List PlainDatum → Result LibRecord Fault
+expand_library prelude records path form body =
     form_names records form.imports >>= (λ names.
+    prelude >>= (λ codes.
     trees_at form.name_span [] body >>= (λ forms.
-    library_record (ready form.name path records names) form.version form.name_span (map export_tree form.exports) forms))
+    library_record (ready form.name path records names codes) records form.version form.name_span (map export_tree form.exports) forms)))

@@ -2,29 +2,37 @@
 
 ghost use Rattle.std.specs.Prelude.{◌≡◌, [], IfOk, Ok, map};
 ghost use Rattle.sx_base.specs.Gives.{Gives, StopsWith};
+ghost use Rattle.sx_eval.specs.Codes as table;
 ghost use Rattle.sx_expand.specs.Expanding.{ready};
+ghost use Rattle.sx_prelude.specs.Prelude.{kept};
 ghost use Rattle.sx_library.specs.Records.{needed_records};
 ghost use Rattle.sx_library.specs.Library.{at_datum, tree_at, trees_at, export_tree, expand_library};
 
 use crate::imports::form_names;
 use crate::records::Records;
+use indexmap::IndexMap;
 use std::alloc::Global;
+use std::rc::Rc;
 use std::sync::ledger::Ledger;
 use sx_base::datum::Datum;
 use sx_base::fault::{Bare, BareStop, Fault, Stop};
 use sx_base::items::Items;
 use sx_base::library::LibName;
 use sx_base::memory::Memory;
-use sx_base::name::Label;
+use sx_base::name::{CodeNo, Label};
 use sx_base::span::Span;
-use sx_base::steps::Steps;
 use sx_base::symbol::Symbol;
+use sx_core::code::Code;
 use sx_core::record::LibRecord;
 use sx_expand::expander::Expander;
 use sx_forms::form::LibraryForm;
 use sx_import::names::rows;
 use sx_import::set::NameAt;
 use sx_import::table::Table;
+use sx_prelude::prelude::Prelude;
+use sx_prims::table::PrimTable;
+use sx_stage::earlier::Earlier;
+use sx_standing::means::{Counts, Means};
 use sx_standing::share::share_library;
 use sx_syntax::syn::Syn;
 use sx_tree::marks::Marks;
@@ -33,27 +41,42 @@ use sx_tree::marks::Marks;
 /// are those of `records` that `needs` marks. First each library that it imports must fit, then each
 /// name, and then the body is expanded.
 #[tactic(auto, unfolding(crate::specs::Library::expand_library))]
-pub fn expand_library<N: Ledger>(
+pub fn expand_library<N: Ledger, L: Ledger>(
     alloc: Global,
+    prelude: &Prelude,
     records: &Records,
     needs: &[bool],
     path: &Symbol,
     form: &LibraryForm,
     body: &[Datum],
-    nodes: &mut Steps<N>,
+    prims: &PrimTable,
+    counts: &mut Counts<N, L>,
 ) -> Result<LibRecord, Stop>
-    ensures { Gives (λ r. r) result (expand_library (needed_records records.now needs.now) path.now form.now body.now) }
+    ensures { Gives (λ r. r) result (expand_library (kept prelude.now) (needed_records records.now needs.now) path.now form.now body.now) }
 {
     let place = &form.name_span;
     let names = form_names(alloc, records, needs, form.imports.as_slice())?;
+    let codes = prelude.codes(alloc)?;
     let forms = trees_at(alloc, place, body)?;
     let names = rows(alloc, &names)?;
     let exports = export_trees(alloc, &form.exports)?;
     let name = share_library(alloc, &form.name)?;
     let version = share_version(alloc, form.version.as_slice())?;
     let path = path.share()?;
-    let expander = expander_behind(alloc, name, path, records, needs, names.as_slice())?;
-    expander.top(forms.as_slice(), place, exports.as_slice(), version, nodes)
+    let expander = expander_behind(alloc, name, path, records, needs, names.as_slice(), codes)?;
+    let earlier = Earlier {
+        records: records.ready().as_slice(),
+        needs,
+    };
+    let means = Means { earlier, prims };
+    expander.top(
+        forms.as_slice(),
+        place,
+        exports.as_slice(),
+        version,
+        &means,
+        counts,
+    )
 }
 
 // An expander behind the records that are marked.
@@ -64,10 +87,11 @@ fn expander_behind(
     records: &Records,
     needs: &[bool],
     names: &[(Symbol, Label)],
+    codes: IndexMap<CodeNo, Rc<Code>>,
 ) -> Result<Expander, Stop>
-    ensures { Gives (λ e. e) result (Ok (ready name path (needed_records records.now needs.now) names.now)) }
+    ensures { Gives (λ e. e) result (Ok (ready name path (needed_records records.now needs.now) names.now (table.seen codes.entries))) }
 {
-    Expander::new(alloc, name, path, records.ready(), needs, names)
+    Expander::new(alloc, name, path, records.ready(), needs, names, codes)
 }
 
 fn share_version(alloc: Global, version: &[u64]) -> Result<Items<u64>, Memory>

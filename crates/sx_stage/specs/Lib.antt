@@ -3,3 +3,4 @@ pub mod Stage
 pub mod Running
 pub mod Transformers
 pub mod Uses
+pub mod Patterns

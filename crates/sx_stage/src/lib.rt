@@ -36,6 +36,7 @@ mod fault;
 pub mod fuel;
 pub mod keyword;
 pub mod libraries;
+pub mod patterns;
 pub mod running;
 pub mod stage;
 pub mod transformer;

@@ -1,3 +1,4 @@
 pub mod Rows
 pub mod Adopted
 pub mod Starts
+pub mod Staged

@@ -2,21 +2,25 @@
 
 ghost use Rattle.std.specs.Prelude.{◌≡◌, IfOk, OnOk, map};
 ghost use Rattle.sx_frames.specs.Scope.{adopted};
+ghost use Rattle.sx_eval.specs.Codes as table;
 ghost use Rattle.sx_standing.specs.Ready.{needed_records};
 ghost use Rattle.sx_standing.specs.Start.{second_name, first_frame, import_row, started};
 
 use crate::expansion::Expansion;
 use crate::in_scope::InScope;
 use crate::ready::ReadyRecords;
+use indexmap::IndexMap;
 use std::alloc::Global;
 use std::rc::Rc;
 use sx_base::items::Items;
 use sx_base::library::LibName;
 use sx_base::memory::Memory;
-use sx_base::name::{FrameNo, Label, Name, Names};
+use sx_base::name::{CodeNo, FrameNo, Label, Name, Names};
 use sx_base::symbol::Symbol;
+use sx_core::code::Code;
 use sx_core::labels::Labels;
 use sx_scope::scope::Frames;
+use sx_stage::stage::Stage;
 use sx_tree::frame_row::FrameRow;
 use sx_tree::marks::Marks;
 
@@ -106,8 +110,8 @@ fn names_of(library: &Rc<LibName>) -> Result<Names, Memory>
 
 impl Expansion {
     /// The state that the expansion of a library begins with. The records before the library are those of the
-    /// earlier ones that are marked, and the imports are names with their labels. Two imports of one name are refused
-    /// as want of memory is.
+    /// earlier ones that are marked, and the imports are names with their labels. The codes are those of procedures
+    /// that are texts. Two imports of one name are refused as want of memory is.
     #[tactic(auto, unfolding(crate::specs::Start::started), using(crate::proofs::Adopted::adopted_append))]
     pub fn start(
         alloc: Global,
@@ -115,8 +119,9 @@ impl Expansion {
         earlier: &ReadyRecords,
         needs: &[bool],
         imports: &[(Symbol, Label)],
+        codes: IndexMap<CodeNo, Rc<Code>>,
     ) -> Result<Expansion, Memory>
-        ensures { IfOk result (λ e. e ≡ started library (needed_records needs.now earlier.now) imports.now) }
+        ensures { IfOk result (λ e. e ≡ started library (needed_records needs.now earlier.now) imports.now (table.seen codes.entries)) }
     {
         let library = Rc::new(alloc, library)?;
         let names = names_of(&library)?;
@@ -128,8 +133,7 @@ impl Expansion {
         Ok(Expansion {
             alloc,
             library,
-            names,
-            frames,
+            stage: Stage::new(alloc, names, frames, codes),
             bindings,
             exports: Labels::new(alloc),
             assigned: Labels::new(alloc),

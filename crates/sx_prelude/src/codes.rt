@@ -1,0 +1,192 @@
+//! The codes of the texts.
+
+ghost use Rattle.std.specs.Prelude.{◌≡◌, [], ◌∷◌, ◌<◌, ◌^◌, filter, length, Ok, IfOk, OnOk};
+ghost use Rattle.sx_base.specs.Act.{GivesAfter};
+ghost use Rattle.sx_base.specs.Gives.{Gives};
+ghost use Rattle.sx_eval.specs.Codes as table;
+ghost use Rattle.sx_prelude.specs.Prelude.{procedures, core_names, names, path_of, place_of, first_tree, tree_in, procedure_of, with_text, prelude_codes};
+
+use indexmap::IndexMap;
+use std::alloc::Global;
+use std::rc::Rc;
+use std::sync::ledger::Ledger;
+use sx_base::datum::Datum;
+use sx_base::fault::{Bare, BareStop, Fault, FaultKind, Stop};
+use sx_base::items::Items;
+use sx_base::library::LibName;
+use sx_base::memory::Memory;
+use sx_base::name::{CodeNo, Label, Name};
+use sx_base::op::{Op, op_text};
+use sx_base::span::Span;
+use sx_base::symbol::Symbol;
+use sx_builtin::exports::exports;
+use sx_builtin::prelude::prelude_source;
+use sx_core::code::{Code, Core, Lambda};
+use sx_core::formals::Formals;
+use sx_eval::codes::add_procedure;
+use sx_expand::expander::Expander;
+use sx_reader::read::read_all;
+use sx_standing::means::{Counts, Means};
+use sx_standing::ready::ReadyRecords;
+use sx_syntax::syn::Syn;
+
+const PROCEDURES: [u16; 10] = [133, 110, 192, 193, 194, 198, 191, 202, 196, 197];
+
+/// The names of `(rnrs)`, but those that the derived library defines.
+fn names(alloc: Global) -> Result<Items<(Symbol, Label)>, Memory>
+    ensures { IfOk result (λ es. es ≡ names) }
+{
+    let mut parts = Items::new(alloc);
+    parts.push(Symbol::new(alloc, "rnrs")?)?;
+    match exports(alloc, &LibName::User(parts))? {
+        None => Ok(Items::new(alloc)),
+        Some(all) => core_names(alloc, all.as_slice()),
+    }
+}
+
+fn core_names(alloc: Global, all: &[(Symbol, Label)]) -> Result<Items<(Symbol, Label)>, Memory>
+    ensures { IfOk result (λ es. es ≡ filter (λ e. is_core e) all.now) }
+{
+    let mut names = Items::new(alloc);
+    for (name, label) in all {
+        if *label.0.library == LibName::Core {
+            names.push((name.share()?, label.share()?))?;
+        }
+    }
+    Ok(names)
+}
+
+fn path_of(alloc: Global, op: &Op) -> Result<Symbol, Memory>
+    requires { op.now.0 < 301 }
+    ensures { IfOk result (λ p. p ≡ path_of op.now.0) }
+{
+    let mut path = String::new(alloc);
+    path.push_str("(prelude ")?;
+    path.push_str(op_text(op))?;
+    path.push_str(")")?;
+    Symbol::from_string(alloc, path)
+}
+
+fn place_of(alloc: Global, op: &Op) -> Result<Span, Memory>
+    requires { op.now.0 < 301 }
+    ensures { IfOk result (λ s. s ≡ place_of op.now.0) }
+{
+    let file = path_of(alloc, op)?;
+    Ok(Span {
+        file,
+        from: 0,
+        to: 0,
+    })
+}
+
+/// The first datum as a tree.
+fn first_tree(alloc: Global, data: &[Datum], place: &Span) -> Result<Syn, Stop>
+    ensures { Gives (λ t. t) result (first_tree place.now data.now) }
+{
+    let Some(datum) = data.first() else {
+        return Err(Stop::Fault(Fault {
+            kind: FaultKind::NoExpression,
+            span: place.share()?,
+            words: Items::new(alloc),
+        }));
+    };
+    match Syn::of_datum(alloc, datum) {
+        Ok(tree) => Ok(tree),
+        Err(BareStop::Fault(Bare { kind, words })) => Err(Stop::Fault(Fault {
+            kind,
+            span: place.share()?,
+            words,
+        })),
+        Err(BareStop::Memory) => Err(Stop::Memory),
+    }
+}
+
+fn tree_in(alloc: Global, op: Op, place: &Span) -> Result<Syn, Stop>
+    requires known { op.0 < 301 }
+    requires place { place.now ≡ place_of op.0 }
+    ensures { Gives (λ t. t) result (tree_in op.0) }
+{
+    let text = match prelude_source(op) {
+        Some(text) => text,
+        None => &[],
+    };
+    let data = read_all(alloc, &place.file, text)?;
+    first_tree(alloc, &data, place)
+}
+
+/// A procedure without arguments, whose body is the text.
+fn procedure_of(alloc: Global, op: Op, body: Core) -> Result<Rc<Code>, Memory>
+    ensures { IfOk result (λ c. c.value ≡ procedure_of op.0 body) }
+{
+    let library = Rc::new(alloc, LibName::Core)?;
+    let number = CodeNo(Name {
+        library,
+        number: op.0 as u64,
+    });
+    let formals = Formals {
+        required: Items::new(alloc),
+        rest: None,
+    };
+    let mut cases = Vec::new(alloc);
+    cases.push(Lambda { formals, body })?;
+    let code = Rc::new(
+        alloc,
+        Code {
+            number,
+            cases,
+            plain: true,
+        },
+    )?;
+    Ok(code)
+}
+
+#[tactic(auto, unfolding(crate::specs::Prelude::with_text))]
+fn add_text<N: Ledger, L: Ledger>(
+    alloc: Global,
+    expander: &mut Expander,
+    codes: &mut IndexMap<CodeNo, Rc<Code>>,
+    op: Op,
+    means: &Means,
+    counts: &mut Counts<N, L>,
+) -> Result<(), Stop>
+    requires known { op.0 < 301 }
+    requires open { expander.old.failed ≡ false }
+    ensures given { GivesAfter (λ _. table.seen codes.new.entries) result expander.new.state (with_text (table.seen codes.old.entries) op.0 expander.old.state) }
+    ensures open { OnOk result (expander.new.failed ≡ false) }
+{
+    let place = place_of(alloc, &op)?;
+    let tree = tree_in(alloc, op, &place)?;
+    let core = expander.expression(&tree, &place, 0, means, counts)?;
+    let code = procedure_of(alloc, op, core)?;
+    add_procedure(codes, &code)?;
+    Ok(())
+}
+
+/// The codes of all texts. `means` has no records; its primitives are asked for nothing.
+#[tactic(auto, unfolding(crate::specs::Prelude::prelude_codes))]
+pub fn prelude_codes<N: Ledger, L: Ledger>(
+    alloc: Global,
+    means: &Means,
+    counts: &mut Counts<N, L>,
+) -> Result<IndexMap<CodeNo, Rc<Code>>, Stop>
+    requires { earlier_in means.now.earlier ≡ [] }
+    ensures { Gives (λ cs. table.seen cs.entries) result prelude_codes }
+{
+    let records = ReadyRecords::new(alloc)?;
+    let names = names(alloc)?;
+    let path = Symbol::new(alloc, "(prelude)")?;
+    let mut expander = Expander::new(
+        alloc,
+        LibName::Prelude,
+        path,
+        &records,
+        &[],
+        names.as_slice(),
+        IndexMap::new(alloc),
+    )?;
+    let mut codes = IndexMap::new(alloc);
+    for number in PROCEDURES {
+        add_text(alloc, &mut expander, &mut codes, Op(number), means, counts)?;
+    }
+    Ok(codes)
+}

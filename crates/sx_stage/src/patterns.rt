@@ -1,0 +1,36 @@
+//! Patterns, whose variables take names of the stage.
+
+ghost use Rattle.sx_base.specs.Act.{GivesAfter};
+ghost use Rattle.sx_stage.specs.Patterns.{pattern_of, check_literals};
+
+use crate::stage::Stage;
+use sx_base::fault::Stop;
+use sx_base::span::Span;
+use sx_pattern::compile as patterns;
+use sx_pattern::compile::{Compiled, compile_pattern};
+use sx_syntax::syn::Syn;
+
+impl Stage {
+    /// The pattern of a form. The next names are the labels of its variables. Faults are those of sx_pattern.
+    #[tactic(auto, unfolding(crate::specs::Patterns::pattern_of), using(crate::proofs::OnParts::named_gives))]
+    pub fn pattern(&mut self, form: &Syn, literals: &[Syn], place: &Span) -> Result<Compiled, Stop>
+        ensures { GivesAfter (λ c. c) result self.new (pattern_of literals.now place.now form.now self.old) }
+    {
+        compile_pattern(
+            self.alloc,
+            form,
+            literals,
+            place,
+            &self.world.frames,
+            &mut self.world.names,
+        )
+    }
+
+    /// It is `BadPattern` at the first literal that is no identifier, or is an ellipsis or an underscore.
+    #[tactic(auto, unfolding(crate::specs::Patterns::check_literals), using(crate::proofs::OnParts::unchanged_gives))]
+    pub fn check_literals(&self, literals: &[Syn], place: &Span) -> Result<(), Stop>
+        ensures { GivesAfter (λ _. tt) result self.now (check_literals place.now literals.now self.now) }
+    {
+        patterns::check_literals(self.alloc, literals, place, &self.world.frames)
+    }
+}
