@@ -64,7 +64,7 @@ fn path_of(alloc: Global, op: &Op) -> Result<Symbol, Memory>
     path.push_str("(prelude ")?;
     path.push_str(op_text(op))?;
     path.push_str(")")?;
-    Symbol::from_string(alloc, path)
+    Symbol::from_string(path)
 }
 
 fn place_of(alloc: Global, op: &Op) -> Result<Span, Memory>
