@@ -6,7 +6,7 @@ ghost use Rattle.std.specs.String.{string_bytes};
 ghost use Rattle.sx_base.specs.FaultLine.{fault_line};
 ghost use Rattle.sx_outside.specs.Causes.{Rose};
 ghost use Rattle.sx_outside.specs.Contents.{Paths};
-ghost use Rattle.sx_prelude.specs.Prelude.{kept, prelude_codes};
+ghost use Rattle.sx_prelude.specs.Prelude.{kept, prelude_table};
 ghost use Rattle.scheme_expand.specs.Whole.{libraries, report_if, held_at, source_of, of_loaded, of_job};
 ghost use Rattle.scheme_expand.specs.Prepared.{Prepares};
 ghost use Rattle.scheme_expand.specs.declared.prepare.Unfinished.TheVariants as unfinished;
@@ -122,7 +122,7 @@ fn prelude<N: Ledger, L: Ledger>(
     prims: &PrimTable,
     counts: &mut Counts<N, L>,
 ) -> Result<Prelude, Memory>
-    ensures { IfOk result (λ p. kept p ≡ prelude_codes) }
+    ensures { IfOk result (λ p. kept p ≡ prelude_table) }
 {
     let earlier = Earlier {
         records: &[],
@@ -142,7 +142,7 @@ fn of_found<N: Ledger, L: Ledger>(
     prims: &PrimTable,
     counts: &mut Counts<N, L>,
 ) -> Result<Prepared, Unfinished>
-    requires { kept prelude.now ≡ prelude_codes }
+    requires { kept prelude.now ≡ prelude_table }
     ensures gives { Prepares result (of_loaded report (Ok (found.now, loading.now))) }
     ensures unread { result ≢ Err Unfinished.Read }
 {
@@ -166,7 +166,7 @@ fn of_fault<N: Ledger, L: Ledger>(
     prims: &PrimTable,
     counts: &mut Counts<N, L>,
 ) -> Result<Prepared, Unfinished>
-    requires { kept prelude.now ≡ prelude_codes }
+    requires { kept prelude.now ≡ prelude_table }
     ensures gives { Prepares result (of_loaded report (Err (loading.now, fault))) }
     ensures unread { result ≢ Err Unfinished.Read }
 {

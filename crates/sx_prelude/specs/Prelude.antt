@@ -1,6 +1,6 @@
 -- The codes of the procedures that are given as texts in Scheme: what a call of one means during expansion.
-use Rattle.std.specs.Prelude.{ℕ, List, [], ◌∷◌, ◌++◌, filter, codes, Bool, true, Option, None, Some, Result, Ok, Err}
-use Rattle.sx_base.specs.Act.{after, give, gather}
+use Rattle.std.specs.Prelude.{ℕ, List, [], ◌∷◌, ◌++◌, filter, map, codes, Bool, true, Option, None, Some, Result, Ok, Err}
+use Rattle.sx_base.specs.Act.{after, give, each}
 use Rattle.sx_base.specs.Datum.{PlainDatum}
 use Rattle.sx_base.specs.Gives.{◌>>=◌}
 use Rattle.sx_base.specs.Op.{op_text}
@@ -16,7 +16,7 @@ use Rattle.sx_builtin.specs.Exports.{exports}
 use Rattle.sx_builtin.specs.Prelude.{prelude_text}
 use Rattle.sx_core.specs.Core.{PlainCore, PlainCode, no_case, case}
 use Rattle.sx_core.specs.declared.formals.Formals.{Formals}
-use Rattle.sx_eval.specs.Codes.{Codes, seen, with_procedure}
+use Rattle.sx_eval.specs.Codes.{Codes, with_procedure}
 use Rattle.sx_expand.specs.Expanding.{expression}
 use Rattle.sx_prelude.specs.declared.prelude.Prelude.{Prelude}
 use Rattle.sx_prelude.specs.declared.prelude.Prelude.TheVariants as preludes
@@ -72,22 +72,31 @@ tree_in n = data_of (path_of n) (text_of (prelude_text n)) 500 >>= first_tree (p
 abbrev pub procedure_of : ℕ → PlainCore → PlainCode
 procedure_of n c = record { number = record { 0 = record { library = library.Core; number = n } }; cases = case (record { required = []; rest = None }) c no_case; plain = true }
 
-abbrev pub expanded : ℕ → Codes → Result Tree Fault → Does Codes
-expanded n cs (Err f) s = Err f
-expanded n cs (Ok t) s = after (expression [] (place_of n) 0 (stamp (first_frame library.Prelude) t) s) (λ c. give (with_procedure (procedure_of n c) cs))
+abbrev pub expanded : ℕ → Result Tree Fault → Does PlainCode
+expanded n (Err f) s = Err f
+expanded n (Ok t) s = after (expression [] (place_of n) 0 (stamp (first_frame library.Prelude) t) s) (λ c. give (procedure_of n c))
 
-unfoldable pub with_text : Codes → ℕ → Does Codes
-with_text cs n s = expanded n cs (tree_in n) s
+unfoldable pub text_code : ℕ → Does PlainCode
+text_code n s = expanded n (tree_in n) s
 
-abbrev pub codes_in : Result (Codes × State) Fault → Result Codes Fault
-codes_in (Ok p) = Ok p.0
-codes_in (Err f) = Err f
+abbrev pub without_state : Result (List PlainCode × State) Fault → Result (List PlainCode) Fault
+without_state (Ok p) = Ok p.0
+without_state (Err f) = Err f
 
 -- all of them, expanded one after the other in a library of their own
-unfoldable pub prelude_codes : Result Codes Fault
-prelude_codes = codes_in (gather with_text [] procedures (started library.Prelude [] names []))
+unfoldable pub prelude_codes : Result (List PlainCode) Fault
+prelude_codes = without_state (each text_code [] procedures (started library.Prelude [] names []))
 
--- what a run keeps of them: the codes, or the fault of a text
+-- The table that they make, with the codes inside them.
+abbrev pub filled : Codes → List PlainCode → Codes
+filled table [] = table
+filled table (c ∷ cs) = filled (with_procedure c table) cs
+
+-- what a run keeps of them: the table, or the fault of a text
 abbrev pub kept : Prelude → Result Codes Fault
-kept (preludes.Codes cs) = Ok (seen cs.entries)
+kept (preludes.Codes cs) = Ok (filled [] (map (λ c. c.value) cs))
 kept (preludes.Fault f) = Err f
+
+-- the table of all texts
+abbrev pub prelude_table : Result Codes Fault
+prelude_table = prelude_codes >>= λ cs. Ok (filled [] cs)

@@ -1,13 +1,12 @@
 //! The codes of the texts.
 
-ghost use Rattle.std.specs.Prelude.{◌≡◌, [], ◌∷◌, ◌<◌, ◌^◌, filter, length, Ok, IfOk, OnOk};
-ghost use Rattle.sx_base.specs.Act.{GivesAfter};
+ghost use Rattle.std.specs.Prelude.{◌≡◌, [], ◌<◌, false, filter, map, IfOk, OnOk};
+ghost use Rattle.sx_base.specs.Act.{GivesAfter, each};
 ghost use Rattle.sx_base.specs.Gives.{Gives};
 ghost use Rattle.sx_base.specs.declared.library.LibName.TheVariants as library;
-ghost use Rattle.sx_eval.specs.Codes as table;
 ghost use Rattle.sx_stage.specs.Libraries.{earlier_in};
 ghost use Rattle.sx_standing.specs.Start.{first_frame};
-ghost use Rattle.sx_prelude.specs.Prelude.{is_core, procedures, core_names, names, path_of, place_of, first_tree, tree_in, procedure_of, with_text, prelude_codes};
+ghost use Rattle.sx_prelude.specs.Prelude.{is_core, procedures, names, path_of, place_of, first_tree, tree_in, procedure_of, text_code, prelude_codes};
 
 use indexmap::IndexMap;
 use std::alloc::Global;
@@ -26,7 +25,6 @@ use sx_builtin::exports::exports;
 use sx_builtin::prelude::prelude_source;
 use sx_core::code::{Code, Core, Lambda};
 use sx_core::formals::Formals;
-use sx_eval::codes::add_procedure;
 use sx_expand::expander::Expander;
 use sx_reader::read::read_all;
 use sx_standing::means::{Counts, Means};
@@ -151,38 +149,37 @@ fn frame(alloc: Global) -> Result<FrameNo, Memory>
     Ok(FrameNo(Name { library, number: 0 }))
 }
 
-#[tactic(auto, unfolding(crate::specs::Prelude::with_text))]
-fn add_text<N: Ledger, L: Ledger>(
+// What a call of the op means: a procedure whose body is its text.
+#[tactic(auto, unfolding(crate::specs::Prelude::text_code))]
+fn text_code<N: Ledger, L: Ledger>(
     alloc: Global,
     expander: &mut Expander,
-    codes: &mut IndexMap<CodeNo, Rc<Code>>,
     op: Op,
     means: &Means,
     counts: &mut Counts<N, L>,
-) -> Result<(), Stop>
+) -> Result<Rc<Code>, Stop>
     requires known { op.0 < 301 }
+    requires none { earlier_in means.now.earlier ≡ [] }
     requires open { expander.old.failed ≡ false }
-    ensures given { GivesAfter (λ _. table.seen codes.new.entries) result expander.new.state (with_text (table.seen codes.old.entries) op.0 expander.old.state) }
+    ensures given { GivesAfter (λ c. c.value) result expander.new.state (text_code op.0 expander.old.state) }
     ensures open { OnOk result (expander.new.failed ≡ false) }
 {
     let place = place_of(alloc, &op)?;
     let tree = tree_in(alloc, op, &place)?;
     let tree = tree.stamp(alloc, frame(alloc)?, counts.nodes)?;
     let core = expander.expression(&tree, &place, 0, means, counts)?;
-    let code = procedure_of(alloc, op, core)?;
-    add_procedure(codes, &code)?;
-    Ok(())
+    Ok(procedure_of(alloc, op, core)?)
 }
 
-/// The codes of all texts. `means` has no records; its primitives are asked for nothing.
+/// The codes of all texts, in the order of `PROCEDURES`. `means` has no records; its primitives are asked for nothing.
 #[tactic(auto, unfolding(crate::specs::Prelude::prelude_codes))]
 pub fn prelude_codes<N: Ledger, L: Ledger>(
     alloc: Global,
     means: &Means,
     counts: &mut Counts<N, L>,
-) -> Result<IndexMap<CodeNo, Rc<Code>>, Stop>
+) -> Result<Items<Rc<Code>>, Stop>
     requires { earlier_in means.now.earlier ≡ [] }
-    ensures { Gives (λ cs. table.seen cs.entries) result prelude_codes }
+    ensures { Gives (λ cs. map (λ c. c.value) cs) result prelude_codes }
 {
     let records = ReadyRecords::new(alloc)?;
     let names = names(alloc)?;
@@ -196,9 +193,23 @@ pub fn prelude_codes<N: Ledger, L: Ledger>(
         names.as_slice(),
         IndexMap::new(alloc),
     )?;
-    let mut codes = IndexMap::new(alloc);
-    for number in PROCEDURES {
-        add_text(alloc, &mut expander, &mut codes, Op(number), means, counts)?;
+    all_texts(alloc, &mut expander, means, counts)
+}
+
+fn all_texts<N: Ledger, L: Ledger>(
+    alloc: Global,
+    expander: &mut Expander,
+    means: &Means,
+    counts: &mut Counts<N, L>,
+) -> Result<Items<Rc<Code>>, Stop>
+    requires none { earlier_in means.now.earlier ≡ [] }
+    requires open { expander.old.failed ≡ false }
+    ensures { GivesAfter (λ cs. map (λ c. c.value) cs) result expander.new.state (each text_code [] procedures expander.old.state) }
+{
+    let mut codes = Items::new(alloc);
+    for number in &PROCEDURES {
+        let code = text_code(alloc, expander, Op(*number), means, counts)?;
+        codes.push(code)?;
     }
     Ok(codes)
 }

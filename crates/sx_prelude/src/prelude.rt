@@ -1,9 +1,10 @@
 //! What a run keeps of the texts.
 
-ghost use Rattle.std.specs.Prelude.{◌≡◌, [], IfOk, OnOk};
+ghost use Rattle.std.specs.Prelude.{◌≡◌, [], map, IfOk, OnOk};
 ghost use Rattle.sx_base.specs.Gives.{Gives};
 ghost use Rattle.sx_eval.specs.Codes as table;
-ghost use Rattle.sx_prelude.specs.Prelude.{kept, prelude_codes};
+ghost use Rattle.sx_stage.specs.Libraries.{earlier_in};
+ghost use Rattle.sx_prelude.specs.Prelude.{filled, kept, prelude_table};
 
 use crate::codes::prelude_codes;
 use indexmap::IndexMap;
@@ -15,33 +16,31 @@ use sx_base::items::Items;
 use sx_base::memory::Memory;
 use sx_base::name::CodeNo;
 use sx_core::code::Code;
+use sx_eval::codes::add_procedure;
 use sx_standing::means::{Counts, Means};
 
 /// The codes of the texts, or the first fault in one. No text has a fault.
 #[derive(Drop)]
 pub enum Prelude {
-    Codes(IndexMap<CodeNo, Rc<Code>>),
+    Codes(Items<Rc<Code>>),
     Fault(Fault),
 }
 
-fn share_codes(
+// The table that the codes make.
+fn filled(
     alloc: Global,
-    codes: &IndexMap<CodeNo, Rc<Code>>,
+    codes: &[Rc<Code>],
 ) -> Result<IndexMap<CodeNo, Rc<Code>>, Memory>
-    ensures { IfOk result (λ cs. table.seen cs.entries ≡ table.seen codes.now.entries) }
+    ensures { IfOk result (λ cs. table.seen cs.entries ≡ filled [] (map (λ c. c.value) codes.now)) }
 {
-    let mut all = IndexMap::new(alloc);
-    for (number, code) in codes.iter() {
-        let number = number.share()?;
-        let code = code.clone()?;
-        if all.insert(number, code).is_err() {
-            return Err(Memory);
-        }
+    let mut table = IndexMap::new(alloc);
+    for code in codes {
+        add_procedure(&mut table, code)?;
     }
-    Ok(all)
+    Ok(table)
 }
 
-fn share_fault(alloc: Global, fault: &Fault) -> Result<Fault, Memory>
+fn share_fault(fault: &Fault, alloc: Global) -> Result<Fault, Memory>
     ensures { IfOk result (λ f. f ≡ fault.now) }
 {
     let span = fault.span.share()?;
@@ -64,7 +63,7 @@ impl Prelude {
         counts: &mut Counts<N, L>,
     ) -> Result<Prelude, Memory>
         requires { earlier_in means.now.earlier ≡ [] }
-        ensures { IfOk result (λ p. kept p ≡ prelude_codes) }
+        ensures { IfOk result (λ p. kept p ≡ prelude_table) }
     {
         match prelude_codes(alloc, means, counts) {
             Ok(codes) => Ok(Prelude::Codes(codes)),
@@ -73,13 +72,13 @@ impl Prelude {
         }
     }
 
-    /// The codes once more.
+    /// The table of the codes, in which an expansion puts others behind them.
     pub fn codes(&self, alloc: Global) -> Result<IndexMap<CodeNo, Rc<Code>>, Stop>
         ensures { Gives (λ cs. table.seen cs.entries) result (kept self.now) }
     {
         match self {
-            Prelude::Codes(codes) => Ok(share_codes(alloc, codes)?),
-            Prelude::Fault(fault) => Err(Stop::Fault(share_fault(alloc, fault)?)),
+            Prelude::Codes(codes) => Ok(filled(alloc, codes.as_slice())?),
+            Prelude::Fault(fault) => Err(Stop::Fault(share_fault(fault, alloc)?)),
         }
     }
 }
