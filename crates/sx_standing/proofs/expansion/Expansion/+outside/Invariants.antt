@@ -2,7 +2,7 @@ use Rattle.std.proofs.Common.{◌≡◌, ◌+◌, ◌*◌, drop}
 use Rattle.sx_tree.specs.Tree.{chain, nil}
 use Rattle.sx_tree.specs.Measures.{size}
 use Rattle.sx_standing.specs.Patterns.{all_outside}
-use Rattle.sx_standing.proofs.expansion.+outside.Given as goal
+use Rattle.sx_standing.proofs.expansion.Expansion.+outside.Given as goal
 
 abbrev pub invariant-all_outside-loop-form : goal.invariant-all_outside-loop-form
 invariant-all_outside-loop-form l = record {
