@@ -21,8 +21,9 @@ use Rattle.sx_expand.specs.Expanding.{expression}
 use Rattle.sx_prelude.specs.declared.prelude.Prelude.{Prelude}
 use Rattle.sx_prelude.specs.declared.prelude.Prelude.TheVariants as preludes
 use Rattle.sx_reader.specs.Reading.{data_of}
-use Rattle.sx_standing.specs.Start.{started}
+use Rattle.sx_standing.specs.Start.{started, first_frame}
 use Rattle.sx_standing.specs.State.{State, Does}
+use Rattle.sx_tree.specs.Changes.{stamp}
 use Rattle.sx_tree.specs.Context.{blank}
 use Rattle.sx_tree.specs.Leaves.{tree_of}
 use Rattle.sx_tree.specs.Measures.{within}
@@ -73,7 +74,7 @@ procedure_of n c = record { number = record { 0 = record { library = library.Cor
 
 abbrev pub expanded : ℕ → Codes → Result Tree Fault → Does Codes
 expanded n cs (Err f) s = Err f
-expanded n cs (Ok t) s = after (expression [] (place_of n) 0 t s) (λ c. give (with_procedure (procedure_of n c) cs))
+expanded n cs (Ok t) s = after (expression [] (place_of n) 0 (stamp (first_frame library.Prelude) t) s) (λ c. give (with_procedure (procedure_of n c) cs))
 
 unfoldable pub with_text : Codes → ℕ → Does Codes
 with_text cs n s = expanded n cs (tree_in n) s

@@ -3,8 +3,11 @@
 ghost use Rattle.std.specs.Prelude.{◌≡◌, [], ◌∷◌, ◌<◌, ◌^◌, filter, length, Ok, IfOk, OnOk};
 ghost use Rattle.sx_base.specs.Act.{GivesAfter};
 ghost use Rattle.sx_base.specs.Gives.{Gives};
+ghost use Rattle.sx_base.specs.declared.library.LibName.TheVariants as library;
 ghost use Rattle.sx_eval.specs.Codes as table;
-ghost use Rattle.sx_prelude.specs.Prelude.{procedures, core_names, names, path_of, place_of, first_tree, tree_in, procedure_of, with_text, prelude_codes};
+ghost use Rattle.sx_stage.specs.Libraries.{earlier_in};
+ghost use Rattle.sx_standing.specs.Start.{first_frame};
+ghost use Rattle.sx_prelude.specs.Prelude.{is_core, procedures, core_names, names, path_of, place_of, first_tree, tree_in, procedure_of, with_text, prelude_codes};
 
 use indexmap::IndexMap;
 use std::alloc::Global;
@@ -15,7 +18,7 @@ use sx_base::fault::{Bare, BareStop, Fault, FaultKind, Stop};
 use sx_base::items::Items;
 use sx_base::library::LibName;
 use sx_base::memory::Memory;
-use sx_base::name::{CodeNo, Label, Name};
+use sx_base::name::{CodeNo, FrameNo, Label, Name};
 use sx_base::op::{Op, op_text};
 use sx_base::span::Span;
 use sx_base::symbol::Symbol;
@@ -140,6 +143,14 @@ fn procedure_of(alloc: Global, op: Op, body: Core) -> Result<Rc<Code>, Memory>
     Ok(code)
 }
 
+// The frame of the names that the texts mention.
+fn frame(alloc: Global) -> Result<FrameNo, Memory>
+    ensures { IfOk result (λ f. f ≡ first_frame library.Prelude) }
+{
+    let library = Rc::new(alloc, LibName::Prelude)?;
+    Ok(FrameNo(Name { library, number: 0 }))
+}
+
 #[tactic(auto, unfolding(crate::specs::Prelude::with_text))]
 fn add_text<N: Ledger, L: Ledger>(
     alloc: Global,
@@ -156,6 +167,7 @@ fn add_text<N: Ledger, L: Ledger>(
 {
     let place = place_of(alloc, &op)?;
     let tree = tree_in(alloc, op, &place)?;
+    let tree = tree.stamp(alloc, frame(alloc)?, counts.nodes)?;
     let core = expander.expression(&tree, &place, 0, means, counts)?;
     let code = procedure_of(alloc, op, core)?;
     add_procedure(codes, &code)?;

@@ -106,7 +106,7 @@ module _ (c : Context) where
     escaped_gives u first ts tail ends m label are last ended e k =
         let nil : is_nil (tail_of t) ≡ ends = ap is_nil (sym last) ∙ sym ended in
         let by_label : escaped_form (first_label c.frames (elements t)) escaped (elements t) (is_nil (tail_of t)) ≡ escaped_form first escaped ts ends =
-            (λ i. escaped_form (first_label c.frames (sym are i)) escaped (sym are i) (nil i)) ∙ ap (λ o. escaped_form o escaped ts ends) (sym label) in
+        (λ i. escaped_form (first_label c.frames (sym are i)) escaped (sym are i) (nil i)) ∙ ap (λ o. escaped_form o escaped ts ends) (sym label) in
         list_escaped u (by_label ∙ sym e) ∙ ap (λ r. r >>= λ n. Ok (unescaped n)) k
 
     -- what is at fault in an escaped form is at fault in the whole
