@@ -107,13 +107,9 @@ module _ (v : State) (P : Label × Binding → Type 0) (holds : (n : ℕ) (b : B
   unfolding own_bindings
   bindings-hold = below-holds v.names.number
 
--- each keyword of the library has its expression
-abbrev pub KeepsKeywords : State → Type 0
-KeepsKeywords v = (n level : ℕ) → bound_to v.bindings (own_label v n) ≡ Some (binding.Macro level None) → (c : PlainCore) × (expression_of (own_label v n) (stage_of v) ≡ Some c)
+-- The record that expansion gives.
 
--- The record that expansion gives, where its keywords have their expressions.
-
-module _ (own : LibName) (records : List LibRecord) (imports : List (List ℕ × Label)) (codes : Codes) (r : LibRecord) (ready : IsReady own records) (runs : Runs own (flat_map defined records) (started own records imports codes) r) (kept : KeepsKeywords runs.ended) where
+module _ (own : LibName) (records : List LibRecord) (imports : List (List ℕ × Label)) (codes : Codes) (r : LibRecord) (ready : IsReady own records) (runs : Runs own (flat_map defined records) (started own records imports codes) r) where
   abbrev l : ℕ → Label
   l n = own_label runs.ended n
 
@@ -125,10 +121,18 @@ module _ (own : LibName) (records : List LibRecord) (imports : List (List ℕ ×
       by (inl k) = absurd (started-foreign own records imports codes ready (l n) b k runs.next)
       by (inr k) = k.1
 
+  -- each keyword of the library has its expression
+  pub keyword-kept : (n level : ℕ) (e : Option PlainCore) → IsMacro runs.ended (l n) level e → IsKept runs.ended (l n)
+  keyword-kept n level e k = by (runs.keeps.keywords (l n) level e runs.next k)
+    where
+      by : IsMacro (started own records imports codes) (l n) level e ⊎ (IsKept runs.ended (l n) × ((l n).0.number < runs.ended.names.number)) → IsKept runs.ended (l n)
+      by (inl i) = absurd (started-foreign own records imports codes ready (l n) (binding.Macro level e) i runs.next)
+      by (inr p) = p.0
+
   recorded : (n : ℕ) (b : Binding) → bound_to runs.ended.bindings (l n) ≡ Some b → IsRecorded (l n, completed runs.ended (l n) b)
   recorded n (binding.Variable v) e = tt
   recorded n (binding.PatternVariable level depth) e = tt
-  recorded n (binding.Macro level None) e = let k = kept n level e in subst (λ (o : Option PlainCore). IsRecorded (l n, binding.Macro level o)) (sym k.1) tt
+  recorded n (binding.Macro level None) e = let k = keyword-kept n level None e in subst (λ (o : Option PlainCore). IsRecorded (l n, binding.Macro level o)) (sym k.1) tt
   recorded n (binding.Macro level (Some c)) e = elim (own-added n (binding.Macro level (Some c)) e) [ ]
   recorded n (binding.Core f) e = elim (own-added n (binding.Core f) e) [ ]
   recorded n (binding.Primitive o) e = elim (own-added n (binding.Primitive o) e) [ ]
