@@ -229,7 +229,7 @@ module _ (own : LibName) (given : List Label) (go : Inside) (safe : Safe own giv
         let are = pattern-are own f level p (counted s) b.compiled u b.patterned b.binds next.0.numbered in
         let labels = map variable_label p.variables in
         let ds = map variable_depth p.variables in
-        let seen = starts-with own given vs level ls labels ds s u adds.0 adds.1 (bound-patterns f p t u p.variables are) h in
+        let seen = starts-with own given vs level ls labels ds s u adds.0 adds.1.0 (bound-patterns f p t u p.variables are) h in
         gave-after (λ x v. Later own u v × GoodFender own v.bindings (ds ++ vs) (labels ++ ls) u.names.number v.names.number x) (IsClause s) (fender go place level depth f c.fender u) _ (fender-given f (ds ++ vs) (labels ++ ls) c.fender u seen)
         (λ e v k.
         gave-after (Gives own given go safe place level depth (ds ++ vs) (labels ++ ls) v) (IsClause s) (go.form place level depth (stamp f c.output) v) (λ o. give (record { pattern = p.pattern; fender = e; output = o }))

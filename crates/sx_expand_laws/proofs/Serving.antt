@@ -1,5 +1,5 @@
 -- Records that serve those behind them.
-use Rattle.std.proofs.Common.{◌≡◌, ℕ, zero, suc, Bool, true, false, List, [], ◌∷◌, ◌++◌, map, Option, None, Some, refl, sym, ◌∙◌, ap, subst, inl, inr, if◌then◌else◌}
+use Rattle.std.proofs.Common.{◌≡◌, ℕ, zero, suc, Bool, true, false, List, [], ◌∷◌, ◌++◌, map, Option, None, Some, ◌<◌, refl, sym, ◌∙◌, ap, subst, inl, inr, if◌then◌else◌}
 use Rattle.std.specs.Prelude.{◌⊎◌}
 use Rattle.std.specs.List.{flat_map}
 use Rattle.std.proofs.lemmas.Grind.{flat_map-append}
@@ -22,18 +22,17 @@ use Rattle.sx_core_laws.specs.Follows.{IsOwn, IsRecorded, IsKnown, Follows, name
 use Rattle.sx_core_laws.specs.Following.{AllFollow}
 use Rattle.sx_core.specs.Core.{PlainCore}
 use Rattle.sx_eval.specs.Codes.{Codes}
-use Rattle.sx_stage.specs.Stage.{expression_of}
 use Rattle.sx_standing.specs.Own.{completed, row_at, own_label, own_row, own_below, own_bindings}
 use Rattle.sx_standing.specs.Start.{started}
-use Rattle.sx_standing.specs.State.{State, stage_of}
+use Rattle.sx_standing.specs.State.{State}
 use Rattle.sx_expand_laws.specs.Ready.{IsReady}
 use Rattle.sx_expand_laws.specs.Serves.{IsThere, IsLabelThere, Serves, AllServe}
-use Rattle.sx_expand_laws.specs.Serving.{FollowersServe}
-use Rattle.sx_expand_laws.specs.States.{IsAdded}
+use Rattle.sx_expand_laws.specs.Serving.{FollowersServe, RecordsServe}
+use Rattle.sx_expand_laws.specs.States.{IsAdded, IsKept, IsMacro}
 use Rattle.sx_expand_laws.proofs.Fresh.{each-at, each-of, each-map, each-append, among-parts, among-first, among-second}
 use Rattle.sx_expand_laws.proofs.Shown.{IsShown, row-shown}
 use Rattle.sx_expand_laws.proofs.Started.{names-append, started-foreign, started-there}
-use Rattle.sx_expand_laws.proofs.Records.{Runs}
+use Rattle.sx_expand_laws.proofs.Records.{Runs, record-runs}
 
 -- Records that follow one another.
 
@@ -183,3 +182,6 @@ module _ (own : LibName) (records : List LibRecord) (imports : List (List ℕ ×
       exports = each-mapped (IsLabelThere records r) (λ (e : List ℕ × Label). e.1) r.exports
           (each-map (λ (e : List ℕ × Label). IsShown runs.ended.frames e.1) (λ (e : List ℕ × Label). IsLabelThere records r e.1) r.exports runs.exports (λ e k. shown-there e.1 k));
     }
+
+pub records-serve : RecordsServe
+records-serve own path records imports version place exports forms codes r h there e = record-serves own records imports codes r h (record-runs own path records imports version place exports forms codes r h e) there
