@@ -24,7 +24,7 @@ use Rattle.sx_stage.specs.Libraries.{has_library}
 use Rattle.sx_stage.specs.Running.{state_on, ended_at, outcome_of_call, call}
 use Rattle.sx_stage.specs.Stage.{PlainStage, fresh_mark, keyword_at}
 use Rattle.sx_stage.specs.Transformers.{value_in, value_or, keyword_value}
-use Rattle.sx_stage.specs.Uses.{procedure_in, call_procedure, tree_at, read_answer, transform, cut, transform_and_cut, marked, used}
+use Rattle.sx_stage.specs.Uses.{procedure_in, call_procedure, tree_at, read_answer, transform, cut, transform_and_cut, transform_marked, used}
 use Rattle.sx_stage.specs.declared.keyword.Keyword.TheVariants as keyword
 use Rattle.sx_stage_laws.specs.Grows.{Grows, By, GrowsBy}
 use Rattle.sx_stage_laws.specs.Uses.{OnlyCounts, CalledOn}
@@ -88,8 +88,8 @@ counted_left : (s : PlainStage) (f : Tree → Tree) (r : Result (Tree × PlainSt
 counted_left s f (Ok p) h = h
 counted_left s f (Err e) h = tt
 
-counted_marked : (place : Span) (v : Value) (form : Tree) (frame : Option FrameNo) (m : Mark) (s : PlainStage) → By Counted s (marked place v form frame m s)
-unfolding marked
+counted_marked : (place : Span) (v : Value) (form : Tree) (frame : Option FrameNo) (m : Mark) (s : PlainStage) → By Counted s (transform_marked place v form frame m s)
+unfolding transform_marked
 counted_marked place v form frame m s = counted_left s (leave m frame) (transform_and_cut place v (enter m form) s) (counted_transform place v (enter m form) s)
 
 grows_counted : (s t : PlainStage) → Counted s t → Grows s t
@@ -122,12 +122,12 @@ pub use_grows : (place : Span) (rs : List LibRecord) (form : Tree) (l : Label) (
     → GrowsBy s (used place rs form l e frame s)
 unfolding used
 use_grows place rs form l e frame s =
-    by_after Grows grows_then s (keyword_value place rs l e s) (λ v t. after (fresh_mark t) (marked place v form frame)) (value_grows place rs l e s)
-    (λ v t. by_after Grows grows_then t (fresh_mark t) (marked place v form frame) (grows_fresh t) (λ m u. by_counted u _ (counted_marked place v form frame m u)))
+    by_after Grows grows_then s (keyword_value place rs l e s) (λ v t. after (fresh_mark t) (transform_marked place v form frame)) (value_grows place rs l e s)
+    (λ v t. by_after Grows grows_then t (fresh_mark t) (transform_marked place v form frame) (grows_fresh t) (λ m u. by_counted u _ (counted_marked place v form frame m u)))
 
 -- the transformer was called on a stage
 counts : (place : Span) (v : Value) (form : Tree) (frame : Option FrameNo) (s new : PlainStage) (t : Tree)
-    → after (fresh_mark s) (marked place v form frame) ≡ Ok (t, new) → OnlyCounts s new
+    → after (fresh_mark s) (transform_marked place v form frame) ≡ Ok (t, new) → OnlyCounts s new
 counts place v form frame s new t h =
     let m : Mark = record { 0 = s.names } in
     let u : PlainStage = record s { names = record { library = s.names.library; number = s.names.number + 1 } } in
@@ -135,7 +135,7 @@ counts place v form frame s new t h =
     c.only
 
 module _ (place : Span) (rs : List LibRecord) (form : Tree) (l : Label) (e : Option PlainCore) (frame : Option FrameNo) (s new : PlainStage) (t : Tree) where
-  called_on : (r : Result (Value × PlainStage) Fault) → keyword_value place rs l e s ≡ r → after r (λ v u. after (fresh_mark u) (marked place v form frame)) ≡ Ok (t, new)
+  called_on : (r : Result (Value × PlainStage) Fault) → keyword_value place rs l e s ≡ r → after r (λ v u. after (fresh_mark u) (transform_marked place v form frame)) ≡ Ok (t, new)
       → CalledOn place rs l e s new
   called_on (Ok p) asked h = record { value = p.0; before = p.1; asked = asked; counts = counts place p.0 form frame p.1 new t h }
   called_on (Err f) asked h = absurd (cc)
@@ -151,4 +151,4 @@ module _ (place : Span) (rs : List LibRecord) (form : Tree) (l : Label) (e : Opt
   pub kept_counts : (x : Option PlainCore) (v : Value) → keyword_at s.keywords l ≡ Some (keyword.Kept x v) → used place rs form l e frame s ≡ Ok (t, new) → OnlyCounts s new
   unfolding used
   kept_counts x v h k =
-      counts place v form frame s new t (sym (ap (λ r. after r (λ v u. after (fresh_mark u) (marked place v form frame))) (value_kept x v h)) ∙ k)
+      counts place v form frame s new t (sym (ap (λ r. after r (λ v u. after (fresh_mark u) (transform_marked place v form frame))) (value_kept x v h)) ∙ k)
