@@ -45,11 +45,11 @@ still l m c v t k = by (same_label m l) refl
     by true e = (c, ap (λ (x : Label). expression_of x (with_keyword l (keyword.Kept (Some c) v) t)) ((label_decides m l).0 e) ∙ here l c v t)
     by false e = (k.0, ap expression_in (found-other t.keywords l m (keyword.Kept (Some c) v) (λ i. let is = (label_decides m l).1 i in absurd (cc))) ∙ k.1)
 
-finished : (l : Label) (c : PlainCore) (s : PlainStage) (r : Result (Value × PlainStage) Fault) → By Stays s r → EndsLater s (after r (λ v t. give tt (with_keyword l (keyword.Kept (Some c) v) t)))
+finished : (l : Label) (c : PlainCore) (s : PlainStage) (r : Result (Value × PlainStage) Fault) → By Stays s r → EndsLater s (after r (λ v t. give (tt {0}) (with_keyword l (keyword.Kept (Some c) v) t)))
 finished l c s (Ok p) h = record { frames = h.grows.frames; library = h.grows.library; up = h.grows.names; kept = λ m k. still l m c p.0 p.1 (kept s p.1 h.grows m k) }
 finished l c s (Err f) h = tt
 
-keeps : (l : Label) (c : PlainCore) (r : Result (Value × PlainStage) Fault) → EndsKept l (after r (λ v t. give tt (with_keyword l (keyword.Kept (Some c) v) t)))
+keeps : (l : Label) (c : PlainCore) (r : Result (Value × PlainStage) Fault) → EndsKept l (after r (λ v t. give (tt {0}) (with_keyword l (keyword.Kept (Some c) v) t)))
 keeps l c (Ok p) = (c, here l c p.0 p.1)
 keeps l c (Err f) = tt
 
