@@ -290,7 +290,7 @@ module _ (own : LibName) (f : FrameNo) where
       keyword l m e (inr p) = inr (inl (p.0 ∙ sym is))
 
   pub binds-keyword : (place : Span) (level : ℕ) (b : BindingSpec) (s : State) → s.names.library ≡ own → Gave (λ x u. BindsKeywords s (x ∷ []) u) (bind_keyword f place level b s)
-  unfolding bind_keyword fresh put_keyword stage.begin_keyword with_keyword
+  unfolding bind_keyword fresh stage.begin_keyword with_keyword
   binds-keyword place level b s n =
       gave-if (λ x u. BindsKeywords s (x ∷ []) u) (is_leaf b.id) (after (fresh s) (bind_keyword_as f place level b)) (fault_form kind.BadForm b.id place s)
       (λ e. by_row (is_some (label_at s.frames f (row_for b.id (as_label s.names)).symbol (row_for b.id (as_label s.names)).marks))) (λ e. tt)
