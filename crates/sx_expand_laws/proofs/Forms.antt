@@ -310,7 +310,7 @@ module _ (own : LibName) (given : List Label) (go : Inside) (safe : Safe own giv
     unfolding form_at
     gives-form place depth t s h =
         gave-if (GivesGood own vs ls s) (nat_lt 600 depth) _ (after (settle go.earlier place level t s) (perform_settled go level depth)) (λ e. tt)
-        (λ e. gave-after (SettlesTo own given vs level ls s) (GivesGood own vs ls s) (settle go.earlier place level t s) (perform_settled go level depth)
+        (λ e. gave-after (SettlesTo own given go.earlier vs level ls s) (GivesGood own vs ls s) (settle go.earlier place level t s) (perform_settled go level depth)
         (settle-planned own given go.earlier vs level ls s.uses_left place t s h)
         (λ d u k. gave-less (GivesGood own vs ls u) (GivesGood own vs ls s) (perform_settled go level depth d u) (performs d.place depth d.form d.plan u (starts-later own given vs level ls s u h k.0) k.1)
         (λ c v j. good-wider own v.bindings vs ls u.names.number v.names.number s.names.number v.names.number c k.0.up (omega arith) j)))

@@ -288,7 +288,7 @@ module _ (own : LibName) (start : State) (at : BodyAt) where
     unfolding keyword_in_time
     keyword-in-time done id x t b = by (done.moved || any_changed true t (heads_like done id))
       where
-        by : (c : Bool) → Gave BindsOne (after (if c then fault_word kind.LateDefinition id id at.place t else Ok (tt, t)) (λ _. give x))
+        by : (c : Bool) → Gave BindsOne (after (if c then fault_word kind.LateDefinition id id at.place t else Ok (tt {0}, t)) (λ _. give x))
         by true = tt
         by false = b
 
