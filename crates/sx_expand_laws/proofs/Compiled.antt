@@ -21,9 +21,15 @@ use Rattle.sx_core_laws.specs.Words.{Each}
 use Rattle.sx_pattern.specs.Compile.{Taken, Element, Walked, is_known, is_literal, named, following, new_variable, leaf_pattern, no_parts, with_part, dots_of, parts_of, with_repeated, next_ellipsis, repeated_part, element, step, walked, list_with, vector_with, pattern, element_patterns, tail_pattern, literals_checked, with_variables, compiled}
 use Rattle.sx_pattern.specs.Keywords.{is_form, is_ellipsis}
 use Rattle.sx_pattern.specs.declared.compile.Compiled.{Compiled}
-use Rattle.sx_pattern.specs.declared.compile.PatternParts.{PatternParts}
 use Rattle.sx_pattern.specs.declared.compile.PatternVariable.{PatternVariable}
 use Rattle.sx_expand_laws.proofs.Fresh.{FreshLabels, label_name, each-append, fresh-none, fresh-one, fresh-append}
+
+-- the type of the parts so far, which its crate keeps to itself
+abbrev pub Given : {A B : Type 0} → (A → B) → Type 0
+Given {A} {B} f = A
+
+abbrev pub PatternParts : Type 0
+PatternParts = Given parts_of
 
 abbrev pub variable_label : PatternVariable → Label
 variable_label v = v.label

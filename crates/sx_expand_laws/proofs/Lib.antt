@@ -4,6 +4,7 @@ pub mod Grows
 pub mod Shown
 pub mod Scope
 pub mod Later
+pub mod Kept
 pub mod Naming
 pub mod Compiled
 pub mod Moved
