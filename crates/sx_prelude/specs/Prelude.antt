@@ -72,15 +72,9 @@ tree_in n = data_of (path_of n) (text_of (prelude_text n)) 500 >>= first_tree (p
 abbrev pub procedure_of : ℕ → PlainCore → PlainCode
 procedure_of n c = record { number = record { 0 = record { library = library.Core; number = n } }; cases = case (record { required = []; rest = None }) c no_case; plain = true }
 
-<<<<<<< HEAD
 abbrev pub expanded : ℕ → Result Tree Fault → Does PlainCode
 expanded n (Err f) s = Err f
 expanded n (Ok t) s = after (expression [] (place_of n) 0 (stamp (first_frame library.Prelude) t) s) (λ c. give (procedure_of n c))
-=======
-abbrev pub expanded : ℕ → Codes → Result Tree Fault → Does Codes
-expanded n cs (Err f) s = Err f
-expanded n cs (Ok t) s = after (expression [] (place_of n) 0 (stamp (first_frame library.Prelude) t) s) (λ c. give (with_procedure (procedure_of n c) cs))
->>>>>>> eb4eefa161e9b00c205110a58d9e1250ffca2ee5
 
 unfoldable pub text_code : ℕ → Does PlainCode
 text_code n s = expanded n (tree_in n) s

@@ -4,16 +4,9 @@ ghost use Rattle.std.specs.Prelude.{◌≡◌, [], ◌<◌, false, filter, map, 
 ghost use Rattle.sx_base.specs.Act.{GivesAfter, each};
 ghost use Rattle.sx_base.specs.Gives.{Gives};
 ghost use Rattle.sx_base.specs.declared.library.LibName.TheVariants as library;
-<<<<<<< HEAD
 ghost use Rattle.sx_stage.specs.Libraries.{earlier_in};
 ghost use Rattle.sx_standing.specs.Start.{first_frame};
 ghost use Rattle.sx_prelude.specs.Prelude.{is_core, procedures, names, path_of, place_of, first_tree, tree_in, procedure_of, text_code, prelude_codes};
-=======
-ghost use Rattle.sx_eval.specs.Codes as table;
-ghost use Rattle.sx_stage.specs.Libraries.{earlier_in};
-ghost use Rattle.sx_standing.specs.Start.{first_frame};
-ghost use Rattle.sx_prelude.specs.Prelude.{is_core, procedures, core_names, names, path_of, place_of, first_tree, tree_in, procedure_of, with_text, prelude_codes};
->>>>>>> eb4eefa161e9b00c205110a58d9e1250ffca2ee5
 
 use indexmap::IndexMap;
 use std::alloc::Global;
@@ -156,14 +149,9 @@ fn frame(alloc: Global) -> Result<FrameNo, Memory>
     Ok(FrameNo(Name { library, number: 0 }))
 }
 
-<<<<<<< HEAD
 // What a call of the op means: a procedure whose body is its text.
 #[tactic(auto, unfolding(crate::specs::Prelude::text_code))]
 fn text_code<N: Ledger, L: Ledger>(
-=======
-#[tactic(auto, unfolding(crate::specs::Prelude::with_text))]
-fn add_text<N: Ledger, L: Ledger>(
->>>>>>> eb4eefa161e9b00c205110a58d9e1250ffca2ee5
     alloc: Global,
     expander: &mut Expander,
     op: Op,
