@@ -1,5 +1,5 @@
 -- The binding of pattern variables and of keywords in a frame.
-use Rattle.std.proofs.Common.{◌≡◌, ℕ, ◌≤◌, ◌<◌, Bool, true, false, List, [], ◌∷◌, ◌++◌, map, Option, None, Some, Ok, Err, refl, sym, ◌∙◌, ap, subst, arith, inl, inr, append-nil, append_assoc, if◌then◌else◌}
+use Rattle.std.proofs.Common.{◌≡◌, ℕ, ◌<◌, Bool, true, false, List, [], ◌∷◌, ◌++◌, map, Option, None, Some, Ok, Err, refl, sym, ◌∙◌, ap, subst, arith, inl, inr, append-nil, append_assoc, if◌then◌else◌}
 use Rattle.std.specs.Prelude.{◌⊎◌, is_some}
 use Rattle.indexmap.specs.IndexMap.{insert_entry}
 use Rattle.sx_base.specs.Act.{after, give, gather}
@@ -11,7 +11,7 @@ use Rattle.sx_base.specs.declared.name.Label.{Label}
 use Rattle.sx_base.specs.declared.span.Span.{Span}
 use Rattle.sx_tree.specs.Tree.{Tree}
 use Rattle.sx_frames.specs.Rows.{second_binder}
-use Rattle.sx_frames.specs.Scope.{rows_at, with_row, label_at}
+use Rattle.sx_frames.specs.Scope.{with_row, label_at}
 use Rattle.sx_frames.proofs.FrameLaws.{rows_at-other}
 use Rattle.sx_scope.specs.Stands.{row_for, symbol_of}
 use Rattle.sx_core.specs.Bindings.{bound_to}
@@ -297,8 +297,8 @@ module _ (own : LibName) (f : FrameNo) where
     where
       by_row : (r : Bool)
           → Gave (λ x u. BindsKeywords s (x ∷ []) u) (after (row_put b.id place (counted s) (if r then Err (second_binder (symbol_of b.id)) else Ok (with_row s.frames f (row_for b.id (as_label s.names))))) (λ _ t.
-            after (put_keyword (as_label s.names) level t) (λ _ u.
-            after (on_stage (stage.begin_keyword (as_label s.names) (place_of b.init place)) u) (λ _. give (record { label = as_label s.names; init = b.init })))))
+          after (put_keyword (as_label s.names) level t) (λ _ u.
+          after (on_stage (stage.begin_keyword (as_label s.names) (place_of b.init place)) u) (λ _. give (record { label = as_label s.names; init = b.init })))))
       by_row true = tt
       by_row false = keyword-put s b.id level (place_of b.init place) (record { label = as_label s.names; init = b.init }) refl n
 

@@ -1,5 +1,5 @@
 -- From states to later ones, action by action.
-use Rattle.std.proofs.Common.{◌≡◌, Bool, false, List, [], length, Result, arith}
+use Rattle.std.proofs.Common.{◌≡◌, false, List, [], length, Result, arith}
 use Rattle.sx_base.specs.Act.{after, each}
 use Rattle.sx_base.specs.declared.fault.Fault.{Fault}
 use Rattle.sx_base.specs.declared.library.LibName.{LibName}

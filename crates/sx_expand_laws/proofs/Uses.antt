@@ -1,5 +1,5 @@
 -- How states change where keywords are used and defined, and where patterns are compiled.
-use Rattle.std.proofs.Common.{◌≡◌, ℕ, Bool, List, [], ◌∷◌, Option, None, Some, Result, Ok, Err, refl, sym, ◌∙◌, ap, subst, arith, inl}
+use Rattle.std.proofs.Common.{◌≡◌, ℕ, List, [], Option, Result, Ok, Err, refl, sym, ◌∙◌, ap, arith, inl}
 use Rattle.sx_base.specs.Named.{Named}
 use Rattle.sx_base.specs.declared.fault.Fault.{Fault}
 use Rattle.sx_base.specs.declared.library.LibName.{LibName}
@@ -20,7 +20,7 @@ use Rattle.sx_stage.specs.Transformers as stage
 use Rattle.sx_stage.specs.Uses.{used}
 use Rattle.sx_standing.specs.InScope.{apart, restoring}
 use Rattle.sx_standing.specs.Patterns.{pattern_of, check_literals}
-use Rattle.sx_standing.specs.State.{State, Does, stage_of, with_stage, staged, on_stage}
+use Rattle.sx_standing.specs.State.{State, Does, stage_of, with_stage, staged}
 use Rattle.sx_standing.specs.Uses.{use_keyword, asks_variable, macro_expression, finish_keyword}
 use Rattle.sx_expand.specs.Settle.{next_form}
 use Rattle.sx_expand_laws.specs.Stages.{StageLater, EndsLater, EndsKept}
