@@ -72,7 +72,7 @@ module _ (own : LibName) (given : List Label) where
   abbrev O : State → State → Type 0
   O = Onward own given
 
-  same-told : (s u : State) → u.keywords ≡ s.keywords → Tells s.keywords u.keywords
+  pub same-told : (s u : State) → u.keywords ≡ s.keywords → Tells s.keywords u.keywords
   same-told s u same k c e = subst (λ (ks : List (Label × Keyword)). Known ks k c) same e
 
   -- labels that were bound
@@ -261,7 +261,7 @@ module _ (own : LibName) (given : List Label) where
     PlanAway u (plans.Use l) = Unit {0}
     PlanAway u (plans.SetUse l id) = Unit {0}
 
-    spares-perform : (place : Span) (level depth : ℕ) (t : Tree) (p : Plan) (s : State) → B s → PlanAway s p → Gave (Gives own given (C own given) s) (perform go place level depth t p s)
+    pub spares-perform : (place : Span) (level depth : ℕ) (t : Tree) (p : Plan) (s : State) → B s → PlanAway s p → Gave (Gives own given (C own given) s) (perform go place level depth t p s)
     unfolding perform
     spares-perform place level depth t (plans.Done c) s b k = (onward-self own given s b, k)
     spares-perform place level depth t (plans.Call operator operands) s b k = spares-application own given go spares place level (deeper depth) operator operands s b
