@@ -140,7 +140,7 @@ module _ (own : LibName) (given : List Label) where
   abbrev O : State → State → Type 0
   O = Onward own given
 
-  begins-by : (s t : State) → t.library ≡ s.library → t.names.library ≡ own → Grows own s t → (Each (IsBound s) s.scope → Each (IsBound t) t.scope)
+  pub begins-by : (s t : State) → t.library ≡ s.library → t.names.library ≡ own → Grows own s t → (Each (IsBound s) s.scope → Each (IsBound t) t.scope)
       → ((l : Label) (v : VarInfo) → IsOwn own l.0 → IsTop t l v → IsTop s l v ⊎ (v.level ≡ 0)) → KeptGood own given t → B s → B t
   begins-by s t here next grows bound tops kept h = record { sound = sound-grown own given s t here next grows bound h.sound; level = λ l v o b. by l v o (tops l v o b); kept = kept }
     where
