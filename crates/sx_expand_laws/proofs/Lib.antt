@@ -34,3 +34,12 @@ pub mod Records
 pub mod Serving
 pub mod AllServe
 pub mod Named
+pub mod Spent
+pub mod SpentOnStage
+pub mod SpentBinding
+pub mod Spares
+pub mod SparesBodies
+pub mod SparesItems
+pub mod SparesForms
+pub mod SparesAll
+pub mod GoodKeywords
