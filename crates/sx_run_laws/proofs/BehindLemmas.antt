@@ -13,6 +13,7 @@ use Rattle.sx_eval.specs.Codes.{Codes}
 use Rattle.sx_expand.specs.Expanding.{ready, library_record}
 use Rattle.sx_expand_laws.specs.Ready.{IsReady}
 use Rattle.sx_expand_laws.specs.Serves.{AllServe}
+use Rattle.sx_expand_laws.proofs.GoodKeywords.{keywords-good}
 use Rattle.sx_expand_laws.proofs.Records.{records-good}
 use Rattle.sx_expand_laws.proofs.Serving.{records-serve}
 use Rattle.sx_forms.specs.declared.form.LibraryForm.{LibraryForm}
@@ -34,7 +35,12 @@ module _ (records : List LibRecord) (serve : AllServe [] records) (path : List �
       let is_ready : IsReady form.name records = record { new = new; earlier = serve } in
       let g = records-good form.name path records names form.version form.name_span (map export_tree form.exports) forms codes r is_ready h in
       let there = imports_there records serve form.imports names n in
-      record { named = g.1; good = g.0; serves = records-serve form.name path records names form.version form.name_span (map export_tree form.exports) forms codes r is_ready there h }
+      record {
+        named = g.1;
+        good = g.0;
+        keywords = keywords-good form.name path records names form.version form.name_span (map export_tree form.exports) forms codes r is_ready h;
+        serves = records-serve form.name path records names form.version form.name_span (map export_tree form.exports) forms codes r is_ready there h;
+      }
 
   -- expansion reads both first, and then all that it promises holds
   pub library_stands : (prelude : Result Codes Fault) → expand_library prelude records path form body ≡ Ok r → Stands records form.name r

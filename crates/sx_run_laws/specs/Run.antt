@@ -8,6 +8,7 @@ use Rattle.sx_core_laws.specs.Follows.{names_of}
 use Rattle.sx_core_laws.specs.Words.{Once}
 use Rattle.sx_eval.specs.Codes.{Codes}
 use Rattle.sx_expand_laws.specs.Good.{IsGood}
+use Rattle.sx_expand_laws.specs.Keywords.{HasGoodKeywords}
 use Rattle.sx_expand_laws.specs.Serves.{Serves}
 use Rattle.sx_forms.specs.Form.{program_body}
 use Rattle.sx_library.specs.Loaded.{all_records, expand_found}
@@ -31,6 +32,7 @@ pub record IsRun (prelude : Result Codes Fault) (files : Paths) (roots : List (L
 pub record Stands (earlier : List LibRecord) (name : LibName) (r : LibRecord) : Type 0 where
   pub named : r.name ≡ name
   pub good : IsGood earlier r
+  pub keywords : HasGoodKeywords earlier r
   pub serves : Serves earlier r
 
 -- the records of libraries that were loaded, and of the program
