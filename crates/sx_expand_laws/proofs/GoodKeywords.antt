@@ -1,5 +1,5 @@
 -- The keywords of every record that expansion gives are good.
-use Rattle.std.proofs.Common.{◌≡◌, ℕ, zero, suc, ◌≤◌, ◌<◌, Bool, true, List, [], ◌∷◌, ◌++◌, map, Option, None, Some, Result, Ok, Err, refl, sym, ◌∙◌, ap, subst, arith, inl, inr}
+use Rattle.std.proofs.Common.{◌≡◌, ℕ, zero, suc, ◌≤◌, ◌<◌, List, [], ◌∷◌, ◌++◌, map, Option, None, Some, Result, Ok, Err, refl, sym, ◌∙◌, ap, subst, arith, inl, inr}
 use Rattle.std.specs.Prelude.{◌⊎◌}
 use Rattle.std.specs.List.{flat_map}
 use Rattle.std.proofs.lemmas.Grind.{flat_map-append}
@@ -17,7 +17,6 @@ use Rattle.sx_core.specs.Core.{PlainCore}
 use Rattle.sx_core.specs.References.{binders}
 use Rattle.sx_core.specs.declared.binding.Binding.{Binding}
 use Rattle.sx_core.specs.declared.binding.Binding.TheVariants as binding
-use Rattle.sx_core.specs.declared.binding.VarInfo.{VarInfo}
 use Rattle.sx_core.specs.declared.record.LibRecord.{LibRecord}
 use Rattle.sx_core.specs.declared.record.Line.{Line}
 use Rattle.sx_core.specs.declared.record.Line.TheVariants as line
@@ -41,21 +40,21 @@ use Rattle.sx_expand.specs.Expression.{inside}
 use Rattle.sx_expand.specs.Inside.{Inside}
 use Rattle.sx_expand.specs.Top.{exports, give_record, record_in, body_at, finished, first_pass, top}
 use Rattle.sx_expand.specs.declared.top.TopAt.{TopAt}
-use Rattle.sx_expand_laws.specs.Keywords.{HasGoodKeywords, KeywordsAreGood}
+use Rattle.sx_expand_laws.specs.Keywords.{KeywordsAreGood}
 use Rattle.sx_expand_laws.specs.Ready.{IsReady}
-use Rattle.sx_expand_laws.specs.States.{IsOwn, IsTop, IsBound, IsMacro, IsKept, IsAdded}
-use Rattle.sx_expand_laws.proofs.Acts.{Gave, gave-after, gave-less}
+use Rattle.sx_expand_laws.specs.States.{IsBound, IsAdded}
+use Rattle.sx_expand_laws.proofs.Acts.{Gave, gave-after}
 use Rattle.sx_expand_laws.proofs.Fresh.{each-at, each-of, each-map, each-append, among-parts, once-append}
 use Rattle.sx_expand_laws.proofs.Grows.{grows-same}
 use Rattle.sx_expand_laws.proofs.Lines.{kinds}
 use Rattle.sx_expand_laws.proofs.LineLabels.{kind_labels}
 use Rattle.sx_expand_laws.proofs.Records.{Runs, record-runs, records-good}
 use Rattle.sx_expand_laws.proofs.Serving.{bindings-hold, keyword-kept}
-use Rattle.sx_expand_laws.proofs.Started.{started-foreign, started-sound, started-scope}
+use Rattle.sx_expand_laws.proofs.Started.{started-foreign, started-sound}
 use Rattle.sx_expand_laws.proofs.Top.{SameScope, AreShown, same-exports, kinds-defined}
 use Rattle.sx_expand_laws.proofs.Spent.{Known, Has, IsSpent, Unspent, AreUnspent, unspent-all, KeptGood, kept-less, GoodExpression, Begins, Onward}
-use Rattle.sx_expand_laws.proofs.SpentBinding.{begins-by, onward-self, onward-then}
-use Rattle.sx_expand_laws.proofs.Spares.{taken_labels, Spares, Gives, goes, C}
+use Rattle.sx_expand_laws.proofs.SpentBinding.{begins-by}
+use Rattle.sx_expand_laws.proofs.Spares.{taken_labels, Spares, Gives}
 use Rattle.sx_expand_laws.proofs.SparesBodies.{T, LinesAway, Lines, spares-splice, spares-lines}
 use Rattle.sx_expand_laws.proofs.SparesAll.{inside-spares}
 

@@ -1,7 +1,6 @@
 -- What forms expand to has no name of a keyword's expression that is kept, given that what is done inside forms does not.
-use Rattle.std.proofs.Common.{◌≡◌, ℕ, ◌+◌, ◌≤◌, ◌<◌, Bool, true, false, List, [], ◌∷◌, ◌++◌, map, length, Option, None, Some, Result, Ok, Err, refl, sym, ◌∙◌, ap, subst, arith, inl, inr, append-nil}
+use Rattle.std.proofs.Common.{◌≡◌, ℕ, ◌+◌, ◌≤◌, ◌<◌, Bool, true, false, List, [], ◌∷◌, ◌++◌, map, length, Option, None, Some, Result, refl, sym, ◌∙◌, subst, arith, inl, inr}
 use Rattle.std.specs.Prelude.{◌⊎◌}
-use Rattle.std.specs.List.{flat_map}
 use Rattle.sx_base.specs.Act.{after, give, each, gather}
 use Rattle.sx_base.specs.Named.{Named}
 use Rattle.sx_base.specs.declared.fault.Fault.{Fault}
@@ -12,21 +11,15 @@ use Rattle.sx_base.specs.declared.name.Label.{Label}
 use Rattle.sx_base.specs.declared.span.Span.{Span}
 use Rattle.sx_tree.specs.Changes.{stamp}
 use Rattle.sx_tree.specs.Tree.{Tree}
-use Rattle.sx_core.specs.Core.{PlainCore, one_armed, two_armed, assignment, sequence, procedure, letrec, call, matching, cores}
-use Rattle.sx_core.specs.CoreView.{inits, cases, clauses}
-use Rattle.sx_core.specs.References.{variables, formals_labels, binders, all_binders, init_binders, case_binders, clause_binders}
-use Rattle.sx_core.specs.declared.code.Clause.{Clause}
-use Rattle.sx_core.specs.declared.code.Init.{Init}
-use Rattle.sx_core.specs.declared.code.Lambda.{Lambda}
-use Rattle.sx_core_laws.specs.Parts.{parts, all_parts, init_parts, case_parts, clause_parts, own_number, code_numbers}
-use Rattle.sx_core_laws.specs.Words.{Each, Among}
+use Rattle.sx_core.specs.Core.{PlainCore, one_armed, two_armed, assignment, sequence, procedure, call, cores}
+use Rattle.sx_core.specs.References.{binders, all_binders}
+use Rattle.sx_core_laws.specs.Parts.{parts, all_parts, code_numbers}
+use Rattle.sx_core_laws.specs.Words.{Each}
 use Rattle.sx_shapes.specs.At.{place_of}
 use Rattle.sx_shapes.specs.declared.shape.BindingSpec.{BindingSpec}
 use Rattle.sx_shapes.specs.declared.shape.FormalIds.{FormalIds}
-use Rattle.sx_shapes.specs.declared.shape.LambdaCase.{LambdaCase}
-use Rattle.sx_standing.specs.Binders.{bind_formals, bind_specs}
 use Rattle.sx_standing.specs.InScope.{cut, within, apart, restoring}
-use Rattle.sx_standing.specs.State.{State, Does, fresh, fresh_frame}
+use Rattle.sx_standing.specs.State.{State, Does, fresh_frame}
 use Rattle.sx_standing.specs.Uses.{bind_keywords, finish_keyword}
 use Rattle.sx_standing.specs.declared.binders.BoundSpec.{BoundSpec}
 use Rattle.sx_heads.specs.declared.taken.BodyAt.{BodyAt}
@@ -36,21 +29,20 @@ use Rattle.sx_expand.specs.Body.{sequence_of}
 use Rattle.sx_expand.specs.Expression.{in_order, application, alternate, conditional, set, in_sequence}
 use Rattle.sx_expand.specs.Inside.{Inside}
 use Rattle.sx_expand.specs.Keywords.{keyword, seen_in, keyword_in, all_keywords, keywords, with_keywords}
-use Rattle.sx_expand_laws.specs.States.{IsOwn, Sound, Reach, Later}
+use Rattle.sx_expand_laws.specs.States.{IsOwn, Reach, Later}
 use Rattle.sx_expand_laws.proofs.Acts.{Gave, gave-after, gave-less, gave-both, gave-each, gave-within}
 use Rattle.sx_expand_laws.proofs.BindingKeywords.{BindsKeywords, binds-keywords}
-use Rattle.sx_expand_laws.proofs.Compiled.{variable_label}
 use Rattle.sx_expand_laws.proofs.Expand.{GivesGood, Safe}
-use Rattle.sx_expand_laws.proofs.Fresh.{Made, each-at, each-map}
+use Rattle.sx_expand_laws.proofs.Fresh.{Made, each-at}
 use Rattle.sx_expand_laws.proofs.Good.{Good}
 use Rattle.sx_expand_laws.proofs.Items.{wait_kinds}
 use Rattle.sx_expand_laws.proofs.LineLabels.{kind_labels}
 use Rattle.sx_expand_laws.proofs.Naming.{as_frame, as_label, counted}
 use Rattle.sx_expand_laws.proofs.Uses.{later-apart, finish-later}
 use Rattle.sx_expand_laws.proofs.WellMade.{good-well-made}
-use Rattle.sx_expand_laws.proofs.Spent.{Known, Has, as_code, IsSpent, Unspent, Tracks, tracks-self, AreUnspent, Away, AwayCore, away-append, away-round, away-later, AwayCase, all-away, away-has, GoodExpression, KeptGood, kept-less, Begins, Onward}
+use Rattle.sx_expand_laws.proofs.Spent.{Known, Has, as_code, IsSpent, Tracks, AreUnspent, AwayCore, away-append, away-round, away-later, AwayCase, all-away, away-has, GoodExpression, KeptGood, kept-less, Begins, Onward}
 use Rattle.sx_expand_laws.proofs.SpentOnStage.{Tells, TellsBut, finish-told}
-use Rattle.sx_expand_laws.proofs.SpentBinding.{Same, keywords-told, begins-later, onward-self, onward-then, onward-later, onward-but, onward-counted, onward-cut}
+use Rattle.sx_expand_laws.proofs.SpentBinding.{keywords-told, begins-later, onward-self, onward-then, onward-but, onward-counted, onward-cut}
 
 -- the labels that wait for their values
 abbrev pub taken_labels : Taken → List Label

@@ -1,7 +1,7 @@
 -- All forms spare the names of keywords, however deep they may nest.
-use Rattle.std.proofs.Common.{◌≡◌, ℕ, zero, suc, Bool, true, false, List, [], ◌∷◌, Option, None, Some, Result, Ok, Err, refl, sym, ◌∙◌, ap, subst, arith}
+use Rattle.std.proofs.Common.{◌≡◌, ℕ, zero, suc, Bool, true, false, List, None, refl, sym, ap, subst}
 use Rattle.std.specs.Prelude.{nat_lt}
-use Rattle.sx_base.specs.Act.{after, give}
+use Rattle.sx_base.specs.Act.{after}
 use Rattle.sx_base.specs.declared.library.LibName.{LibName}
 use Rattle.sx_base.specs.declared.name.Label.{Label}
 use Rattle.sx_base.specs.declared.span.Span.{Span}
@@ -9,7 +9,6 @@ use Rattle.sx_tree.specs.Tree.{Tree}
 use Rattle.sx_core.specs.Core.{instance}
 use Rattle.sx_core.specs.declared.record.LibRecord.{LibRecord}
 use Rattle.sx_shapes.specs.At.{place_of}
-use Rattle.sx_stage.specs.declared.keyword.Keyword.{Keyword}
 use Rattle.sx_standing.specs.Patterns.{template_of}
 use Rattle.sx_standing.specs.Standing.{standing_of}
 use Rattle.sx_standing.specs.State.{State}
@@ -31,7 +30,7 @@ use Rattle.sx_expand_laws.proofs.Forms.{inside-safe}
 use Rattle.sx_expand_laws.proofs.Plans.{IsOfForms, IsTemplate, template-is, plan-later, plan-cases}
 use Rattle.sx_expand_laws.proofs.References.{RefersBy, AssignsBy, Refers, reference-is, assign-is}
 use Rattle.sx_expand_laws.proofs.Uses.{asks-later, next-later}
-use Rattle.sx_expand_laws.proofs.Spent.{Known, Begins, Onward}
+use Rattle.sx_expand_laws.proofs.Spent.{Begins, Onward}
 use Rattle.sx_expand_laws.proofs.SpentOnStage.{Tells, next-told, variable-told}
 use Rattle.sx_expand_laws.proofs.SpentBinding.{onward-self, onward-then, onward-later}
 use Rattle.sx_expand_laws.proofs.Spares.{Spares, Gives, goes, C}

@@ -1,8 +1,6 @@
 -- Bodies spare the names of keywords, given that what is done inside forms does.
-use Rattle.std.proofs.Common.{◌≡◌, ℕ, ◌+◌, Bool, true, false, List, [], ◌∷◌, ◌++◌, map, Option, None, Some, refl, sym, ◌∙◌, ap, subst, arith}
+use Rattle.std.proofs.Common.{◌≡◌, ℕ, ◌+◌, Bool, true, List, [], ◌∷◌, ◌++◌, map, Option, None, Some, refl, sym, subst}
 use Rattle.sx_base.specs.Act.{after, give}
-use Rattle.sx_base.specs.Datum as datum
-use Rattle.sx_base.specs.declared.atom.Atom.TheVariants as atoms
 use Rattle.sx_base.specs.declared.library.LibName.{LibName}
 use Rattle.sx_base.specs.declared.name.CodeNo.{CodeNo}
 use Rattle.sx_base.specs.declared.name.Label.{Label}
@@ -29,11 +27,11 @@ use Rattle.sx_heads.specs.declared.taken.Waits.TheVariants as waits
 use Rattle.sx_expand.specs.Body.{splice, no_value, value_of, finish_as, finish_one, finish_all, sequence_of, inits_in, values_in, with_inits, body_core, finish, lambda_at, body_in, body}
 use Rattle.sx_expand.specs.Inside.{Inside, deeper}
 use Rattle.sx_expand_laws.proofs.Acts.{Gave, gave-less, gave-if, gave-each, gave-gather}
-use Rattle.sx_expand_laws.proofs.Items.{wait_kind, waiting_kind, wait_kinds}
+use Rattle.sx_expand_laws.proofs.Items.{wait_kind, wait_kinds}
 use Rattle.sx_expand_laws.proofs.LineLabels.{kind_labels}
 use Rattle.sx_expand_laws.proofs.Lines.{line_kind, kinds}
 use Rattle.sx_expand_laws.proofs.Naming.{as_frame, counted}
-use Rattle.sx_expand_laws.proofs.Spent.{Unspent, Tracks, AreUnspent, Away, away-append, away-round, AwayCase, AwayInit, cases-away, inits-away, unspent-later, unspent-all, Begins, Onward, counted-unspent}
+use Rattle.sx_expand_laws.proofs.Spent.{Unspent, Tracks, AreUnspent, away-append, away-round, AwayCase, AwayInit, cases-away, inits-away, unspent-later, unspent-all, Begins, Onward, counted-unspent}
 use Rattle.sx_expand_laws.proofs.SpentBinding.{onward-self, onward-then, onward-counted}
 use Rattle.sx_expand_laws.proofs.Spares.{taken_labels, Spares, Gives, goes, goes-within, C, core-lift, sequence-away}
 

@@ -1,6 +1,5 @@
 -- Procedures, `letrec` and `syntax-case` spare the names of keywords, given that what is done inside forms does; so all forms do.
-use Rattle.std.proofs.Common.{◌≡◌, ℕ, zero, suc, ◌+◌, Bool, true, false, List, [], ◌∷◌, ◌++◌, map, Option, None, Some, Result, Ok, Err, refl, sym, ◌∙◌, ap, subst, arith}
-use Rattle.std.specs.Prelude.{nat_lt}
+use Rattle.std.proofs.Common.{◌≡◌, ℕ, ◌+◌, Bool, true, false, List, [], ◌∷◌, ◌++◌, map, Option, None, Some, refl, sym, ◌∙◌, subst}
 use Rattle.sx_base.specs.Act.{after, give}
 use Rattle.sx_base.specs.Named.{Named}
 use Rattle.sx_base.specs.declared.library.LibName.{LibName}
@@ -10,60 +9,45 @@ use Rattle.sx_base.specs.declared.name.Label.{Label}
 use Rattle.sx_base.specs.declared.span.Span.{Span}
 use Rattle.sx_tree.specs.Changes.{stamp}
 use Rattle.sx_tree.specs.Tree.{Tree}
-use Rattle.sx_core.specs.Core.{PlainCore, procedure, letrec, matching, instance}
+use Rattle.sx_core.specs.Core.{PlainCore, procedure, letrec, matching}
 use Rattle.sx_core.specs.CoreView.{inits, cases, clauses}
 use Rattle.sx_core.specs.References.{variables, formals_labels, binders, init_binders, clause_binders}
 use Rattle.sx_core.specs.declared.code.Clause.{Clause}
 use Rattle.sx_core.specs.declared.code.Init.{Init}
 use Rattle.sx_core.specs.declared.code.Lambda.{Lambda}
-use Rattle.sx_core.specs.declared.record.LibRecord.{LibRecord}
 use Rattle.sx_core_laws.specs.Parts.{parts, init_parts, clause_parts}
 use Rattle.sx_core_laws.specs.Words.{Each}
 use Rattle.sx_pattern.specs.declared.compile.Compiled.{Compiled}
-use Rattle.sx_shapes.specs.At.{place_of}
 use Rattle.sx_shapes.specs.declared.shape.BindingSpec.{BindingSpec}
 use Rattle.sx_shapes.specs.declared.shape.FormalIds.{FormalIds}
 use Rattle.sx_shapes.specs.declared.shape.LambdaCase.{LambdaCase}
 use Rattle.sx_shapes.specs.declared.shape.PatternCase.{PatternCase}
 use Rattle.sx_stage.specs.declared.keyword.Keyword.{Keyword}
 use Rattle.sx_standing.specs.Binders.{bind_formals, bind_specs}
-use Rattle.sx_standing.specs.Patterns.{pattern_of, check_literals, bind_pattern, template_of}
-use Rattle.sx_standing.specs.Standing.{standing_of}
+use Rattle.sx_standing.specs.Patterns.{pattern_of, check_literals, bind_pattern}
 use Rattle.sx_standing.specs.State.{State, fresh, fresh_frame}
-use Rattle.sx_standing.specs.Uses.{asks_variable}
 use Rattle.sx_standing.specs.declared.binders.BoundSpec.{BoundSpec}
-use Rattle.sx_standing.specs.declared.standing.Standing.{Standing}
-use Rattle.sx_standing.specs.declared.standing.Standing.TheVariants as standing
-use Rattle.sx_heads.specs.Plan.{done, reference, assign, plan_of}
 use Rattle.sx_heads.specs.declared.plan.Plan.{Plan}
 use Rattle.sx_heads.specs.declared.plan.Plan.TheVariants as plans
 use Rattle.sx_expand.specs.Body.{body}
-use Rattle.sx_expand.specs.Expression.{case_in, lambda_case, lambda, one_case, all_cases, case_lambda, one_init, all_inits, letrec_in, letrec_form, in_sequence, fender, clause_in, pattern_clause, all_clauses, syntax_case, keywords_form, perform, perform_settled, form_at, inside}
+use Rattle.sx_expand.specs.Expression.{case_in, lambda_case, lambda, one_case, all_cases, case_lambda, one_init, all_inits, letrec_in, letrec_form, in_sequence, fender, clause_in, pattern_clause, all_clauses, syntax_case, keywords_form, perform}
 use Rattle.sx_expand.specs.Inside.{Inside, deeper}
 use Rattle.sx_expand.specs.Keywords.{with_keywords}
-use Rattle.sx_expand.specs.Settle.{next_form, too_many, set_step, step_of, step, settled_by, settle_to, settle}
-use Rattle.sx_expand.specs.declared.settle.Settled.{Settled}
-use Rattle.sx_expand.specs.declared.settle.Step.{Step}
-use Rattle.sx_expand.specs.declared.settle.Step.TheVariants as steps
 use Rattle.sx_expand_laws.specs.States.{Later}
-use Rattle.sx_expand_laws.proofs.Acts.{Gave, gave-after, gave-less, gave-both, gave-if, gave-each}
+use Rattle.sx_expand_laws.proofs.Acts.{Gave, gave-after, gave-less, gave-both, gave-each}
 use Rattle.sx_expand_laws.proofs.Binding.{BindsAll, spec_label, binds-formals, binds-specs}
 use Rattle.sx_expand_laws.proofs.Changes.{BindsPattern, pattern-bound, pattern-adds}
 use Rattle.sx_expand_laws.proofs.Compiled.{variable_label}
 use Rattle.sx_expand_laws.proofs.Compiled as compiled
-use Rattle.sx_expand_laws.proofs.Forms.{inside-safe}
 use Rattle.sx_expand_laws.proofs.Fresh.{FreshLabels}
 use Rattle.sx_expand_laws.proofs.Good.{label_of}
 use Rattle.sx_expand_laws.proofs.Naming.{as_frame, counted}
-use Rattle.sx_expand_laws.proofs.Plans.{IsOfForms, IsTemplate, template-is, plan-later, plan-cases}
-use Rattle.sx_expand_laws.proofs.References.{RefersBy, AssignsBy, Refers, reference-is, assign-is}
-use Rattle.sx_expand_laws.proofs.Uses.{Patterned, pattern-later, literals-later, asks-later, next-later}
-use Rattle.sx_expand_laws.proofs.Spent.{Known, SpentIn, Unspent, Tracks, tracks-self, AreUnspent, Away, AwayCore, away-append, away-round, away-later, AwayCase, AwayInit, AwayFender, AwayClause, inits-away, clauses-away, unspent-later, unspent-all, labels-away, Begins, Onward, counted-unspent, bound-unspent}
-use Rattle.sx_expand_laws.proofs.SpentOnStage.{Tells, next-told, variable-told}
+use Rattle.sx_expand_laws.proofs.Uses.{Patterned, pattern-later, literals-later}
+use Rattle.sx_expand_laws.proofs.Spent.{Known, Tracks, AreUnspent, Away, away-append, away-round, away-later, AwayCase, AwayInit, AwayFender, AwayClause, inits-away, clauses-away, unspent-later, unspent-all, labels-away, Begins, Onward, counted-unspent, bound-unspent}
+use Rattle.sx_expand_laws.proofs.SpentOnStage.{Tells}
 use Rattle.sx_expand_laws.proofs.SpentBinding.{Same, formals-same, specs-same, pattern-same, literals-same, bind-pattern-same, onward-self, onward-then, onward-later, onward-but, onward-counted}
 use Rattle.sx_expand_laws.proofs.Spares.{Spares, Gives, goes, goes-each, goes-within, C, core-lift, N, spares-application, spares-conditional, spares-set, spares-sequence, spares-keywords}
 use Rattle.sx_expand_laws.proofs.SparesBodies.{procedure-away, spares-body}
-use Rattle.sx_expand_laws.proofs.SparesItems.{spares-item}
 
 module _ (own : LibName) (given : List Label) where
   abbrev B : State → Type 0

@@ -1,15 +1,12 @@
 -- Forms of a body spare the names of keywords in the first pass.
-use Rattle.std.proofs.Common.{◌≡◌, ℕ, zero, suc, ◌+◌, ◌<◌, Bool, true, false, List, [], ◌∷◌, ◌++◌, map, Option, None, Some, Result, Ok, Err, refl, sym, ◌∙◌, ap, subst, arith, if◌then◌else◌}
+use Rattle.std.proofs.Common.{◌≡◌, ℕ, zero, suc, ◌+◌, Bool, true, false, List, [], ◌∷◌, ◌++◌, Option, None, Some, Ok, refl, sym, ap, subst, arith, if◌then◌else◌}
 use Rattle.std.specs.Prelude.{◌||◌, ◌&&◌, not, nat_lt}
 use Rattle.sx_base.specs.Act.{after, give}
-use Rattle.sx_base.specs.declared.fault.Fault.{Fault}
 use Rattle.sx_base.specs.declared.fault.FaultKind.TheVariants as kind
 use Rattle.sx_base.specs.declared.library.LibName.{LibName}
 use Rattle.sx_base.specs.declared.name.Label.{Label}
-use Rattle.sx_base.specs.declared.span.Span.{Span}
 use Rattle.sx_tree.specs.Tree.{Tree}
 use Rattle.sx_core.specs.declared.record.LibRecord.{LibRecord}
-use Rattle.sx_core_laws.specs.Words.{Each}
 use Rattle.sx_shapes.specs.At.{place_of}
 use Rattle.sx_shapes.specs.declared.shape.BindingSpec.{BindingSpec}
 use Rattle.sx_shapes.specs.declared.shape.Shape.{Shape}
@@ -39,7 +36,7 @@ use Rattle.sx_expand.specs.declared.settle.SettledItem.{SettledItem}
 use Rattle.sx_expand_laws.specs.States.{Later}
 use Rattle.sx_expand_laws.proofs.Acts.{Gave, gave-after, gave-less, gave-both, gave-if}
 use Rattle.sx_expand_laws.proofs.BindingKeywords.{BindsKeywords}
-use Rattle.sx_expand_laws.proofs.Items.{waiting_kind, wait_kinds, wait_kind, with_kept, with_expression, item-cases, defines-keyword, IsPlaced}
+use Rattle.sx_expand_laws.proofs.Items.{waiting_kind, wait_kinds, wait_kind, with_expression, item-cases, defines-keyword, IsPlaced}
 use Rattle.sx_expand_laws.proofs.LineLabels.{kind_labels}
 use Rattle.sx_expand_laws.proofs.Naming.{as_label, Binds, binds}
 use Rattle.sx_expand_laws.proofs.Uses.{asks-later, next-later}
@@ -47,7 +44,7 @@ use Rattle.sx_expand_laws.proofs.Spent.{Known, SpentIn, Unspent, AreUnspent, Kep
 use Rattle.sx_expand_laws.proofs.SpentOnStage.{Tells, next-told, variable-told}
 use Rattle.sx_expand_laws.proofs.SpentBinding.{Same, variable-same, keyword-told, onward-self, onward-then, onward-later, onward-but}
 use Rattle.sx_expand_laws.proofs.Spares.{taken_labels, Spares, Gives, goes, N, spares-keyword, spares-keywords}
-use Rattle.sx_expand_laws.proofs.SparesBodies.{T, spares-splice}
+use Rattle.sx_expand_laws.proofs.SparesBodies.{spares-splice}
 
 module _ (own : LibName) (given : List Label) where
   abbrev B : State → Type 0

@@ -1,7 +1,7 @@
 -- Binding leaves keywords as they are, but for those that come and wait.
-use Rattle.std.proofs.Common.{◌≡◌, ℕ, zero, suc, ◌≤◌, Bool, true, false, List, [], ◌∷◌, ◌++◌, Option, None, Some, Result, Ok, Err, refl, sym, ◌∙◌, ap, subst, arith, inl, inr, if◌then◌else◌}
+use Rattle.std.proofs.Common.{◌≡◌, ℕ, zero, suc, Bool, true, false, List, [], ◌∷◌, Option, None, Some, Result, Ok, Err, refl, ◌∙◌, arith, inl, inr, if◌then◌else◌}
 use Rattle.std.specs.Prelude.{◌⊎◌, is_some, take}
-use Rattle.sx_base.specs.Act.{after, give, gather}
+use Rattle.sx_base.specs.Act.{after, give}
 use Rattle.sx_base.specs.Named.{Named}
 use Rattle.sx_base.specs.declared.fault.Bare.{Bare}
 use Rattle.sx_base.specs.declared.fault.Fault.{Fault}
@@ -34,13 +34,13 @@ use Rattle.sx_standing.specs.Patterns.{pattern_of, check_literals, put_pattern_v
 use Rattle.sx_standing.specs.State.{State, fresh, fault_form, stage_of, staged, on_stage}
 use Rattle.sx_standing.specs.Uses.{bind_keyword, bind_keyword_as, bind_keywords, put_keyword}
 use Rattle.sx_standing.specs.declared.binders.BoundSpec.{BoundSpec}
-use Rattle.sx_expand_laws.specs.States.{IsOwn, IsTop, IsBound, Sound, Grows, Adds, Later, LaterBut}
+use Rattle.sx_expand_laws.specs.States.{IsOwn, IsTop, IsBound, Grows, Adds, Later, LaterBut}
 use Rattle.sx_expand_laws.proofs.Acts.{Gave, gave-after, gave-less, gave-if, gave-each, gave-gather}
 use Rattle.sx_expand_laws.proofs.Grows.{grows-same}
 use Rattle.sx_expand_laws.proofs.Later.{sound-grown}
 use Rattle.sx_expand_laws.proofs.Naming.{as_label, counted, counted-later}
 use Rattle.sx_expand_laws.proofs.Scope.{adds-later}
-use Rattle.sx_expand_laws.proofs.Spent.{Known, Tracks, tracks-self, tracks-then, KeptGood, kept-less, Begins, Onward}
+use Rattle.sx_expand_laws.proofs.Spent.{Known, tracks-self, tracks-then, KeptGood, kept-less, Begins, Onward}
 use Rattle.sx_expand_laws.proofs.SpentOnStage.{Tells, put-told}
 
 abbrev pub Same : {A : Type 0} → State → A → State → Type 0

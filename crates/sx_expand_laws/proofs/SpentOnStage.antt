@@ -1,5 +1,5 @@
 -- What a stage says of keywords while they are used: no expression comes to be kept but that of the keyword that is finished.
-use Rattle.std.proofs.Common.{◌≡◌, ℕ, Bool, true, false, List, [], ◌∷◌, length, Option, None, Some, Result, Ok, Err, refl, sym, ◌∙◌, ap, subst, inl, inr, if◌then◌else◌}
+use Rattle.std.proofs.Common.{◌≡◌, ℕ, Bool, true, false, List, [], ◌∷◌, length, Option, None, Some, Result, Ok, Err, refl, sym, ◌∙◌, ap, inl, inr, if◌then◌else◌}
 use Rattle.std.specs.Prelude.{◌⊎◌}
 use Rattle.indexmap.specs.IndexMap.{insert_entry}
 use Rattle.sx_base.specs.Act.{after, give}
@@ -28,7 +28,7 @@ use Rattle.sx_stage.specs.Transformers.{is_transformer, transformer_only, transf
 use Rattle.sx_stage.specs.Uses.{procedure_in, call_procedure, tree_at, read_answer, transform, cut, transform_and_cut, transform_marked, used}
 use Rattle.sx_stage.specs.declared.keyword.Keyword.{Keyword}
 use Rattle.sx_stage.specs.declared.keyword.Keyword.TheVariants as keyword
-use Rattle.sx_standing.specs.State.{State, stage_of, with_stage, staged}
+use Rattle.sx_standing.specs.State.{State, stage_of, staged}
 use Rattle.sx_standing.specs.Uses as standing
 use Rattle.sx_standing.specs.Uses.{use_keyword, asks_variable, macro_expression}
 use Rattle.sx_expand.specs.Settle.{next_form}

@@ -1,21 +1,17 @@
 -- What the template of a form is: its pattern variables are those that are bound, with their depths, and each ellipsis has a variable of
 -- depth before it.
 use Rattle.std.proofs.Common.{◌≡◌, ℕ, zero, suc, ◌+◌, ◌-◌, ◌≤◌, ◌<◌, Bool, true, false, List, [], ◌∷◌, ◌++◌, length, Option, None, Some, Result, Ok, Err, refl, sym, ◌∙◌, ap, subst, arith, inl, inr, slice_get, nat_lt, if◌then◌else◌}
-use Rattle.std.specs.Prelude.{◌⊎◌, ◌||◌, max, nat_eq}
+use Rattle.std.specs.Prelude.{◌⊎◌, max, nat_eq}
 use Rattle.std.specs.Cmp.{unsigned_Decides}
 use Rattle.std.proofs.lemmas.Bool.Decides.{nat_tests}
 use Rattle.sx_base.specs.Gives.{◌>>=◌}
-use Rattle.sx_base.specs.declared.fault.Bare.{Bare}
 use Rattle.sx_base.specs.declared.fault.Fault.{Fault}
 use Rattle.sx_base.specs.declared.name.Label.{Label}
 use Rattle.sx_base.specs.declared.span.Span.{Span}
-use Rattle.sx_tree.specs.Measures.{within}
 use Rattle.sx_tree.specs.Tree as tree
-use Rattle.sx_tree.specs.Tree.{Tree, list_of, vector_of}
-use Rattle.sx_frames.specs.Scope.{Scope}
+use Rattle.sx_tree.specs.Tree.{Tree}
 use Rattle.sx_scope.specs.Stands.{stands}
 use Rattle.sx_core.specs.Bindings.{bound_to}
-use Rattle.sx_core.specs.Labels.{has_label}
 use Rattle.sx_core.specs.Template.{PlainTemplate, variable, constant, list, vector, PlainItems, none, more}
 use Rattle.sx_core.specs.declared.binding.Binding.{Binding}
 use Rattle.sx_core.specs.declared.binding.Binding.TheVariants as binding
@@ -24,7 +20,7 @@ use Rattle.sx_core_laws.specs.Templates.{Depths, HasDepth, ItemHasDepth, Suits, 
 use Rattle.sx_core_laws.specs.Words.{Each, Among}
 use Rattle.sx_shapes.specs.Lists.{is_nil, tail_of}
 use Rattle.sx_standing.specs.Patterns.{has_variables, has_item_variables}
-use Rattle.sx_template.specs.Compile.{Context, variable_made, bound_made, label_made, is_special, leaf_made, Element, dots_behind, reach, with_ellipses, fitted, item_made, Walked, step, walked, constant_of, template_of, items_of, reaches, is_fixed, all_fixed, any_changed, trees, rebuilt, placed, fixed_list, list_joined, fixed_vector, vector_joined, escape_of, unescaped, list_parts, list_made, vector_made, template, elements_made, tail_made, compiled}
+use Rattle.sx_template.specs.Compile.{Context, variable_made, bound_made, label_made, is_special, leaf_made, Element, dots_behind, reach, with_ellipses, fitted, item_made, Walked, step, walked, constant_of, template_of, items_of, reaches, is_fixed, rebuilt, placed, fixed_list, list_joined, fixed_vector, vector_joined, escape_of, unescaped, list_parts, list_made, vector_made, template, elements_made, tail_made, compiled}
 use Rattle.sx_pattern.specs.Keywords.{is_ellipsis}
 use Rattle.sx_expand_laws.proofs.Compiled.{Given}
 use Rattle.sx_expand_laws.proofs.Fresh.{each-append}
