@@ -87,7 +87,7 @@ module _ {X : Type 0} (h d : PlainPattern → List X) (H : PlainPatterns → Lis
       by (Some r) e =
           ap (λ o. H (patterns_on parts.before (dots_of o (parts.after ++ p ∷ [])))) e
           ∙ on-behind parts.before (dots r (patterns parts.after)) (dots r (patterns (parts.after ++ p ∷ []))) (h p)
-            (is-dots r (patterns (parts.after ++ p ∷ [])) ∙ ap (λ xs. d r ++ xs) (on-more parts.after p) ∙ sym (append_assoc (d r) (H (patterns parts.after)) (h p)) ∙ ap (λ xs. xs ++ h p) (sym (is-dots r (patterns parts.after))))
+          (is-dots r (patterns (parts.after ++ p ∷ [])) ∙ ap (λ xs. d r ++ xs) (on-more parts.after p) ∙ sym (append_assoc (d r) (H (patterns parts.after)) (h p)) ∙ ap (λ xs. xs ++ h p) (sym (is-dots r (patterns parts.after))))
           ∙ ap (λ o. H (patterns_on parts.before (dots_of o parts.after)) ++ h p) (sym e)
 
   pub part-dots : (parts : PatternParts) (p : PlainPattern) → parts.repeated ≡ None → parts.after ≡ [] → H (parts_of (record parts { repeated = Some p })) ≡ H (parts_of parts) ++ d p

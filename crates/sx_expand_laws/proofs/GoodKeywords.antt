@@ -71,8 +71,7 @@ module _ (own : LibName) (given : List Label) (go : Inside) (spares : Spares own
   exports-same : (s t : State) → SameScope s t → Begins own given s → Onward own given s t
   exports-same s t h b =
       let up : s.names.number ≤ t.names.number = let e = ap (λ (n : Named). n.number) h.names in omega (arith, e) in
-      let less = kept-less own given s t up (λ k c o e. subst (λ (ks : List (Label × Keyword)). Known ks k c) h.keywords e) b.kept in
-      (
+      let less = kept-less own given s t up (λ k c o e. subst (λ (ks : List (Label × Keyword)). Known ks k c) h.keywords e) b.kept in (
         begins-by own given s t h.library (ap (λ (n : Named). n.library) h.names ∙ b.sound.next) (grows-same own s t h.frames h.bindings h.index up) bound (λ l v o x. inl (ap (λ bs. bound_to bs l) (sym h.bindings) ∙ x.0, x.1)) less.0 b,
         less.1,
       )

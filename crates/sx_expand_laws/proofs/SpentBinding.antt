@@ -122,7 +122,7 @@ keyword-told f place level b s =
 
     by_row : (r : Bool)
         → Gave {A = BoundSpec} (λ x u. Tells s.keywords u.keywords) (after (row_put b.id place (counted s) (if r then Err (second_binder (symbol_of b.id)) else Ok (with_row s.frames f (row_for b.id (as_label s.names))))) (λ _ t.
-          after (put_keyword (as_label s.names) level t) (λ _ u. after (on_stage (stage.begin_keyword (as_label s.names) (place_of b.init place)) u) (λ _. give (record { label = as_label s.names; init = b.init })))))
+        after (put_keyword (as_label s.names) level t) (λ _ u. after (on_stage (stage.begin_keyword (as_label s.names) (place_of b.init place)) u) (λ _. give (record { label = as_label s.names; init = b.init })))))
     by_row true = tt
     by_row false = λ k c e. waits k c (put-told s.keywords (as_label s.names) (keyword.Waiting (place_of b.init place)) k c e)
 
