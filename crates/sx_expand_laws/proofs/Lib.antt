@@ -43,3 +43,4 @@ pub mod SparesItems
 pub mod SparesForms
 pub mod SparesAll
 pub mod GoodKeywords
+pub mod Replaced

@@ -4,6 +4,7 @@ ghost use Rattle.sx_expand_laws.specs.Good.{RecordsAreGood};
 ghost use Rattle.sx_expand_laws.specs.InScope.{ScopeStays};
 ghost use Rattle.sx_expand_laws.specs.Keywords.{KeywordsAreGood};
 ghost use Rattle.sx_expand_laws.specs.Serving.{FollowersServe, RecordsServe};
+ghost use Rattle.sx_expand_laws.specs.Uses.{UsesAreReplaced};
 ghost use Rattle.sx_expand_laws.specs.Named.{ReferencesNameBinders, AssignmentsNameBinders, BindersAreFound, BindersStay};
 
 /// Every record that expansion gives is closed, bound once and well made.
@@ -33,6 +34,11 @@ pub fn references_name_binders()
     ensures assignments { AssignmentsNameBinders }
     ensures binders { BindersAreFound }
     ensures stay { BindersStay }
+{}
+
+/// A use of a keyword expands to what the form expands to that its transformer gives.
+pub fn uses_are_replaced()
+    ensures { UsesAreReplaced }
 {}
 
 /// What comes into scope in an expression is out of scope after it.
