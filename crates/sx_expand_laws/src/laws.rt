@@ -4,7 +4,7 @@ ghost use Rattle.sx_expand_laws.specs.Good.{RecordsAreGood};
 ghost use Rattle.sx_expand_laws.specs.InScope.{ScopeStays};
 ghost use Rattle.sx_expand_laws.specs.Keywords.{KeywordsAreGood};
 ghost use Rattle.sx_expand_laws.specs.Serving.{FollowersServe, RecordsServe};
-ghost use Rattle.sx_expand_laws.specs.Uses.{UsesAreReplaced};
+ghost use Rattle.sx_expand_laws.specs.Uses.{UsesAreReplaced, BodyUsesAreReplaced};
 ghost use Rattle.sx_expand_laws.specs.Named.{ReferencesNameBinders, AssignmentsNameBinders, BindersAreFound, BindersStay};
 
 /// Every record that expansion gives is closed, bound once and well made.
@@ -36,9 +36,10 @@ pub fn references_name_binders()
     ensures stay { BindersStay }
 {}
 
-/// A use of a keyword expands to what the form expands to that its transformer gives.
+/// A use of a keyword expands to what the form expands to that its transformer gives, and in a body it is taken as that form.
 pub fn uses_are_replaced()
-    ensures { UsesAreReplaced }
+    ensures expressions { UsesAreReplaced }
+    ensures bodies { BodyUsesAreReplaced }
 {}
 
 /// What comes into scope in an expression is out of scope after it.
