@@ -46,7 +46,6 @@ use Rattle.sx_expand_laws.specs.States.{IsBound, IsAdded}
 use Rattle.sx_expand_laws.proofs.Acts.{Gave, gave-after}
 use Rattle.sx_expand_laws.proofs.Fresh.{each-at, each-of, each-map, each-append, among-parts, once-append}
 use Rattle.sx_expand_laws.proofs.Grows.{grows-same}
-use Rattle.sx_expand_laws.proofs.Lines.{kinds}
 use Rattle.sx_expand_laws.proofs.LineLabels.{kind_labels}
 use Rattle.sx_expand_laws.proofs.Records.{Runs, record-runs, records-good}
 use Rattle.sx_expand_laws.proofs.Serving.{bindings-hold, keyword-kept}

@@ -11,7 +11,7 @@ use Rattle.sx_base.specs.declared.name.Label.{Label}
 use Rattle.sx_base.specs.declared.span.Span.{Span}
 use Rattle.sx_tree.specs.Changes.{stamp}
 use Rattle.sx_tree.specs.Tree.{Tree}
-use Rattle.sx_core.specs.Core.{PlainCore, one_armed, two_armed, assignment, sequence, procedure, call, cores}
+use Rattle.sx_core.specs.Core.{PlainCore, one_armed, two_armed, assignment, sequence, call, cores}
 use Rattle.sx_core.specs.References.{binders, all_binders}
 use Rattle.sx_core_laws.specs.Parts.{parts, all_parts, code_numbers}
 use Rattle.sx_core_laws.specs.Words.{Each}
