@@ -20,7 +20,7 @@ use Rattle.sx_eval.specs.Codes.{Codes, with_procedure}
 use Rattle.sx_expand.specs.Expanding.{expression}
 use Rattle.sx_prelude.specs.declared.prelude.Prelude.{Prelude}
 use Rattle.sx_prelude.specs.declared.prelude.Prelude.TheVariants as preludes
-use Rattle.sx_reader.specs.Reading.{data_of}
+use Rattle.sx_reader.specs.Read.{data_of}
 use Rattle.sx_standing.specs.Start.{started, first_frame}
 use Rattle.sx_standing.specs.State.{State, Does}
 use Rattle.sx_tree.specs.Changes.{stamp}

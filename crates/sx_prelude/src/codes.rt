@@ -81,10 +81,10 @@ fn place_of(alloc: Global, op: &Op) -> Result<Span, Memory>
 }
 
 /// The first datum as a tree.
-fn first_tree(alloc: Global, data: &[Datum], place: &Span) -> Result<Syn, Stop>
-    ensures { Gives (λ t. t) result (first_tree place.now data.now) }
+fn first_tree(alloc: Global, forms: &[Datum], place: &Span) -> Result<Syn, Stop>
+    ensures { Gives (λ t. t) result (first_tree place.now forms.now) }
 {
-    let Some(datum) = data.first() else {
+    let Some(datum) = forms.first() else {
         return Err(Stop::Fault(Fault {
             kind: FaultKind::NoExpression,
             span: place.share()?,
@@ -111,8 +111,8 @@ fn tree_in(alloc: Global, op: Op, place: &Span) -> Result<Syn, Stop>
         Some(text) => text,
         None => &[],
     };
-    let data = read_all(alloc, &place.file, text)?;
-    first_tree(alloc, &data, place)
+    let found = read_all(alloc, &place.file, text)?;
+    first_tree(alloc, &found, place)
 }
 
 /// A procedure without arguments, whose body is the text.
