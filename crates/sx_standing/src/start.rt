@@ -153,8 +153,22 @@ fn expansion_with(
     codes: IndexMap<CodeNo, Rc<Code>>,
 ) -> Expansion
     ensures { result ≡ record {
-        library = beginning.library.value; names = beginning.names; frames = beginning.frames; bindings = beginning.bindings; exports = []; assigned = [];
-        uses_left = 1000000; index = 0; scope = []; cells = []; codes = table.seen codes.entries; globals = []; evaluated = []; keywords = []; spent = 0 } }
+      library = beginning.library.value;
+      names = beginning.names;
+      frames = beginning.frames;
+      bindings = beginning.bindings;
+      exports = [];
+      assigned = [];
+      uses_left = 1000000;
+      index = 0;
+      scope = [];
+      cells = [];
+      codes = table.seen codes.entries;
+      globals = [];
+      evaluated = [];
+      keywords = [];
+      spent = 0;
+    } }
 {
     let Beginning {
         library,

@@ -6,7 +6,7 @@ use Rattle.sx_standing.specs.Patterns.{bind_next}
 use Rattle.sx_standing.proofs.expansion.Expansion.bind_pattern.Goals as goal
 
 pub loop-variable-init : goal.loop-variable-init
-loop-variable-init c = rw map-id c.args.variables.now refl
+loop-variable-init c = rw (map-id c.args.variables.now) refl
 
 pub returns-in_err-bind_pattern_variable : goal.returns-in_err-bind_pattern_variable
 returns-in_err-bind_pattern_variable c =
