@@ -106,7 +106,7 @@ fn step_of<N: Ledger, L: Ledger>(
 }
 
 #[tactic(auto, unfolding(crate::specs::Settle::step))]
-fn step<N: Ledger, L: Ledger>(
+fn next_step<N: Ledger, L: Ledger>(
     state: &mut Expansion,
     form: &Syn,
     place: &Span,
@@ -136,7 +136,7 @@ pub(crate) fn settle<N: Ledger, L: Ledger>(
     let mut form = form.share()?;
     let mut place = place.share()?;
     loop {
-        let label = match step(state, &form, &place, level, means, counts)? {
+        let label = match next_step(state, &form, &place, level, means, counts)? {
             Step::Plan(plan) => return Ok(Settled { place, form, plan }),
             Step::Use(label) => label,
         };

@@ -4,7 +4,8 @@ use Rattle.std.proofs.lemmas.List.{map-id}
 use Rattle.sx_base.proofs.Loops.{each_on, each_stops, each_done, gather_on, gather_stops, gather_done}
 use Rattle.sx_stage.specs.Libraries.{earlier_in}
 use Rattle.sx_expand.specs.Body.{finish_one}
-use Rattle.sx_expand.specs.Expression.{inside, one_case, one_init}
+use Rattle.sx_expand.specs.Expression.{inside, one_case, one_init, pattern_clause}
+use Rattle.sx_expand.specs.Keywords.{keyword_in}
 use Rattle.sx_expand.proofs.+form.Goals as goal
 
 pub expression::in_order-loop-form-init : goal.expression::in_order-loop-form-init
@@ -81,3 +82,33 @@ body::splice-loop-form-preserved g h t c =
 
 pub body::splice-returns : goal.body::splice-returns
 body::splice-returns g h t c = gather_done (λ x. x) ((inside (earlier_in c.args.means.now.earlier) c.args.room).item c.args.at.now c.args.depth) c.args.forms.now c.loop-form.form-index c.loop-form.taken c.loop-form.state _ c.loop-form-test.false c.loop-form.invariant
+
+pub keywords::all_keywords-loop-one-init : goal.keywords::all_keywords-loop-one-init
+keywords::all_keywords-loop-one-init g h t c = rw (map-id c.args.bound.now) refl
+
+pub keywords::all_keywords-returns-in_err-keyword_in : goal.keywords::all_keywords-returns-in_err-keyword_in
+keywords::all_keywords-returns-in_err-keyword_in g h t c =
+    let p = err_from_is_err_and c.from_residual.result c.from_residual.ensures.1 in
+    rw (p.1, p.2) (gather_stops (λ x. x) (keyword_in (inside (earlier_in c.args.means.now.earlier) c.args.room) c.args.place.now c.args.level c.args.depth c.args.recursive c.args.frame.now) c.args.bound.now c.loop-one.one-index c.one-item.result tt c.loop-one.state _ c.in_err-keyword_in.field-0.0 c.loop-one-test.true c.one-item.is c.in_err-keyword_in.ensures c.loop-one.invariant)
+
+pub keywords::all_keywords-loop-one-preserved : goal.keywords::all_keywords-loop-one-preserved
+keywords::all_keywords-loop-one-preserved g h t c =
+    gather_on (λ x. x) (keyword_in (inside (earlier_in c.args.means.now.earlier) c.args.room) c.args.place.now c.args.level c.args.depth c.args.recursive c.args.frame.now) c.args.bound.now c.loop-one.one-index c.one-item.result tt c.loop-one.state _ tt c.keyword_in.new.state c.loop-one-test.true c.one-item.is c.in_ok-keyword_in.ensures c.loop-one.invariant
+
+pub keywords::all_keywords-returns : goal.keywords::all_keywords-returns
+keywords::all_keywords-returns g h t c = gather_done (λ x. x) (keyword_in (inside (earlier_in c.args.means.now.earlier) c.args.room) c.args.place.now c.args.level c.args.depth c.args.recursive c.args.frame.now) c.args.bound.now c.loop-one.one-index tt c.loop-one.state _ c.loop-one-test.false c.loop-one.invariant
+
+pub patterns::all_clauses-loop-case-init : goal.patterns::all_clauses-loop-case-init
+patterns::all_clauses-loop-case-init g h t c = rw (c.new-done.ensures.items, map-id c.args.cases.now) refl
+
+pub patterns::all_clauses-returns-in_err-one : goal.patterns::all_clauses-returns-in_err-one
+patterns::all_clauses-returns-in_err-one g h t c =
+    let p = err_from_is_err_and c.from_residual.result c.from_residual.ensures.1 in
+    rw (p.1, p.2) (each_stops (λ x. x) (pattern_clause (inside (earlier_in c.args.means.now.earlier) c.args.room) c.args.place.now c.args.level c.args.depth c.args.literals.now) c.loop-case.done.items c.args.cases.now c.loop-case.case-index c.case-item.result c.loop-case.state _ c.in_err-one.field-0.0 c.loop-case-test.true c.case-item.is c.in_err-one.ensures c.loop-case.invariant)
+
+pub patterns::all_clauses-loop-case-preserved : goal.patterns::all_clauses-loop-case-preserved
+patterns::all_clauses-loop-case-preserved g h t c =
+    rw c.in_ok-push.ensures.items (each_on (λ x. x) (pattern_clause (inside (earlier_in c.args.means.now.earlier) c.args.room) c.args.place.now c.args.level c.args.depth c.args.literals.now) c.loop-case.done.items c.args.cases.now c.loop-case.case-index c.case-item.result c.loop-case.state _ c.in_ok-one.one c.pattern_clause.new.state c.loop-case-test.true c.case-item.is c.in_ok-one.ensures c.loop-case.invariant)
+
+pub patterns::all_clauses-returns : goal.patterns::all_clauses-returns
+patterns::all_clauses-returns g h t c = each_done (λ x. x) (pattern_clause (inside (earlier_in c.args.means.now.earlier) c.args.room) c.args.place.now c.args.level c.args.depth c.args.literals.now) c.loop-case.done.items c.args.cases.now c.loop-case.case-index c.loop-case.state _ c.loop-case-test.false c.loop-case.invariant
