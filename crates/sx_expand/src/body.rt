@@ -127,7 +127,7 @@ fn item<N: Ledger, L: Ledger>(
 }
 
 #[cycle(form)]
-#[tactic(auto, unfolding(crate::specs::Body::item))]
+#[tactic(auto, unfolding(crate::specs::Body::item), using(crate::proofs::Steps::earlier_inside))]
 fn item_at<N: Ledger, L: Ledger>(
     state: &mut Expansion,
     at: &BodyAt,

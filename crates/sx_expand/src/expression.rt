@@ -106,7 +106,7 @@ pub fn expression<N: Ledger, L: Ledger>(
 }
 
 #[cycle(form)]
-#[tactic(auto, unfolding(crate::specs::Expression::form_at))]
+#[tactic(auto, unfolding(crate::specs::Expression::form_at), using(crate::proofs::Steps::earlier_inside))]
 fn form_at<N: Ledger, L: Ledger>(
     state: &mut Expansion,
     form: &Syn,

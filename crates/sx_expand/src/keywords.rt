@@ -27,7 +27,7 @@ use sx_syntax::syn::Syn;
 
 /// Expands the expression of a keyword, one level up and with nothing in scope, and evaluates it.
 #[cycle(form)]
-#[tactic(auto, unfolding(crate::specs::Keywords::keyword))]
+#[tactic(auto, unfolding(crate::specs::Keywords::keyword), using(crate::proofs::Steps::earlier_inside))]
 fn keyword<N: Ledger, L: Ledger>(
     state: &mut Expansion,
     bound: &BoundSpec,
@@ -145,7 +145,6 @@ fn keywords<N: Ledger, L: Ledger>(
 
 /// The forms among the keywords of `let-syntax` or `letrec-syntax`, which are evaluated.
 #[cycle(form)]
-#[tactic(auto, unfolding(crate::specs::Keywords::with_keywords))]
 pub(crate) fn with_keywords<N: Ledger, L: Ledger>(
     state: &mut Expansion,
     recursive: bool,
