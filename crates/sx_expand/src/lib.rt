@@ -25,3 +25,4 @@ pub mod libraries;
 pub mod patterns;
 pub mod settle;
 pub mod top;
+pub mod transformers;

@@ -1,10 +1,9 @@
 use Rattle.std.proofs.Common.{◌≡◌}
-use Rattle.sx_stage.specs.Libraries.{earlier_in}
 use Rattle.sx_expand.specs.Settle.{settle_to, settle}
 use Rattle.sx_expand.proofs.settle.settle.Given as goal
 
-abbrev pub invariant-loop-left : goal.invariant-loop-left
-invariant-loop-left g h l = settle_to (earlier_in l.means.earlier) l.left l.place l.level l.form l.state ≡ settle (earlier_in l.means.earlier) l.fn.place l.level l.fn.form l.fn.state
+abbrev pub invariant-loop-place : goal.invariant-loop-place
+invariant-loop-place g l = settle_to (g.M.Transformers.records l.means) l.left l.place l.level l.form l.state ≡ settle (g.M.Transformers.records l.means) l.fn.place l.level l.fn.form l.fn.state
 
-abbrev pub decreases-loop-left : goal.decreases-loop-left
-decreases-loop-left g h l = l.left
+abbrev pub decreases-loop-place : goal.decreases-loop-place
+decreases-loop-place g l = l.left
