@@ -52,7 +52,15 @@ fn run_counted<N: Ledger, L: Ledger>(
         nodes: &mut nodes,
         steps: &mut steps,
     };
-    Ok(top::run(alloc, words, &mut files, &mut out, &mut err, prims, &mut counts))
+    Ok(top::run(
+        alloc,
+        words,
+        &mut files,
+        &mut out,
+        &mut err,
+        prims,
+        &mut counts,
+    ))
 }
 
 // A run whose nodes and fuel nobody counts. Rows in order always fill the table.

@@ -244,7 +244,16 @@ fn finish_one<M: Transformers, N: Ledger, L: Ledger>(
     let depth = waiting.depth;
     match &waiting.what {
         Waits::Variable(label, value) => {
-            let value = value_of(state, value, place, level, deeper(depth), means, counts, room)?;
+            let value = value_of(
+                state,
+                value,
+                place,
+                level,
+                deeper(depth),
+                means,
+                counts,
+                room,
+            )?;
             Ok(Line::Define(label.share()?, value))
         }
         Waits::Procedure(label, form, ids, forms) => {
@@ -343,7 +352,16 @@ pub fn body<M: Transformers, N: Ledger, L: Ledger>(
         has_expression: false,
         moved: false,
     };
-    splice(state, &at, depth, &mut taken, forms.as_slice(), means, counts, room)?;
+    splice(
+        state,
+        &at,
+        depth,
+        &mut taken,
+        forms.as_slice(),
+        means,
+        counts,
+        room,
+    )?;
     let core = finish(state, form, &taken, place, level, means, counts, room)?;
     state.cut_scope(outer);
     Ok(core)

@@ -123,7 +123,9 @@ fn form_at<M: Transformers, N: Ledger, L: Ledger>(
         return Err(state.fault_form(FaultKind::TooDeep, form, place));
     }
     let Settled { place, form, plan } = settle(state, form, place, level, means, counts)?;
-    perform(state, &form, plan, &place, level, depth, means, counts, room)
+    perform(
+        state, &form, plan, &place, level, depth, means, counts, room,
+    )
 }
 
 #[cycle(form)]
@@ -407,7 +409,9 @@ fn lambda<M: Transformers, N: Ledger, L: Ledger>(
     ensures { GivesAfter (λ c. c) result state.new (lambda (inside (M.records means.now) room) place.now level depth form.now ids.now forms.now state.old) }
 {
     let number = CodeNo(state.fresh()?);
-    let case = lambda_case(state, form, ids, forms, place, level, depth, means, counts, room)?;
+    let case = lambda_case(
+        state, form, ids, forms, place, level, depth, means, counts, room,
+    )?;
     Ok(procedure_of_case(state.alloc(), number, case)?)
 }
 
@@ -631,7 +635,9 @@ fn one_init<M: Transformers, N: Ledger, L: Ledger>(
 ) -> Result<Init, Stop>
     ensures { GivesAfter (λ i. i) result state.new (one_init (inside (M.records means.now) room) place.now level depth frame.now bound.now state.old) }
 {
-    let form = bound.init.stamp(state.alloc(), frame.share()?, counts.nodes)?;
+    let form = bound
+        .init
+        .stamp(state.alloc(), frame.share()?, counts.nodes)?;
     let value = expression(state, &form, place, level, depth, means, counts, room)?;
     let label = bound.label.share()?;
     Ok(Init { label, value })

@@ -215,5 +215,7 @@ pub(crate) fn define_syntax<M: Transformers, N: Ledger, L: Ledger>(
     ensures { GivesAfter (λ _. tt) result state.new (define_syntax (inside (M.records means.now) room) at.now depth taken.now form.now spec.now state.old) }
 {
     let bound = define_keyword(state, at, taken, form, spec)?;
-    keyword(state, &bound, &at.place, at.level, depth, means, counts, room)
+    keyword(
+        state, &bound, &at.place, at.level, depth, means, counts, room,
+    )
 }
