@@ -8,6 +8,7 @@ use Rattle.sx_base.specs.Same.{same_library}
 use Rattle.sx_base.specs.declared.fault.Bare.{Bare}
 use Rattle.sx_base.specs.declared.fault.Fault.{Fault}
 use Rattle.sx_base.specs.declared.fault.FaultKind.TheVariants as kind
+use Rattle.sx_base.specs.declared.library.LibName.{LibName}
 use Rattle.sx_base.specs.declared.library.LibName.TheVariants as library
 use Rattle.sx_base.specs.declared.name.CodeNo.{CodeNo}
 use Rattle.sx_base.specs.declared.name.Label.{Label}
@@ -42,8 +43,11 @@ abbrev pub core_names : Option (List (List ℕ × Label)) → List (List ℕ × 
 core_names None = []
 core_names (Some es) = filter is_core es
 
+unfoldable pub names_of : LibName → List (List ℕ × Label)
+names_of l = core_names (exports l)
+
 abbrev pub names : List (List ℕ × Label)
-names = core_names (exports (library.User (codes "rnrs" ∷ [])))
+names = names_of (library.User (codes "rnrs" ∷ []))
 
 -- One text.
 

@@ -7,7 +7,7 @@ ghost use Rattle.sx_base.specs.Op.{op_text};
 ghost use Rattle.sx_base.specs.declared.library.LibName.TheVariants as library;
 ghost use Rattle.sx_stage.specs.Libraries.{earlier_in};
 ghost use Rattle.sx_standing.specs.Start.{first_frame};
-ghost use Rattle.sx_prelude.specs.Prelude.{is_core, names, path_of, place_of, first_tree, tree_in, procedure_of, text_code, prelude_codes};
+ghost use Rattle.sx_prelude.specs.Prelude.{is_core, core_names, names, names_of, path_of, place_of, first_tree, tree_in, procedure_of, text_code, prelude_codes};
 
 use indexmap::IndexMap;
 use std::alloc::Global;
@@ -52,13 +52,29 @@ fn names(alloc: Global) -> Result<Items<(Symbol, Label)>, Memory>
 {
     let mut parts = Items::new(alloc);
     parts.push(Symbol::new(alloc, "rnrs")?)?;
-    match exports(alloc, &LibName::User(parts))? {
+    names_of(alloc, &LibName::User(parts))
+}
+
+#[tactic(auto, unfolding(crate::specs::Prelude::names_of))]
+fn names_of(alloc: Global, library: &LibName) -> Result<Items<(Symbol, Label)>, Memory>
+    ensures { IfOk result (λ es. es ≡ names_of library.now) }
+{
+    core_names(alloc, exports(alloc, library)?)
+}
+
+fn core_names(
+    alloc: Global,
+    exported: Option<Items<(Symbol, Label)>>,
+) -> Result<Items<(Symbol, Label)>, Memory>
+    ensures { IfOk result (λ es. es ≡ core_names exported) }
+{
+    match exported {
         None => Ok(Items::new(alloc)),
-        Some(all) => core_names(alloc, all.as_slice()),
+        Some(all) => only_core(alloc, all.as_slice()),
     }
 }
 
-fn core_names(alloc: Global, all: &[(Symbol, Label)]) -> Result<Items<(Symbol, Label)>, Memory>
+fn only_core(alloc: Global, all: &[(Symbol, Label)]) -> Result<Items<(Symbol, Label)>, Memory>
     ensures { IfOk result (λ es. es ≡ filter (λ e. is_core e) all.now) }
 {
     let mut names = Items::new(alloc);
