@@ -18,11 +18,11 @@ use Rattle.sx_builtin.specs.Prelude.{prelude_text}
 use Rattle.sx_core.specs.Core.{PlainCore, PlainCode, no_case, case}
 use Rattle.sx_core.specs.declared.formals.Formals.{Formals}
 use Rattle.sx_eval.specs.Codes.{Codes, with_procedure}
-use Rattle.sx_expand.specs.Expanding.{expression}
+use Rattle.sx_expand.specs.Expanding.{expression, ready}
 use Rattle.sx_prelude.specs.declared.prelude.Prelude.{Prelude}
 use Rattle.sx_prelude.specs.declared.prelude.Prelude.TheVariants as preludes
 use Rattle.sx_reader.specs.Read.{data_of}
-use Rattle.sx_standing.specs.Start.{started, first_frame}
+use Rattle.sx_standing.specs.Start.{first_frame}
 use Rattle.sx_standing.specs.State.{State, Does}
 use Rattle.sx_tree.specs.Changes.{stamp}
 use Rattle.sx_tree.specs.Context.{blank}
@@ -89,7 +89,7 @@ without_state (Err f) = Err f
 
 -- all of them, expanded one after the other in a library of their own
 unfoldable pub prelude_codes : Result (List PlainCode) Fault
-prelude_codes = without_state (each text_code [] procedures (started library.Prelude [] names []))
+prelude_codes = without_state (each text_code [] procedures (ready library.Prelude (codes "(prelude)") [] names []).state)
 
 -- The table that they make, with the codes inside them.
 abbrev pub filled : Codes → List PlainCode → Codes

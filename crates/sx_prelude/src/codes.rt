@@ -1,10 +1,11 @@
 //! The codes of the texts.
 
-ghost use Rattle.std.specs.Prelude.{◌≡◌, [], false, filter, map, IfOk, OnOk};
+ghost use Rattle.std.specs.Prelude.{◌≡◌, [], false, filter, map, codes, IfOk, OnOk, Ok};
 ghost use Rattle.sx_base.specs.Act.{GivesAfter, each};
 ghost use Rattle.sx_base.specs.Gives.{Gives};
 ghost use Rattle.sx_base.specs.Op.{op_text};
 ghost use Rattle.sx_base.specs.declared.library.LibName.TheVariants as library;
+ghost use Rattle.sx_expand.specs.Expanding.{ready};
 ghost use Rattle.sx_stage.specs.Libraries.{earlier_in};
 ghost use Rattle.sx_standing.specs.Start.{first_frame};
 ghost use Rattle.sx_prelude.specs.Prelude.{is_core, core_names, names, names_of, path_of, place_of, first_tree, tree_in, procedure_of, text_code, prelude_codes};
@@ -203,8 +204,25 @@ fn text_code<N: Ledger, L: Ledger>(
     Ok(procedure_of(alloc, *op, core)?)
 }
 
+// An expander that is ready for the first text.
+fn start(alloc: Global) -> Result<Expander, Stop>
+    ensures { Gives (λ e. e) result (Ok (ready library.Prelude (codes "(prelude)") [] names [])) }
+{
+    let records = ReadyRecords::new(alloc)?;
+    let names = names(alloc)?;
+    let path = Symbol::new(alloc, "(prelude)")?;
+    Expander::new(
+        alloc,
+        LibName::Prelude,
+        path,
+        &records,
+        &[],
+        names.as_slice(),
+        IndexMap::new(alloc),
+    )
+}
+
 /// The codes of all texts, in the order of `PROCEDURES`. `means` has no records; its primitives are asked for nothing.
-#[tactic(auto, unfolding(crate::specs::Prelude::prelude_codes))]
 pub fn prelude_codes<N: Ledger, L: Ledger>(
     alloc: Global,
     means: &Means,
@@ -213,18 +231,7 @@ pub fn prelude_codes<N: Ledger, L: Ledger>(
     requires { earlier_in means.now.earlier ≡ [] }
     ensures { Gives (λ cs. map (λ c. c.value) cs) result prelude_codes }
 {
-    let records = ReadyRecords::new(alloc)?;
-    let names = names(alloc)?;
-    let path = Symbol::new(alloc, "(prelude)")?;
-    let mut expander = Expander::new(
-        alloc,
-        LibName::Prelude,
-        path,
-        &records,
-        &[],
-        names.as_slice(),
-        IndexMap::new(alloc),
-    )?;
+    let mut expander = start(alloc)?;
     all_texts(alloc, &mut expander, &PROCEDURES, means, counts)
 }
 
