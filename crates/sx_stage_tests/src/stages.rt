@@ -227,24 +227,8 @@ fn given_so(
     )
 }
 
-// A step gives this, and so much fuel was spent and so many cells are there then.
-fn step_holds(
-    alloc: Global,
-    prims: &PrimTable,
-    earlier: &Earlier,
-    stage: &mut Stage,
-    step: &Datum,
-    outcome: &Datum,
-    spent: &Datum,
-    cells: &Datum,
-) -> Result<bool, Fail> {
-    let step = step.as_list().ok_or("no step")?;
-    let given = given_so(alloc, prims, earlier, stage, step)?;
-    let same = is_given(alloc, &given, outcome)?;
-    Ok(same && is_number(spent, stage.spent()) && is_number(cells, stage.cells().len()))
-}
-
-fn last_holds(
+// What a step gives is as it should be.
+fn outcome_holds(
     alloc: Global,
     prims: &PrimTable,
     earlier: &Earlier,
@@ -257,6 +241,24 @@ fn last_holds(
     is_given(alloc, &given, outcome)
 }
 
+// A step with what it gives, and behind a step without fault the fuel that was spent and the number of cells.
+fn step_holds(
+    alloc: Global,
+    prims: &PrimTable,
+    earlier: &Earlier,
+    stage: &mut Stage,
+    parts: &[Datum],
+) -> Result<bool, Fail> {
+    match parts {
+        [step, outcome] => outcome_holds(alloc, prims, earlier, stage, step, outcome),
+        [step, outcome, spent, cells] => {
+            let same = outcome_holds(alloc, prims, earlier, stage, step, outcome)?;
+            Ok(same && is_number(spent, stage.spent()) && is_number(cells, stage.cells().len()))
+        }
+        _ => Ok(false),
+    }
+}
+
 fn steps_hold(
     alloc: Global,
     prims: &PrimTable,
@@ -264,18 +266,13 @@ fn steps_hold(
     stage: &mut Stage,
     steps: &[Datum],
 ) -> Result<bool, Fail> {
-    let mut left = steps;
-    while let [step, outcome, spent, cells, rest @ ..] = left {
-        if !step_holds(alloc, prims, earlier, stage, step, outcome, spent, cells)? {
+    for step in steps {
+        let parts = step.as_list().ok_or("no step")?;
+        if !step_holds(alloc, prims, earlier, stage, parts)? {
             return Ok(false);
         }
-        left = rest;
     }
-    match left {
-        [] => Ok(true),
-        [step, outcome] => last_holds(alloc, prims, earlier, stage, step, outcome),
-        _ => Ok(false),
-    }
+    Ok(true)
 }
 
 fn row_holds_in(
