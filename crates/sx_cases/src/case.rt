@@ -141,7 +141,7 @@ impl Reading {
 }
 
 /// Reads a case.
-pub fn case(alloc: Global, text: &str) -> Result<Case, Fail> {
+pub fn read_case(alloc: Global, text: &str) -> Result<Case, Fail> {
     let (lines, answer) = text.split_once("\n=>").ok_or("no answer")?;
     let answer = answer.strip_prefix(" ").unwrap_or(answer);
     let mut reading = Reading::new(alloc);

@@ -1,6 +1,6 @@
 ghost use Rattle.std.specs.Prelude.{◌≡◌, ◌<◌};
 
-use crate::case::case;
+use crate::case::read_case;
 use crate::outcome::outcome;
 use crate::primitives::primitives;
 use crate::tables::core_faults::{BAD_FORMS, BINDERS, BODIES, KEYWORDS, REFERENCES};
@@ -43,7 +43,7 @@ fn check_case<N: Ledger, L: Ledger>(
     text: &str,
     counts: &mut Counts<N, L>,
 ) -> Result<(), Fail> {
-    let case = case(alloc, text)?;
+    let case = read_case(alloc, text)?;
     let given = outcome(
         alloc,
         prelude,
