@@ -92,6 +92,19 @@ fn check_over<N: Ledger, L: Ledger>(
     }
 }
 
+// Both counters are borrowed for one time, as `Counts` has them.
+fn check_both<'a, N: Ledger, L: Ledger>(
+    rt: &impl Abort,
+    alloc: Global,
+    prims: &PrimTable,
+    table: &str,
+    nodes: &'a mut Steps<N>,
+    steps: &'a mut Steps<L>,
+) -> Result<(), Fail> {
+    let mut counts = Counts { nodes, steps };
+    check_over(rt, alloc, prims, table, &mut counts)
+}
+
 fn check_counted<N: Ledger, L: Ledger>(
     rt: &impl Abort,
     alloc: Global,
@@ -107,11 +120,7 @@ fn check_counted<N: Ledger, L: Ledger>(
 {
     let mut nodes = Steps::<N>::open(nodes);
     let mut steps = Steps::<L>::open(steps);
-    let mut counts = Counts {
-        nodes: &mut nodes,
-        steps: &mut steps,
-    };
-    check_over(rt, alloc, prims, table, &mut counts)
+    check_both(rt, alloc, prims, table, &mut nodes, &mut steps)
 }
 
 // The same, counting for nobody.
