@@ -34,15 +34,14 @@ use sx_prims::table::PrimTable;
 use sx_stage::earlier::Earlier;
 use sx_standing::means::{Counts, Means};
 
-// A case has what it should.
-fn check_case<N: Ledger, L: Ledger>(
-    rt: &impl Abort,
+// What is wrong with a case, or nothing.
+fn failure<N: Ledger, L: Ledger>(
     alloc: Global,
     prelude: &Prelude,
     prims: &PrimTable,
     text: &str,
     counts: &mut Counts<N, L>,
-) -> Result<(), Fail> {
+) -> Result<String, Fail> {
     let case = read_case(alloc, text)?;
     let given = outcome(
         alloc,
@@ -52,85 +51,111 @@ fn check_case<N: Ledger, L: Ledger>(
         case.roots.as_slice(),
         counts,
     )?;
-    let (given, wanted) = (given.as_str(), case.wanted.as_str());
-    assert!(rt; given == wanted, "{text}\ngave {given}");
-    Ok(())
+    let given = given.as_str();
+    if given == case.wanted.as_str() {
+        return Ok(String::new(alloc));
+    }
+    Ok(format!(in alloc; "{text}\ngave {given}")?)
 }
 
-fn check_cases<N: Ledger, L: Ledger>(
-    rt: &impl Abort,
+// What is wrong with the first case of a table that isn't as it should be.
+fn first_failure<N: Ledger, L: Ledger>(
     alloc: Global,
     prelude: &Prelude,
     prims: &PrimTable,
     table: &str,
     counts: &mut Counts<N, L>,
-) -> Result<(), Fail> {
+) -> Result<String, Fail> {
     let table = table.strip_prefix("\n").unwrap_or(table);
     let table = table.strip_suffix("\n").unwrap_or(table);
     for text in table.split("\n\n") {
-        check_case(rt, alloc, prelude, prims, text, counts)?;
+        let failed = failure(alloc, prelude, prims, text, counts)?;
+        if !failed.is_empty() {
+            return Ok(failed);
+        }
     }
-    Ok(())
+    Ok(String::new(alloc))
 }
 
 // The codes of the procedures that are texts are made once.
-fn check_over<N: Ledger, L: Ledger>(
-    rt: &impl Abort,
+fn failure_over<N: Ledger, L: Ledger>(
     alloc: Global,
     prims: &PrimTable,
     table: &str,
     counts: &mut Counts<N, L>,
-) -> Result<(), Fail> {
+) -> Result<String, Fail> {
     let earlier = Earlier {
         records: &[],
         needs: &[],
     };
     let means = Means { earlier, prims };
     match Prelude::new(alloc, &means, counts) {
-        Ok(prelude) => check_cases(rt, alloc, &prelude, prims, table, counts),
+        Ok(prelude) => first_failure(alloc, &prelude, prims, table, counts),
         Err(_) => Err("no memory".into()),
     }
 }
 
 // Both counters are borrowed for one time, as `Counts` has them.
-fn check_both<'a, N: Ledger, L: Ledger>(
-    rt: &impl Abort,
+fn failure_both<'a, N: Ledger, L: Ledger>(
     alloc: Global,
     prims: &PrimTable,
     table: &str,
     nodes: &'a mut Steps<N>,
     steps: &'a mut Steps<L>,
-) -> Result<(), Fail> {
+) -> Result<String, Fail> {
     let mut counts = Counts { nodes, steps };
-    check_over(rt, alloc, prims, table, &mut counts)
+    failure_over(alloc, prims, table, &mut counts)
 }
 
-fn check_counted<N: Ledger, L: Ledger>(
-    rt: &impl Abort,
+// The fuel is counted for nobody.
+fn failure_steps<N: Ledger, L: Ledger>(
     alloc: Global,
     prims: &PrimTable,
     table: &str,
-    nodes: Blank,
-    steps: Blank,
-) -> Result<(), Fail>
-    requires name { nodes.name ≡ N.name }
-    requires parts { (nodes.parts ≡ N.parts) × (0 < N.parts) }
-    requires step_name { steps.name ≡ L.name }
-    requires step_parts { (steps.parts ≡ L.parts) × (0 < L.parts) }
+    nodes: &mut Steps<N>,
+    blank: Blank,
+) -> Result<String, Fail>
+    requires name { blank.name ≡ L.name }
+    requires parts { (blank.parts ≡ L.parts) × (0 < L.parts) }
 {
-    let mut nodes = Steps::<N>::open(nodes);
-    let mut steps = Steps::<L>::open(steps);
-    check_both(rt, alloc, prims, table, &mut nodes, &mut steps)
+    let mut steps = Steps::<L>::open(blank);
+    failure_both(alloc, prims, table, nodes, &mut steps)
 }
 
-// The same, counting for nobody.
-fn check_with(rt: &impl Abort, alloc: Global, prims: &PrimTable, table: &str) -> Result<(), Fail> {
-    check_counted::<Brand, Brand>(rt, alloc, prims, table, Blank::new(1), Blank::new(1))
+fn failure_after<N: Ledger>(
+    alloc: Global,
+    prims: &PrimTable,
+    table: &str,
+    nodes: &mut Steps<N>,
+) -> Result<String, Fail> {
+    failure_steps::<N, Brand>(alloc, prims, table, nodes, Blank::new(1))
+}
+
+fn failure_nodes<N: Ledger>(
+    alloc: Global,
+    prims: &PrimTable,
+    table: &str,
+    blank: Blank,
+) -> Result<String, Fail>
+    requires name { blank.name ≡ N.name }
+    requires parts { (blank.parts ≡ N.parts) × (0 < N.parts) }
+{
+    let mut nodes = Steps::<N>::open(blank);
+    failure_after(alloc, prims, table, &mut nodes)
+}
+
+// Nodes and fuel are counted for nobody.
+fn failure_in(alloc: Global, prims: &PrimTable, table: &str) -> Result<String, Fail> {
+    failure_nodes::<Brand>(alloc, prims, table, Blank::new(1))
 }
 
 fn check(rt: &impl Abort, alloc: Global, table: &str) -> Result<(), Fail> {
     match primitives(alloc)? {
-        Some(prims) => check_with(rt, alloc, &prims, table),
+        Some(prims) => {
+            let failed = failure_in(alloc, &prims, table)?;
+            assert!(rt; failed.is_empty(), "{failed}");
+            Ok(())
+        }
         None => Err("rows in order are refused".into()),
     }
 }
