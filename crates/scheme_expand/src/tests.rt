@@ -65,10 +65,24 @@ fn run_counted<N: Ledger, L: Ledger>(
 {
     let mut nodes = Steps::<N>::open(nodes);
     let mut steps = Steps::<L>::open(steps);
-    let mut counts = Counts {
-        nodes: &mut nodes,
-        steps: &mut steps,
-    };
+    run_both(
+        alloc, prims, held, words, reads, outs, errs, &mut nodes, &mut steps,
+    )
+}
+
+// Both counters are borrowed for one time, as `Counts` has them.
+fn run_both<'a, N: Ledger, L: Ledger>(
+    alloc: Global,
+    prims: &PrimTable,
+    held: &[Held],
+    words: &[&str],
+    reads: &[u64],
+    outs: &[(u64, usize)],
+    errs: &[(u64, usize)],
+    nodes: &'a mut Steps<N>,
+    steps: &'a mut Steps<L>,
+) -> Result<Outcome, Fail> {
+    let mut counts = Counts { nodes, steps };
     let mut pairs = Vec::new(alloc);
     for (path, bytes) in held {
         pairs.push((
@@ -320,9 +334,7 @@ const LIBRARIES: [Case; 7] = [
 // Whether a run over the case answers and writes what it should.
 fn ends_so(alloc: Global, prims: &PrimTable, case: &Case) -> Result<bool, Fail> {
     let (held, words) = (case.held, case.words);
-    let ran = run_over(
-        alloc, prims, held, words, case.reads, case.outs, case.errs,
-    )?;
+    let ran = run_over(alloc, prims, held, words, case.reads, case.outs, case.errs)?;
     Ok(ran.status == case.status && ran.out.as_str() == case.out && ran.err.as_str() == case.err)
 }
 
@@ -358,11 +370,27 @@ fn libraries_stand_before_the_program_and_in_the_report(rt: HostRuntime) -> Resu
 fn check_lengths(rt: &impl Abort, alloc: Global, prims: &PrimTable) -> Result<(), Fail> {
     let mut source = Vec::from_slice(alloc, b"(import (rnrs))")?;
     source.resize(4_194_304, b' ')?;
-    let read = run_over(alloc, prims, &[("p.sps", &source)], &["p.sps"], &[], &[], &[])?;
+    let read = run_over(
+        alloc,
+        prims,
+        &[("p.sps", &source)],
+        &["p.sps"],
+        &[],
+        &[],
+        &[],
+    )?;
     assert_eq!(rt; read.out.as_str(), "(import (rnrs))\n");
     assert_eq!(rt; read.status, Status::Done);
     source.push(b' ')?;
-    let refused = run_over(alloc, prims, &[("p.sps", &source)], &["p.sps"], &[], &[], &[])?;
+    let refused = run_over(
+        alloc,
+        prims,
+        &[("p.sps", &source)],
+        &["p.sps"],
+        &[],
+        &[],
+        &[],
+    )?;
     assert_eq!(rt; refused.err.as_str(), "p.sps:1:1: 9 TooLong\n");
     assert_eq!(rt; refused.status, Status::Fault);
     Ok(())

@@ -58,17 +58,15 @@ fn failure<N: Ledger, L: Ledger>(
     Ok(format!(in alloc; "{text}\ngave {given}")?)
 }
 
-// What is wrong with the first case of a table that isn't as it should be.
+// What is wrong with the first case that isn't as it should be.
 fn first_failure<N: Ledger, L: Ledger>(
     alloc: Global,
     prelude: &Prelude,
     prims: &PrimTable,
-    table: &str,
+    cases: &[&str],
     counts: &mut Counts<N, L>,
 ) -> Result<String, Fail> {
-    let table = table.strip_prefix("\n").unwrap_or(table);
-    let table = table.strip_suffix("\n").unwrap_or(table);
-    for text in table.split("\n\n") {
+    for text in cases {
         let failed = failure(alloc, prelude, prims, text, counts)?;
         if !failed.is_empty() {
             return Ok(failed);
@@ -81,7 +79,7 @@ fn first_failure<N: Ledger, L: Ledger>(
 fn failure_over<N: Ledger, L: Ledger>(
     alloc: Global,
     prims: &PrimTable,
-    table: &str,
+    cases: &[&str],
     counts: &mut Counts<N, L>,
 ) -> Result<String, Fail> {
     let earlier = Earlier {
@@ -90,7 +88,7 @@ fn failure_over<N: Ledger, L: Ledger>(
     };
     let means = Means { earlier, prims };
     match Prelude::new(alloc, &means, counts) {
-        Ok(prelude) => first_failure(alloc, &prelude, prims, table, counts),
+        Ok(prelude) => first_failure(alloc, &prelude, prims, cases, counts),
         Err(_) => Err("no memory".into()),
     }
 }
@@ -99,60 +97,52 @@ fn failure_over<N: Ledger, L: Ledger>(
 fn failure_both<'a, N: Ledger, L: Ledger>(
     alloc: Global,
     prims: &PrimTable,
-    table: &str,
+    cases: &[&str],
     nodes: &'a mut Steps<N>,
     steps: &'a mut Steps<L>,
 ) -> Result<String, Fail> {
     let mut counts = Counts { nodes, steps };
-    failure_over(alloc, prims, table, &mut counts)
+    failure_over(alloc, prims, cases, &mut counts)
 }
 
-// The fuel is counted for nobody.
-fn failure_steps<N: Ledger, L: Ledger>(
+fn failure_counted<N: Ledger, L: Ledger>(
     alloc: Global,
     prims: &PrimTable,
-    table: &str,
-    nodes: &mut Steps<N>,
-    blank: Blank,
+    cases: &[&str],
+    nodes: Blank,
+    steps: Blank,
 ) -> Result<String, Fail>
-    requires name { blank.name ≡ L.name }
-    requires parts { (blank.parts ≡ L.parts) × (0 < L.parts) }
+    requires name { nodes.name ≡ N.name }
+    requires parts { (nodes.parts ≡ N.parts) × (0 < N.parts) }
+    requires step_name { steps.name ≡ L.name }
+    requires step_parts { (steps.parts ≡ L.parts) × (0 < L.parts) }
 {
-    let mut steps = Steps::<L>::open(blank);
-    failure_both(alloc, prims, table, nodes, &mut steps)
+    let mut nodes = Steps::<N>::open(nodes);
+    let mut steps = Steps::<L>::open(steps);
+    failure_both(alloc, prims, cases, &mut nodes, &mut steps)
 }
 
-fn failure_after<N: Ledger>(
-    alloc: Global,
-    prims: &PrimTable,
-    table: &str,
-    nodes: &mut Steps<N>,
-) -> Result<String, Fail> {
-    failure_steps::<N, Brand>(alloc, prims, table, nodes, Blank::new(1))
+// The same, counting for nobody.
+fn failure_in(alloc: Global, prims: &PrimTable, cases: &[&str]) -> Result<String, Fail> {
+    failure_counted::<Brand, Brand>(alloc, prims, cases, Blank::new(1), Blank::new(1))
 }
 
-fn failure_nodes<N: Ledger>(
-    alloc: Global,
-    prims: &PrimTable,
-    table: &str,
-    blank: Blank,
-) -> Result<String, Fail>
-    requires name { blank.name ≡ N.name }
-    requires parts { (blank.parts ≡ N.parts) × (0 < N.parts) }
-{
-    let mut nodes = Steps::<N>::open(blank);
-    failure_after(alloc, prims, table, &mut nodes)
-}
-
-// Nodes and fuel are counted for nobody.
-fn failure_in(alloc: Global, prims: &PrimTable, table: &str) -> Result<String, Fail> {
-    failure_nodes::<Brand>(alloc, prims, table, Blank::new(1))
+// The cases of a table.
+fn parted<'a>(alloc: Global, table: &'a str) -> Result<Vec<&'a str>, Fail> {
+    let table = table.strip_prefix("\n").unwrap_or(table);
+    let table = table.strip_suffix("\n").unwrap_or(table);
+    let mut cases = Vec::new(alloc);
+    for text in table.split("\n\n") {
+        cases.push(text)?;
+    }
+    Ok(cases)
 }
 
 fn check(rt: &impl Abort, alloc: Global, table: &str) -> Result<(), Fail> {
+    let cases = parted(alloc, table)?;
     match primitives(alloc)? {
         Some(prims) => {
-            let failed = failure_in(alloc, &prims, table)?;
+            let failed = failure_in(alloc, &prims, cases.as_slice())?;
             assert!(rt; failed.is_empty(), "{failed}");
             Ok(())
         }
