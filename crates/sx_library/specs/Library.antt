@@ -5,6 +5,7 @@ use Rattle.sx_base.specs.Gives.{◌>>=◌}
 use Rattle.sx_base.specs.declared.fault.Bare.{Bare}
 use Rattle.sx_base.specs.declared.fault.Fault.{Fault}
 use Rattle.sx_base.specs.declared.span.Span.{Span}
+use Rattle.sx_base.specs.declared.name.Label.{Label}
 use Rattle.sx_tree.specs.Context.{blank}
 use Rattle.sx_tree.specs.Measures.{within}
 use Rattle.sx_tree.specs.Tree.{Tree, leaf}
@@ -43,10 +44,13 @@ export_tree e = (e.0, leaf (Some e.1.span) e.1.name blank)
 
 -- ---- the record
 
--- the names that the form imports, then its body, after these records; what procedures mean that are texts is given
-unfoldable pub expand_library : Result Codes Fault → List LibRecord → List ℕ → LibraryForm → List PlainDatum → Result LibRecord Fault
-expand_library prelude records path form body =
-    form_names records form.imports >>= (λ names.
+-- the record of a library or a program that imports these names, after these records; what procedures mean that are texts is given
+abbrev pub expand_named : Result Codes Fault → List LibRecord → List ℕ → LibraryForm → List PlainDatum → List (List ℕ × Label) → Result LibRecord Fault
+expand_named prelude records path form body names =
     prelude >>= (λ codes.
     trees_at form.name_span [] body >>= (λ forms.
-    library_record (ready form.name path records names codes) records form.version form.name_span (map export_tree form.exports) forms)))
+    library_record (ready form.name path records names codes) records form.version form.name_span (map export_tree form.exports) forms))
+
+-- the names that the form imports, then its body
+unfoldable pub expand_library : Result Codes Fault → List LibRecord → List ℕ → LibraryForm → List PlainDatum → Result LibRecord Fault
+expand_library prelude records path form body = form_names records form.imports >>= expand_named prelude records path form body

@@ -1,12 +1,12 @@
 //! The record of a library or a program.
 
-ghost use Rattle.std.specs.Prelude.{◌≡◌, [], IfOk, Ok, map};
+ghost use Rattle.std.specs.Prelude.{◌≡◌, [], false, IfOk, Ok, map};
 ghost use Rattle.sx_base.specs.Gives.{Gives, StopsWith};
 ghost use Rattle.sx_eval.specs.Codes as table;
-ghost use Rattle.sx_expand.specs.Expanding.{ready};
+ghost use Rattle.sx_expand.specs.Expanding.{ready, library_record};
 ghost use Rattle.sx_prelude.specs.Prelude.{kept};
 ghost use Rattle.sx_library.specs.Records.{needed_records};
-ghost use Rattle.sx_library.specs.Library.{at_datum, tree_at, trees_at, export_tree, expand_library};
+ghost use Rattle.sx_library.specs.Library.{at_datum, tree_at, trees_at, export_tree, expand_named, expand_library};
 
 use crate::imports::form_names;
 use crate::records::Records;
@@ -54,29 +54,95 @@ pub fn expand_library<N: Ledger, L: Ledger>(
 ) -> Result<LibRecord, Stop>
     ensures { Gives (λ r. r) result (expand_library (kept prelude.now) (needed_records records.now needs.now) path.now form.now body.now) }
 {
-    let place = &form.name_span;
     let names = form_names(alloc, records, needs, form.imports.as_slice())?;
-    let codes = prelude.codes(alloc)?;
-    let forms = trees_at(alloc, place, body)?;
     let names = rows(alloc, &names)?;
-    let exports = export_trees(alloc, &form.exports)?;
+    expand_named(
+        alloc,
+        prelude,
+        records,
+        needs,
+        path,
+        form,
+        names.as_slice(),
+        body,
+        prims,
+        counts,
+    )
+}
+
+// The record of a library or a program that imports these names.
+fn expand_named<N: Ledger, L: Ledger>(
+    alloc: Global,
+    prelude: &Prelude,
+    records: &Records,
+    needs: &[bool],
+    path: &Symbol,
+    form: &LibraryForm,
+    names: &[(Symbol, Label)],
+    body: &[Datum],
+    prims: &PrimTable,
+    counts: &mut Counts<N, L>,
+) -> Result<LibRecord, Stop>
+    ensures { Gives (λ r. r) result (expand_named (kept prelude.now) (needed_records records.now needs.now) path.now form.now body.now names.now) }
+{
     let name = share_library(alloc, &form.name)?;
-    let version = share_version(alloc, form.version.as_slice())?;
     let path = path.share()?;
-    let expander = expander_behind(alloc, name, path, records, needs, names.as_slice(), codes)?;
+    let codes = prelude.codes(alloc)?;
+    let forms = trees_at(alloc, &form.name_span, body)?;
+    let begun = expander_behind(alloc, name, path, records, needs, names, codes)?;
+    expand_forms(alloc, begun, records, needs, form, forms.as_slice(), prims, counts)
+}
+
+// The record of a library or a program whose body has these forms.
+fn expand_forms<N: Ledger, L: Ledger>(
+    alloc: Global,
+    begun: Expander,
+    records: &Records,
+    needs: &[bool],
+    form: &LibraryForm,
+    forms: &[Syn],
+    prims: &PrimTable,
+    counts: &mut Counts<N, L>,
+) -> Result<LibRecord, Stop>
+    requires { begun.failed ≡ false }
+    ensures { Gives (λ r. r) result (library_record begun (needed_records records.now needs.now) form.now.version form.now.name_span (map export_tree form.now.exports) forms.now) }
+{
+    let exports = export_trees(alloc, &form.exports)?;
+    let version = share_version(alloc, form.version.as_slice())?;
+    record_behind(
+        begun,
+        records,
+        needs,
+        forms,
+        &form.name_span,
+        exports.as_slice(),
+        version,
+        prims,
+        counts,
+    )
+}
+
+// The record of a library, from its exports, its version and the forms of its body.
+fn record_behind<N: Ledger, L: Ledger>(
+    begun: Expander,
+    records: &Records,
+    needs: &[bool],
+    forms: &[Syn],
+    place: &Span,
+    exports: &[(Symbol, Syn)],
+    version: Items<u64>,
+    prims: &PrimTable,
+    counts: &mut Counts<N, L>,
+) -> Result<LibRecord, Stop>
+    requires { begun.failed ≡ false }
+    ensures { Gives (λ r. r) result (library_record begun (needed_records records.now needs.now) version place.now exports.now forms.now) }
+{
     let earlier = Earlier {
         records: records.ready().as_slice(),
         needs,
     };
     let means = Means { earlier, prims };
-    expander.top(
-        forms.as_slice(),
-        place,
-        exports.as_slice(),
-        version,
-        &means,
-        counts,
-    )
+    begun.top(forms, place, exports, version, &means, counts)
 }
 
 // An expander behind the records that are marked.
