@@ -6,7 +6,7 @@ ghost use Rattle.sx_eval.specs.Codes as table;
 ghost use Rattle.sx_expand.specs.Expanding.{ready, library_record};
 ghost use Rattle.sx_prelude.specs.Prelude.{kept};
 ghost use Rattle.sx_library.specs.Records.{needed_records};
-ghost use Rattle.sx_library.specs.Library.{at_datum, tree_at, trees_at, export_tree, expand_named, expand_library};
+ghost use Rattle.sx_library.specs.Library.{at_datum, tree_at, trees_at, export_tree, expander_of, expand_library};
 
 use crate::imports::form_names;
 use crate::records::Records;
@@ -56,70 +56,39 @@ pub fn expand_library<N: Ledger, L: Ledger>(
 {
     let names = form_names(alloc, records, needs, form.imports.as_slice())?;
     let names = rows(alloc, &names)?;
-    expand_named(
-        alloc,
-        prelude,
-        records,
-        needs,
-        path,
-        form,
-        names.as_slice(),
-        body,
-        prims,
-        counts,
-    )
-}
-
-// The record of a library or a program that imports these names.
-fn expand_named<N: Ledger, L: Ledger>(
-    alloc: Global,
-    prelude: &Prelude,
-    records: &Records,
-    needs: &[bool],
-    path: &Symbol,
-    form: &LibraryForm,
-    names: &[(Symbol, Label)],
-    body: &[Datum],
-    prims: &PrimTable,
-    counts: &mut Counts<N, L>,
-) -> Result<LibRecord, Stop>
-    ensures { Gives (λ r. r) result (expand_named (kept prelude.now) (needed_records records.now needs.now) path.now form.now body.now names.now) }
-{
-    let name = share_library(alloc, &form.name)?;
-    let path = path.share()?;
-    let codes = prelude.codes(alloc)?;
     let forms = trees_at(alloc, &form.name_span, body)?;
-    let begun = expander_behind(alloc, name, path, records, needs, names, codes)?;
-    expand_forms(alloc, begun, records, needs, form, forms.as_slice(), prims, counts)
-}
-
-// The record of a library or a program whose body has these forms.
-fn expand_forms<N: Ledger, L: Ledger>(
-    alloc: Global,
-    begun: Expander,
-    records: &Records,
-    needs: &[bool],
-    form: &LibraryForm,
-    forms: &[Syn],
-    prims: &PrimTable,
-    counts: &mut Counts<N, L>,
-) -> Result<LibRecord, Stop>
-    requires { begun.failed ≡ false }
-    ensures { Gives (λ r. r) result (library_record begun (needed_records records.now needs.now) form.now.version form.now.name_span (map export_tree form.now.exports) forms.now) }
-{
     let exports = export_trees(alloc, &form.exports)?;
     let version = share_version(alloc, form.version.as_slice())?;
+    let begun = expander_of(alloc, prelude, form, path, records, needs, names.as_slice())?;
     record_behind(
         begun,
         records,
         needs,
-        forms,
+        forms.as_slice(),
         &form.name_span,
         exports.as_slice(),
         version,
         prims,
         counts,
     )
+}
+
+// An expander behind the records that are marked, which knows what the procedures mean that are texts.
+fn expander_of(
+    alloc: Global,
+    prelude: &Prelude,
+    form: &LibraryForm,
+    path: &Symbol,
+    records: &Records,
+    needs: &[bool],
+    names: &[(Symbol, Label)],
+) -> Result<Expander, Stop>
+    ensures { Gives (λ e. e) result (expander_of (kept prelude.now) form.now.name path.now (needed_records records.now needs.now) names.now) }
+{
+    let name = share_library(alloc, &form.name)?;
+    let path = path.share()?;
+    let codes = prelude.codes(alloc)?;
+    expander_behind(alloc, name, path, records, needs, names, codes)
 }
 
 // The record of a library, from its exports, its version and the forms of its body.
