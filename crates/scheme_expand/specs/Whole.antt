@@ -9,6 +9,7 @@ use Rattle.sx_load.specs.declared.found.Found.{Found}
 use Rattle.sx_load.specs.declared.found.Loading.{Loading}
 use Rattle.sx_load.specs.declared.found.Source.{Source}
 use Rattle.sx_library.specs.Loaded.{text_of}
+use Rattle.sx_prelude.specs.Prelude.{prelude_table}
 use Rattle.sx_report.specs.Report.{report_text}
 use Rattle.sx_report.specs.declared.report.Fate.TheVariants.{Expanded}
 use Rattle.sx_report.specs.declared.report.Told.{Told}
@@ -55,7 +56,7 @@ outcome_of report s (Ok text) = done text (report_if report s)
 outcome_of report s (Err f) = fault (fault_line f (source_of s.sources f.span.file))
 
 abbrev pub of_loaded : Bool → Loads (Found × Loading) → Outcome
-of_loaded report loaded = outcome_of report (loading_of loaded) (text_of loaded)
+of_loaded report loaded = outcome_of report (loading_of loaded) (text_of prelude_table loaded)
 
 unfoldable pub of_job : Paths → Job → Outcome
 of_job files job = of_loaded job.report (load files job.roots job.program)

@@ -19,22 +19,18 @@
 //! all text with no sink at hand, by `sx_library` and what stands below it, and `top` writes it.
 #![tactic(auto)]
 
-ghost use Rattle.std.specs.Prelude.{◌≡◌, ◌<◌};
-
 mod prepare;
 mod status;
+mod system;
 mod top;
 mod words;
 
 use crate::status::Status;
+use crate::system::run_over_system;
 use std::alloc::Global;
 use std::io::ErrorKind;
-use std::marker::Brand;
 use std::process::ExitCode;
-use std::sync::ledger::{Blank, Ledger};
 use std::{env, io};
-use sx_base::steps::Steps;
-use sx_outside::{HostFiles, HostSink};
 
 fn arguments(rt: &HostRuntime, alloc: Global) -> io::Result<Vec<String>> {
     let mut words = Vec::new(alloc);
@@ -52,37 +48,19 @@ fn words_given(rt: &HostRuntime, alloc: Global) -> io::Result<Vec<String>> {
     }
 }
 
-fn run_over_system<N: Ledger>(
-    rt: &HostRuntime,
-    words: &[String],
-    blank: Blank,
-) -> io::Result<Status>
-    requires name { blank.name ≡ N.name }
-    requires parts { (blank.parts ≡ N.parts) × (0 < N.parts) }
-{
-    let alloc = rt.alloc();
-    let mut files = HostFiles::new(alloc, rt.clone()?);
-    let mut out = HostSink::new(rt.stdout());
-    let mut err = HostSink::new(rt.stderr());
-    let mut nodes = Steps::<N>::open(blank);
-    Ok(top::run(alloc, words, &mut files, &mut out, &mut err, &mut nodes))
-}
-
-// A run over the system, whose nodes nobody counts.
-fn run_uncounted(rt: &HostRuntime, words: &[String]) -> io::Result<Status> {
-    run_over_system::<Brand>(rt, words, Blank::new(1))
-}
-
 fn main(rt: HostRuntime) -> io::Result<ExitCode> {
     let alloc = rt.alloc();
     let Ok(words) = words_given(&rt, alloc) else {
         return Ok(ExitCode::from(Status::Memory as u8));
     };
-    let status = run_uncounted(&rt, &words)?;
+    let status = match run_over_system(&rt, &words) {
+        Ok(status) => status,
+        Err(_) => Status::Memory,
+    };
     Ok(ExitCode::from(status as u8))
 }
 
 #[cfg(test)]
-mod programs;
+mod primitives;
 #[cfg(test)]
 mod tests;

@@ -6,6 +6,7 @@ ghost use Rattle.std.specs.String.{string_bytes};
 ghost use Rattle.sx_base.specs.FaultLine.{fault_line};
 ghost use Rattle.sx_outside.specs.Causes.{Rose};
 ghost use Rattle.sx_outside.specs.Contents.{Paths};
+ghost use Rattle.sx_prelude.specs.Prelude.{kept, prelude_table};
 ghost use Rattle.scheme_expand.specs.Whole.{libraries, report_if, held_at, source_of, of_loaded, of_job};
 ghost use Rattle.scheme_expand.specs.Prepared.{Prepares};
 ghost use Rattle.scheme_expand.specs.declared.prepare.Unfinished.TheVariants as unfinished;
@@ -16,14 +17,17 @@ use sx_base::fault::{Fault, Stop};
 use sx_base::fault_line::fault_line;
 use sx_base::items::Items;
 use sx_base::memory::Memory;
-use sx_base::steps::Steps;
 use sx_base::symbol::Symbol;
 use sx_library::loaded::{first_fault, program_text};
 use sx_load::found::{Found, Loading, Source};
 use sx_load::halt::Halt;
 use sx_load::load::load;
 use sx_outside::Files;
+use sx_prelude::prelude::Prelude;
+use sx_prims::table::PrimTable;
 use sx_report::report::{Fate, Told, report_text};
+use sx_stage::earlier::Earlier;
+use sx_standing::means::{Counts, Means};
 use sx_standing::share::share_library;
 use sx_words::job::Job;
 
@@ -112,18 +116,37 @@ fn line_of(alloc: Global, loading: &Loading, fault: &Fault) -> Result<String, Me
     fault_line(alloc, fault, source)
 }
 
-// What comes of a program that was loaded.
-fn of_found<N: Ledger>(
+// The codes of the procedures that are texts.
+fn prelude<N: Ledger, L: Ledger>(
     alloc: Global,
+    prims: &PrimTable,
+    counts: &mut Counts<N, L>,
+) -> Result<Prelude, Memory>
+    ensures { IfOk result (λ p. kept p ≡ prelude_table) }
+{
+    let earlier = Earlier {
+        records: &[],
+        needs: &[],
+    };
+    let means = Means { earlier, prims };
+    Prelude::new(alloc, &means, counts)
+}
+
+// What comes of a program that was loaded.
+fn of_found<N: Ledger, L: Ledger>(
+    alloc: Global,
+    prelude: &Prelude,
     report: bool,
     found: &Found,
     loading: &Loading,
-    nodes: &mut Steps<N>,
+    prims: &PrimTable,
+    counts: &mut Counts<N, L>,
 ) -> Result<Prepared, Unfinished>
+    requires { kept prelude.now ≡ prelude_table }
     ensures gives { Prepares result (of_loaded report (Ok (found.now, loading.now))) }
     ensures unread { result ≢ Err Unfinished.Read }
 {
-    match program_text(alloc, found, loading, nodes) {
+    match program_text(alloc, prelude, found, loading, prims, counts) {
         Ok(text) => {
             let report = report_if(alloc, report, loading)?;
             Ok(Prepared { text, report })
@@ -134,17 +157,20 @@ fn of_found<N: Ledger>(
 }
 
 // What comes of a fault that ended loading.
-fn of_fault<N: Ledger>(
+fn of_fault<N: Ledger, L: Ledger>(
     alloc: Global,
+    prelude: &Prelude,
     report: bool,
     loading: &Loading,
     fault: Fault,
-    nodes: &mut Steps<N>,
+    prims: &PrimTable,
+    counts: &mut Counts<N, L>,
 ) -> Result<Prepared, Unfinished>
+    requires { kept prelude.now ≡ prelude_table }
     ensures gives { Prepares result (of_loaded report (Err (loading.now, fault))) }
     ensures unread { result ≢ Err Unfinished.Read }
 {
-    match first_fault(alloc, loading, fault, nodes) {
+    match first_fault(alloc, prelude, loading, fault, prims, counts) {
         Stop::Fault(fault) => Err(Unfinished::Line(line_of(alloc, loading, &fault)?)),
         Stop::Memory => Err(Unfinished::Memory),
     }
@@ -152,15 +178,17 @@ fn of_fault<N: Ledger>(
 
 /// The core text of a job's program and its report, or why there is none.
 #[tactic(auto, unfolding(crate::specs::Whole::of_job))]
-pub fn prepare<F: Files, N: Ledger>(
+pub fn prepare<F: Files, N: Ledger, L: Ledger>(
     alloc: Global,
     job: &Job,
     files: &mut F,
-    nodes: &mut Steps<N>,
+    prims: &PrimTable,
+    counts: &mut Counts<N, L>,
 ) -> Result<Prepared, Unfinished>
     ensures gives { IfSome (F.told files.old) (λ fs. Prepares result (of_job fs job.now)) }
     ensures read { result ≡ Err Unfinished.Read → Rose (F.faults files.old) (F.faults files.new) }
 {
+    let prelude = prelude(alloc, prims, counts)?;
     let mut loading = Loading::new(alloc);
     match load(
         alloc,
@@ -169,8 +197,10 @@ pub fn prepare<F: Files, N: Ledger>(
         &job.program,
         &mut loading,
     ) {
-        Ok(found) => of_found(alloc, job.report, &found, &loading, nodes),
-        Err(Halt::Fault(fault)) => of_fault(alloc, job.report, &loading, fault, nodes),
+        Ok(found) => of_found(alloc, &prelude, job.report, &found, &loading, prims, counts),
+        Err(Halt::Fault(fault)) => of_fault(
+            alloc, &prelude, job.report, &loading, fault, prims, counts,
+        ),
         Err(Halt::Read) => Err(Unfinished::Read),
         Err(Halt::Memory) => Err(Unfinished::Memory),
     }

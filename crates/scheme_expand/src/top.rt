@@ -10,8 +10,9 @@ use crate::status::Status;
 use crate::words::job_asked;
 use std::alloc::Global;
 use std::sync::ledger::Ledger;
-use sx_base::steps::Steps;
 use sx_outside::{Files, Sink};
+use sx_prims::table::PrimTable;
+use sx_standing::means::Counts;
 
 /// The line that is written where the words are refused.
 pub const USAGE: &[u8] =
@@ -49,13 +50,14 @@ fn complain<O: Sink, E: Sink>(out: &mut O, err: &mut E, line: &[u8], status: Sta
     }
 }
 
-fn run_words<F: Files, O: Sink, E: Sink, N: Ledger>(
+fn run_words<F: Files, O: Sink, E: Sink, N: Ledger, L: Ledger>(
     alloc: Global,
     words: &[String],
     files: &mut F,
     out: &mut O,
     err: &mut E,
-    nodes: &mut Steps<N>,
+    prims: &PrimTable,
+    counts: &mut Counts<N, L>,
 ) -> Status
     ensures { Headline (F.told files.old) (texts words.now) (F.faults files.old) (F.faults files.new)
         (record { before = O.told out.old; after = O.told out.new; faults_before = O.faults out.old; faults_after = O.faults out.new })
@@ -66,7 +68,7 @@ fn run_words<F: Files, O: Sink, E: Sink, N: Ledger>(
         Ok(None) => return complain(out, err, USAGE, Status::Usage),
         Err(_) => return Status::Memory,
     };
-    match prepare(alloc, &job, files, nodes) {
+    match prepare(alloc, &job, files, prims, counts) {
         Ok(made) => finish(out, err, made.text.as_bytes(), made.report.as_bytes()),
         Err(Unfinished::Line(line)) => complain(out, err, line.as_bytes(), Status::Fault),
         Err(Unfinished::Read) => Status::ReadFault,
@@ -77,19 +79,21 @@ fn run_words<F: Files, O: Sink, E: Sink, N: Ledger>(
 /// All that the program does. It reads the program that the words name, and writes its core text on `out`
 /// and behind it, where it is asked for, the report on `err`; or the line of its first fault on `err`. All
 /// text is made before the first write: `out` gets at most one put, and `err` at most one behind it.
-/// `nodes` counts the nodes that changes of syntax trees make.
-pub fn run<F: Files, O: Sink, E: Sink, N: Ledger>(
+/// `prims` computes the primitives that transformers call. What is counted: the nodes that changes of syntax trees
+/// make, and the fuel that evaluations spend.
+pub fn run<F: Files, O: Sink, E: Sink, N: Ledger, L: Ledger>(
     alloc: Global,
     words: &[String],
     files: &mut F,
     out: &mut O,
     err: &mut E,
-    nodes: &mut Steps<N>,
+    prims: &PrimTable,
+    counts: &mut Counts<N, L>,
 ) -> Status
     ensures headline { Headline (F.told files.old) (texts words.now) (F.faults files.old) (F.faults files.new)
         (record { before = O.told out.old; after = O.told out.new; faults_before = O.faults out.old; faults_after = O.faults out.new })
         (record { before = E.told err.old; after = E.told err.new; faults_before = E.faults err.old; faults_after = E.faults err.new }) result }
     ensures complete { Complete (F.told files.old) (texts words.now) (Rose (F.faults files.old) (F.faults files.new)) (Rose (O.faults out.old) (O.faults out.new)) (Rose (E.faults err.old) (E.faults err.new)) result }
 {
-    run_words(alloc, words, files, out, err, nodes)
+    run_words(alloc, words, files, out, err, prims, counts)
 }

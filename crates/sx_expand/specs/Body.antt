@@ -15,7 +15,9 @@ use Rattle.sx_core.specs.declared.record.Line.{Line}
 use Rattle.sx_core.specs.declared.record.Line.TheVariants as line
 use Rattle.sx_standing.specs.State.{Does, fresh, fresh_frame, fault_form}
 use Rattle.sx_standing.specs.InScope.{within}
-use Rattle.sx_heads.specs.Items.{begun, item_plan}
+use Rattle.sx_heads.specs.Items.{begun}
+use Rattle.sx_heads.specs.declared.item.Item.{Item}
+use Rattle.sx_heads.specs.declared.item.Item.TheVariants as items
 use Rattle.sx_heads.specs.declared.taken.BodyAt.{BodyAt}
 use Rattle.sx_heads.specs.declared.taken.BodyKind.TheVariants as body_kind
 use Rattle.sx_heads.specs.declared.taken.Taken.{Taken}
@@ -23,19 +25,32 @@ use Rattle.sx_heads.specs.declared.taken.Waiting.{Waiting}
 use Rattle.sx_heads.specs.declared.taken.Waits.{Waits}
 use Rattle.sx_heads.specs.declared.taken.Waits.TheVariants as waits
 use Rattle.sx_expand.specs.Inside.{Inside, deeper}
+use Rattle.sx_expand.specs.Keywords.{define_syntax, with_keywords}
+use Rattle.sx_expand.specs.Settle.{settle_item}
+use Rattle.sx_expand.specs.declared.settle.SettledItem.{SettledItem}
 
 -- The first pass.
 
 abbrev pub splice : Inside → BodyAt → ℕ → Taken → List Tree → Does Taken
 splice go at depth = gather (go.item at depth)
 
-abbrev pub spliced : Inside → BodyAt → ℕ → Taken → Option (List Tree) → Does Taken
-spliced go at depth done None = give done
-spliced go at depth done (Some forms) = splice go at (deeper depth) done forms
+-- What is done with a form that is no use. What lies in it is one deeper; the forms of `begin`, `let-syntax` and `letrec-syntax` are
+-- forms of the body.
+unfoldable pub perform_item : Inside → BodyAt → ℕ → Taken → Tree → Item → Does Taken
+perform_item go at depth done t items.Nothing s = give done s
+perform_item go at depth done t (items.Forms forms) s = splice go at (deeper depth) done forms s
+perform_item go at depth done t (items.Keyword b) s = after (define_syntax go at (deeper depth) done t b s) (λ _. give done)
+perform_item go at depth done t (items.Keywords recursive bs forms) s =
+    after (with_keywords go at.place at.level (deeper depth) recursive bs forms s) (splice go at (deeper depth) done)
+perform_item go at depth done t (items.Use l) s = fault_form kind.BadForm t at.place s
+perform_item go at depth done t (items.SetUse l) s = fault_form kind.BadForm t at.place s
 
--- takes a form of a body; the forms of a `begin` are one deeper
+abbrev pub perform_settled : Inside → ℕ → Taken × SettledItem → Does Taken
+perform_settled go depth p = perform_item go p.1.at depth p.0 p.1.form p.1.item
+
+-- takes a form of a body
 unfoldable pub item : Inside → BodyAt → ℕ → Taken → Tree → Does Taken
-item go at depth done t s = if nat_lt 600 depth then fault_form kind.TooDeep t at.place s else after (item_plan at depth done t s) (λ p. spliced go at depth p.0 p.1)
+item go at depth done t s = if nat_lt 600 depth then fault_form kind.TooDeep t at.place s else after (settle_item go.earlier at depth done t s) (perform_settled go depth)
 
 -- The second pass.
 

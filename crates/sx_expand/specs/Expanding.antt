@@ -11,6 +11,7 @@ use Rattle.sx_base.specs.declared.span.Span.{Span}
 use Rattle.sx_tree.specs.Tree.{Tree, atom}
 use Rattle.sx_core.specs.Core.{PlainCore}
 use Rattle.sx_core.specs.declared.record.LibRecord.{LibRecord}
+use Rattle.sx_eval.specs.Codes.{Codes}
 use Rattle.sx_standing.specs.State.{State, state_code, Does}
 use Rattle.sx_standing.specs.Start.{started, first_frame}
 use Rattle.sx_expand.specs.Body.{body}
@@ -30,24 +31,24 @@ expanding_code =
     (λ e. (e.state, (e.frame, (e.path, e.failed)))) (λ p. record { state = p.0; frame = p.1.0; path = p.1.1.0; failed = p.1.1.1 }) (λ _. refl)
 
 -- an expander that is ready for a library
-abbrev pub ready : LibName → List ℕ → List LibRecord → List (List ℕ × Label) → Expanding
-ready library path records imports = record { state = started library records imports; frame = first_frame library; path = path; failed = false }
+abbrev pub ready : LibName → List ℕ → List LibRecord → List (List ℕ × Label) → Codes → Expanding
+ready library path records imports codes = record { state = started library records imports codes; frame = first_frame library; path = path; failed = false }
 
--- an expression that no form stands round; 602 forms never nest
-abbrev pub expression : Span → ℕ → Tree → Does PlainCore
-expression place level t = (inside 602).form place level 0 t
+-- an expression that no form stands round, behind these records; 602 forms never nest
+abbrev pub expression : List LibRecord → Span → ℕ → Tree → Does PlainCore
+expression rs place level t = (inside rs 602).form place level 0 t
 
 -- a form that has no span
 abbrev pub nowhere : Tree
 nowhere = atom None Nil
 
 -- the body of a procedure that no form stands round, at a place
-abbrev pub lambda_body : Span → ℕ → List Tree → Does PlainCore
-lambda_body place level forms = body (inside 602) place level 0 nowhere forms
+abbrev pub lambda_body : List LibRecord → Span → ℕ → List Tree → Does PlainCore
+lambda_body rs place level forms = body (inside rs 602) place level 0 nowhere forms
 
 abbrev pub body_of : Expanding → List ℕ → Span → TopAt
 body_of e version place = record { path = e.path; version = version; frame = e.frame; place = place }
 
--- the record of a library or program with these exports and forms
-abbrev pub library_record : Expanding → List ℕ → Span → List (List ℕ × Tree) → List Tree → Result LibRecord Fault
-library_record e version place exports forms = record_in (top (inside 602) (body_of e version place) exports forms e.state)
+-- the record of a library or program with these exports and forms, behind these records
+abbrev pub library_record : Expanding → List LibRecord → List ℕ → Span → List (List ℕ × Tree) → List Tree → Result LibRecord Fault
+library_record e rs version place exports forms = record_in (top (inside rs 602) (body_of e version place) exports forms e.state)

@@ -7,19 +7,25 @@ use Rattle.sx_base.specs.declared.name.FrameNo.{FrameNo}
 use Rattle.sx_base.specs.declared.span.Span.{Span}
 use Rattle.sx_tree.specs.Tree.{Tree}
 use Rattle.sx_tree.specs.Changes.{stamp}
-use Rattle.sx_core.specs.Core.{PlainCore, one_armed, two_armed, assignment, procedure, letrec, call, cores}
-use Rattle.sx_core.specs.CoreView.{inits, cases}
+use Rattle.sx_core.specs.Core.{PlainCore, one_armed, two_armed, assignment, procedure, letrec, call, matching, cores}
+use Rattle.sx_core.specs.CoreView.{inits, cases, clauses}
+use Rattle.sx_core.specs.declared.code.Clause.{Clause}
 use Rattle.sx_core.specs.declared.code.Init.{Init}
 use Rattle.sx_core.specs.declared.code.Lambda.{Lambda}
+use Rattle.sx_core.specs.declared.record.LibRecord.{LibRecord}
 use Rattle.sx_shapes.specs.declared.shape.FormalIds.{FormalIds}
 use Rattle.sx_shapes.specs.declared.shape.BindingSpec.{BindingSpec}
 use Rattle.sx_shapes.specs.declared.shape.LambdaCase.{LambdaCase}
+use Rattle.sx_shapes.specs.declared.shape.PatternCase.{PatternCase}
 use Rattle.sx_standing.specs.State.{Does, fresh, fresh_frame, fault_form}
 use Rattle.sx_standing.specs.InScope.{within}
 use Rattle.sx_standing.specs.Binders.{bind_specs, bind_formals}
+use Rattle.sx_standing.specs.Patterns.{pattern_of, check_literals, bind_pattern}
 use Rattle.sx_expand.specs.Inside.{Inside, deeper}
 use Rattle.sx_expand.specs.Body.{body, item, sequence_of}
-use Rattle.sx_heads.specs.Plan.{plan_of}
+use Rattle.sx_expand.specs.Keywords.{with_keywords}
+use Rattle.sx_expand.specs.Settle.{settle}
+use Rattle.sx_expand.specs.declared.settle.Settled.{Settled}
 use Rattle.sx_heads.specs.declared.plan.Plan.{Plan}
 use Rattle.sx_heads.specs.declared.plan.Plan.TheVariants as plans
 use Rattle.sx_standing.specs.declared.binders.BoundSpec.{BoundSpec}
@@ -86,6 +92,36 @@ set go place level depth l value s = after (go.form place level depth value s) (
 unfoldable pub in_sequence : Inside → Span → ℕ → ℕ → List Tree → Does PlainCore
 in_sequence go place level depth forms s = after (in_order go place level depth forms s) (λ cs. give (sequence_of cs))
 
+-- `syntax-case` (libraries report 12.4). The variables of a clause's pattern have a frame, in which its fender and its output stand.
+
+abbrev pub fender : Inside → Span → ℕ → ℕ → FrameNo → Option Tree → Does (Option PlainCore)
+fender go place level depth frame None s = give None s
+fender go place level depth frame (Some t) s = after (go.form place level depth (stamp frame t) s) (λ c. give (Some c))
+
+abbrev pub clause_in : Inside → Span → ℕ → ℕ → List Tree → PatternCase → FrameNo → Does Clause
+clause_in go place level depth literals c frame s =
+    after (pattern_of literals place c.pattern s) (λ p s'.
+    after (bind_pattern frame place level p.variables s') (λ _ s''.
+    after (fender go place level depth frame c.fender s'') (λ f w.
+    after (go.form place level depth (stamp frame c.output) w) (λ o. give (record { pattern = p.pattern; fender = f; output = o })))))
+
+unfoldable pub pattern_clause : Inside → Span → ℕ → ℕ → List Tree → PatternCase → Does Clause
+pattern_clause go place level depth literals c = within (λ s. after (fresh_frame s) (clause_in go place level depth literals c))
+
+abbrev pub all_clauses : Inside → Span → ℕ → ℕ → List Tree → List PatternCase → Does (List Clause)
+all_clauses go place level depth literals = each (pattern_clause go place level depth literals) []
+
+-- the subject, the literals and the clauses, in this order
+unfoldable pub syntax_case : Inside → Span → ℕ → ℕ → Tree → List Tree → List PatternCase → Span → Does PlainCore
+syntax_case go place level depth subject literals cs span s =
+    after (go.form place level depth subject s) (λ c s'.
+    after (check_literals place literals s') (λ _ s''.
+    after (all_clauses go place level depth literals cs s'') (λ xs. give (matching c (clauses xs) span))))
+
+-- expressions among the keywords of `let-syntax` or `letrec-syntax`
+unfoldable pub keywords_form : Inside → Span → ℕ → ℕ → Bool → List BindingSpec → List Tree → Does PlainCore
+keywords_form go place level depth recursive bs forms s = after (with_keywords go place level depth recursive bs forms s) (in_sequence go place level depth)
+
 -- what lies in a form is one deeper
 unfoldable pub perform : Inside → Span → ℕ → ℕ → Tree → Plan → Does PlainCore
 perform go place level depth t (plans.Done c) = give c
@@ -96,15 +132,27 @@ perform go place level depth t (plans.Sequence forms) = in_sequence go place lev
 perform go place level depth t (plans.Lambda ids forms) = lambda go place level (deeper depth) t ids forms
 perform go place level depth t (plans.CaseLambda cs) = case_lambda go place level (deeper depth) t cs
 perform go place level depth t (plans.Letrec star bs forms) = letrec_form go place level (deeper depth) t star bs forms
+perform go place level depth t (plans.Matching subject literals cs span) = syntax_case go place level (deeper depth) subject literals cs span
+perform go place level depth t (plans.Keywords recursive bs forms) = keywords_form go place level (deeper depth) recursive bs forms
+perform go place level depth t (plans.Use l) = fault_form kind.BadForm t place
+perform go place level depth t (plans.SetUse l id) = fault_form kind.BadForm t place
+
+abbrev pub perform_settled : Inside → ℕ → ℕ → Settled → Does PlainCore
+perform_settled go level depth d = perform go d.place level depth d.form d.plan
 
 -- at most 600 forms may stand round one
 unfoldable pub form_at : Inside → Span → ℕ → ℕ → Tree → Does PlainCore
-form_at go place level depth t s = if nat_lt 600 depth then fault_form kind.TooDeep t place s else after (plan_of place level t s) (perform go place level depth t)
+form_at go place level depth t s = if nat_lt 600 depth then fault_form kind.TooDeep t place s else after (settle go.earlier place level t s) (perform_settled go level depth)
 
--- what is done with forms inside which so many more may nest; 602 are enough
-unfoldable pub inside : ℕ → Inside
-inside zero = record { form = λ place level depth t. fault_form kind.TooDeep t place; procedure = λ place level depth t ids forms. fault_form kind.TooDeep t place; item = λ at depth done t. fault_form kind.TooDeep t at.place }
-inside (suc room) = record { form = form_at (inside room); procedure = lambda_case (inside room); item = item (inside room) }
+-- what is done with forms inside which so many more may nest, behind these records; 602 are enough
+unfoldable pub inside : List LibRecord → ℕ → Inside
+inside rs zero = record {
+  earlier = rs;
+  form = λ place level depth t. fault_form kind.TooDeep t place;
+  procedure = λ place level depth t ids forms. fault_form kind.TooDeep t place;
+  item = λ at depth done t. fault_form kind.TooDeep t at.place;
+}
+inside rs (suc room) = record { earlier = rs; form = form_at (inside rs room); procedure = lambda_case (inside rs room); item = item (inside rs room) }
 
-abbrev pub expression : Span → ℕ → ℕ → Tree → ℕ → Does PlainCore
-expression place level depth t room = (inside room).form place level depth t
+abbrev pub expression : List LibRecord → Span → ℕ → ℕ → Tree → ℕ → Does PlainCore
+expression rs place level depth t room = (inside rs room).form place level depth t

@@ -1,4 +1,6 @@
 pub mod Inside
+pub mod Settle
+pub mod Keywords
 pub mod Body
 pub mod Expression
 pub mod Top

@@ -5,10 +5,13 @@ ghost use Rattle.sx_base.specs.Datum as datum;
 ghost use Rattle.sx_base.specs.declared.atom.Atom.TheVariants as atoms;
 ghost use Rattle.sx_base.specs.Act.{GivesAfter};
 ghost use Rattle.sx_expand.specs.Expression.{inside};
-ghost use Rattle.sx_expand.specs.Body.{splice, item, value_of, finish_one, finish_all, finish, body, body_core, with_inits, no_value};
+ghost use Rattle.sx_expand.specs.Body.{splice, item, perform_item, value_of, finish_one, finish_all, finish, body, body_core, with_inits, no_value};
 
 use crate::expression::{expression, procedure, procedure_of_case, sequence_of, stamp_all};
 use crate::inside::{MOST_ROUND, deeper};
+use crate::keywords::{define_syntax, with_keywords};
+use crate::settle::{SettledItem, settle_item};
+use crate::transformers::Transformers;
 use std::alloc::Global;
 use std::sync::ledger::Ledger;
 use sx_base::atom::Atom;
@@ -18,13 +21,13 @@ use sx_base::items::Items;
 use sx_base::memory::Memory;
 use sx_base::name::CodeNo;
 use sx_base::span::Span;
-use sx_base::steps::Steps;
 use sx_core::code::{Core, CoreNode, Init};
 use sx_core::record::Line;
-use sx_heads::items::item_plan;
+use sx_heads::item::Item;
 use sx_heads::kept::KeptHeads;
 use sx_heads::taken::{BodyAt, BodyKind, Taken, Waiting, Waits};
 use sx_standing::expansion::Expansion;
+use sx_standing::means::Counts;
 use sx_syntax::syn::Syn;
 
 fn falsehood() -> Datum
@@ -84,107 +87,173 @@ fn body_core(alloc: Global, lines: Vec<Line>) -> Result<Core, Memory>
 }
 
 /// Forms of a body, in order.
-#[cycle(item)]
-pub(crate) fn splice<N: Ledger>(
+#[cycle(form)]
+pub(crate) fn splice<M: Transformers, N: Ledger, L: Ledger>(
     state: &mut Expansion,
     at: &BodyAt,
     depth: u16,
     taken: &mut Taken,
     forms: &[Syn],
-    nodes: &mut Steps<N>,
+    means: &M,
+    counts: &mut Counts<N, L>,
     room: u16,
 ) -> Result<(), Stop>
-    ensures { GivesAfter (λ _. taken.new) result state.new (splice (inside room) at.now depth taken.old forms.now state.old) }
+    ensures { GivesAfter (λ _. taken.new) result state.new (splice (inside (M.records means.now) room) at.now depth taken.old forms.now state.old) }
 {
     for form in forms {
-        item(state, at, depth, taken, form, nodes, room)?;
+        item(state, at, depth, taken, form, means, counts, room)?;
     }
     Ok(())
 }
 
-#[cycle(item)]
+#[cycle(form)]
 #[tactic(auto, using(crate::proofs::Steps::item_step, crate::proofs::Steps::item_too_deep))]
-fn item<N: Ledger>(
+fn item<M: Transformers, N: Ledger, L: Ledger>(
     state: &mut Expansion,
     at: &BodyAt,
     depth: u16,
     taken: &mut Taken,
     form: &Syn,
-    nodes: &mut Steps<N>,
+    means: &M,
+    counts: &mut Counts<N, L>,
     room: u16,
 ) -> Result<(), Stop>
-    ensures { GivesAfter (λ _. taken.new) result state.new ((inside room).item at.now depth taken.old form.now state.old) }
+    ensures { GivesAfter (λ _. taken.new) result state.new ((inside (M.records means.now) room).item at.now depth taken.old form.now state.old) }
 {
     if room == 0 {
         return Err(state.fault_form(FaultKind::TooDeep, form, &at.place));
     }
-    item_at(state, at, depth, taken, form, nodes, room - 1)
+    item_at(state, at, depth, taken, form, means, counts, room - 1)
 }
 
-#[cycle(item)]
-#[tactic(auto, unfolding(crate::specs::Body::item))]
-fn item_at<N: Ledger>(
+#[cycle(form)]
+#[tactic(auto, unfolding(crate::specs::Body::item), using(crate::proofs::Steps::earlier_inside))]
+fn item_at<M: Transformers, N: Ledger, L: Ledger>(
     state: &mut Expansion,
     at: &BodyAt,
     depth: u16,
     taken: &mut Taken,
     form: &Syn,
-    nodes: &mut Steps<N>,
+    means: &M,
+    counts: &mut Counts<N, L>,
     room: u16,
 ) -> Result<(), Stop>
-    ensures { GivesAfter (λ _. taken.new) result state.new (item (inside room) at.now depth taken.old form.now state.old) }
+    ensures { GivesAfter (λ _. taken.new) result state.new (item (inside (M.records means.now) room) at.now depth taken.old form.now state.old) }
 {
     if depth > MOST_ROUND {
         return Err(state.fault_form(FaultKind::TooDeep, form, &at.place));
     }
-    match item_plan(state, at, depth, taken, form)? {
-        None => Ok(()),
-        Some(forms) => splice(
+    let SettledItem { at, form, item } = settle_item(state, at, depth, taken, form, means, counts)?;
+    perform_item(state, &at, depth, taken, &form, item, means, counts, room)
+}
+
+/// What is done with a form of a body that is no use.
+#[cycle(form)]
+#[tactic(auto, unfolding(crate::specs::Body::perform_item))]
+fn perform_item<M: Transformers, N: Ledger, L: Ledger>(
+    state: &mut Expansion,
+    at: &BodyAt,
+    depth: u16,
+    taken: &mut Taken,
+    form: &Syn,
+    item: Item,
+    means: &M,
+    counts: &mut Counts<N, L>,
+    room: u16,
+) -> Result<(), Stop>
+    ensures { GivesAfter (λ _. taken.new) result state.new (perform_item (inside (M.records means.now) room) at.now depth taken.old form.now item state.old) }
+{
+    let inner = deeper(depth);
+    match item {
+        Item::Nothing => Ok(()),
+        Item::Forms(forms) => splice(
             state,
             at,
-            deeper(depth),
+            inner,
             taken,
             forms.as_slice(),
-            nodes,
+            means,
+            counts,
             room,
         ),
+        Item::Keyword(spec) => define_syntax(
+            state, at, inner, taken, form, &spec, means, counts, room,
+        ),
+        Item::Keywords(recursive, specs, forms) => {
+            let forms = with_keywords(
+                state,
+                recursive,
+                specs.as_slice(),
+                forms.as_slice(),
+                &at.place,
+                at.level,
+                inner,
+                means,
+                counts,
+                room,
+            )?;
+            splice(
+                state,
+                at,
+                inner,
+                taken,
+                forms.as_slice(),
+                means,
+                counts,
+                room,
+            )
+        }
+        // No form that was settled is a use.
+        Item::Use(_) => Err(state.fault_form(FaultKind::BadForm, form, &at.place)),
+        Item::SetUse(_) => Err(state.fault_form(FaultKind::BadForm, form, &at.place)),
     }
 }
 
 #[cycle(form)]
-fn value_of<N: Ledger>(
+fn value_of<M: Transformers, N: Ledger, L: Ledger>(
     state: &mut Expansion,
     value: &Option<Syn>,
     place: &Span,
     level: u32,
     depth: u16,
-    nodes: &mut Steps<N>,
+    means: &M,
+    counts: &mut Counts<N, L>,
     room: u16,
 ) -> Result<Core, Stop>
-    ensures { GivesAfter (λ c. c) result state.new (value_of (inside room) place.now level depth value.now state.old) }
+    ensures { GivesAfter (λ c. c) result state.new (value_of (inside (M.records means.now) room) place.now level depth value.now state.old) }
 {
     match value {
         None => Ok(no_value(state.alloc())?),
-        Some(value) => expression(state, value, place, level, depth, nodes, room),
+        Some(value) => expression(state, value, place, level, depth, means, counts, room),
     }
 }
 
 #[cycle(form)]
 #[tactic(auto, unfolding(crate::specs::Body::finish_as))]
-fn finish_one<N: Ledger>(
+fn finish_one<M: Transformers, N: Ledger, L: Ledger>(
     state: &mut Expansion,
     waiting: &Waiting,
     level: u32,
-    nodes: &mut Steps<N>,
+    means: &M,
+    counts: &mut Counts<N, L>,
     room: u16,
 ) -> Result<Line, Stop>
-    ensures { GivesAfter (λ c. c) result state.new (finish_one (inside room) level waiting.now state.old) }
+    ensures { GivesAfter (λ c. c) result state.new (finish_one (inside (M.records means.now) room) level waiting.now state.old) }
 {
     let place = &waiting.place;
     let depth = waiting.depth;
     match &waiting.what {
         Waits::Variable(label, value) => {
-            let value = value_of(state, value, place, level, deeper(depth), nodes, room)?;
+            let value = value_of(
+                state,
+                value,
+                place,
+                level,
+                deeper(depth),
+                means,
+                counts,
+                room,
+            )?;
             Ok(Line::Define(label.share()?, value))
         }
         Waits::Procedure(label, form, ids, forms) => {
@@ -197,14 +266,15 @@ fn finish_one<N: Ledger>(
                 place,
                 level,
                 deeper(depth),
-                nodes,
+                means,
+                counts,
                 room,
             )?;
             let value = procedure_of_case(state.alloc(), number, case)?;
             Ok(Line::Define(label.share()?, value))
         }
         Waits::Expression(form) => {
-            let value = expression(state, form, place, level, depth, nodes, room)?;
+            let value = expression(state, form, place, level, depth, means, counts, room)?;
             Ok(Line::Expr(value))
         }
     }
@@ -212,18 +282,19 @@ fn finish_one<N: Ledger>(
 
 /// The second pass.
 #[cycle(form)]
-pub(crate) fn finish_all<N: Ledger>(
+pub(crate) fn finish_all<M: Transformers, N: Ledger, L: Ledger>(
     state: &mut Expansion,
     waiting: &[Waiting],
     level: u32,
-    nodes: &mut Steps<N>,
+    means: &M,
+    counts: &mut Counts<N, L>,
     room: u16,
 ) -> Result<Vec<Line>, Stop>
-    ensures { GivesAfter (λ v. v.items) result state.new (finish_all (inside room) level waiting.now state.old) }
+    ensures { GivesAfter (λ v. v.items) result state.new (finish_all (inside (M.records means.now) room) level waiting.now state.old) }
 {
     let mut lines = Vec::new(state.alloc());
     for one in waiting {
-        let line = finish_one(state, one, level, nodes, room)?;
+        let line = finish_one(state, one, level, means, counts, room)?;
         lines.push(line)?;
     }
     Ok(lines)
@@ -231,42 +302,44 @@ pub(crate) fn finish_all<N: Ledger>(
 
 #[cycle(form)]
 #[tactic(auto, unfolding(crate::specs::Body::finish))]
-fn finish<N: Ledger>(
+fn finish<M: Transformers, N: Ledger, L: Ledger>(
     state: &mut Expansion,
     form: &Syn,
     taken: &Taken,
     place: &Span,
     level: u32,
-    nodes: &mut Steps<N>,
+    means: &M,
+    counts: &mut Counts<N, L>,
     room: u16,
 ) -> Result<Core, Stop>
-    ensures { GivesAfter (λ c. c) result state.new (finish (inside room) place.now level form.now taken.now state.old) }
+    ensures { GivesAfter (λ c. c) result state.new (finish (inside (M.records means.now) room) place.now level form.now taken.now state.old) }
 {
     if !taken.has_expression {
         return Err(state.fault_form(FaultKind::NoExpression, form, place));
     }
-    let lines = finish_all(state, taken.waiting.as_slice(), level, nodes, room)?;
+    let lines = finish_all(state, taken.waiting.as_slice(), level, means, counts, room)?;
     Ok(body_core(state.alloc(), lines)?)
 }
 
 /// The body of a procedure or `letrec`, which is `form`.
 #[cycle(form)]
 #[tactic(auto, unfolding(crate::specs::Body::body))]
-pub fn body<N: Ledger>(
+pub fn body<M: Transformers, N: Ledger, L: Ledger>(
     state: &mut Expansion,
     form: &Syn,
     forms: &[Syn],
     place: &Span,
     level: u32,
     depth: u16,
-    nodes: &mut Steps<N>,
+    means: &M,
+    counts: &mut Counts<N, L>,
     room: u16,
 ) -> Result<Core, Stop>
-    ensures { GivesAfter (λ c. c) result state.new (body (inside room) place.now level depth form.now forms.now state.old) }
+    ensures { GivesAfter (λ c. c) result state.new (body (inside (M.records means.now) room) place.now level depth form.now forms.now state.old) }
 {
     let outer = state.in_scope();
     let frame = state.fresh_frame()?;
-    let forms = stamp_all(state.alloc(), &frame, forms, nodes)?;
+    let forms = stamp_all(state.alloc(), &frame, forms, counts.nodes)?;
     let at = BodyAt {
         frame,
         place: place.share()?,
@@ -277,9 +350,19 @@ pub fn body<N: Ledger>(
         waiting: Items::new(state.alloc()),
         kept: KeptHeads::new(state.alloc()),
         has_expression: false,
+        moved: false,
     };
-    splice(state, &at, depth, &mut taken, forms.as_slice(), nodes, room)?;
-    let core = finish(state, form, &taken, place, level, nodes, room)?;
+    splice(
+        state,
+        &at,
+        depth,
+        &mut taken,
+        forms.as_slice(),
+        means,
+        counts,
+        room,
+    )?;
+    let core = finish(state, form, &taken, place, level, means, counts, room)?;
     state.cut_scope(outer);
     Ok(core)
 }

@@ -3,6 +3,8 @@
 ghost use Rattle.std.specs.Prelude.{◌≡◌, IfOk, OnOk, OnErr, true, false, Ok};
 ghost use Rattle.sx_base.specs.Act.{GivesAfter};
 ghost use Rattle.sx_base.specs.Gives.{Gives};
+ghost use Rattle.sx_eval.specs.Codes as table;
+ghost use Rattle.sx_stage.specs.Libraries.{earlier_in};
 ghost use Rattle.sx_standing.specs.Ready.{needed_records};
 ghost use Rattle.sx_expand.specs.Expanding.{ready, expression, lambda_body, library_record};
 
@@ -10,21 +12,23 @@ use crate::body::body;
 use crate::expression::expression;
 use crate::inside::ROOM;
 use crate::top::{TopAt, top};
+use indexmap::IndexMap;
 use std::alloc::Global;
 use std::marker::Model;
+use std::rc::Rc;
 use std::sync::ledger::Ledger;
 use sx_base::atom::Atom;
 use sx_base::fault::Stop;
 use sx_base::items::Items;
 use sx_base::library::LibName;
 use sx_base::memory::Memory;
-use sx_base::name::{FrameNo, Label};
+use sx_base::name::{CodeNo, FrameNo, Label};
 use sx_base::span::Span;
-use sx_base::steps::Steps;
 use sx_base::symbol::Symbol;
-use sx_core::code::Core;
+use sx_core::code::{Code, Core};
 use sx_core::record::LibRecord;
 use sx_standing::expansion::Expansion;
+use sx_standing::means::{Counts, Means};
 use sx_standing::ready::ReadyRecords;
 use sx_syntax::syn::Syn;
 
@@ -51,7 +55,8 @@ impl Model for Expander {
 
 impl Expander {
     /// An expander for a library. The records before it are those of the earlier ones that are marked; the
-    /// imports are names with their labels. Two imports of one name are refused as want of memory is.
+    /// imports are names with their labels. The codes are those of procedures that are texts. Two imports of one
+    /// name are refused as want of memory is.
     pub fn new(
         alloc: Global,
         name: LibName,
@@ -59,10 +64,11 @@ impl Expander {
         earlier: &ReadyRecords,
         needs: &[bool],
         imports: &[(Symbol, Label)],
+        codes: IndexMap<CodeNo, Rc<Code>>,
     ) -> Result<Expander, Stop>
-        ensures { Gives (λ e. e) result (Ok (ready name path (needed_records needs.now earlier.now) imports.now)) }
+        ensures { Gives (λ e. e) result (Ok (ready name path (needed_records needs.now earlier.now) imports.now (table.seen codes.entries))) }
     {
-        match begun(alloc, name, path, earlier, needs, imports) {
+        match begun(alloc, name, path, earlier, needs, imports, codes) {
             Ok(expander) => Ok(expander),
             Err(memory) => Err(Stop::from(memory)),
         }
@@ -76,21 +82,22 @@ impl Expander {
     }
 
     /// What an expression expands to. A form without a span stands at the place.
-    pub fn expression<N: Ledger>(
+    pub fn expression<N: Ledger, L: Ledger>(
         &mut self,
         form: &Syn,
         place: &Span,
         level: u32,
-        nodes: &mut Steps<N>,
+        means: &Means,
+        counts: &mut Counts<N, L>,
     ) -> Result<Core, Stop>
         requires { self.old.failed ≡ false }
-        ensures given { GivesAfter (λ c. c) result self.new.state (expression place.now level form.now self.old.state) }
+        ensures given { GivesAfter (λ c. c) result self.new.state (expression (earlier_in means.now.earlier) place.now level form.now self.old.state) }
         ensures ok { OnOk result (self.new.failed ≡ false) }
         ensures err { OnErr result (self.new.failed ≡ true) }
         ensures frame { self.new.frame ≡ self.old.frame }
         ensures path { self.new.path ≡ self.old.path }
     {
-        match expression(&mut self.state, form, place, level, 0, nodes, ROOM) {
+        match expression(&mut self.state, form, place, level, 0, means, counts, ROOM) {
             Ok(core) => Ok(core),
             Err(stop) => {
                 self.failed = true;
@@ -100,21 +107,22 @@ impl Expander {
     }
 
     /// What the body of a procedure at a place expands to.
-    pub fn body<N: Ledger>(
+    pub fn body<N: Ledger, L: Ledger>(
         &mut self,
         forms: &[Syn],
         place: &Span,
         level: u32,
-        nodes: &mut Steps<N>,
+        means: &Means,
+        counts: &mut Counts<N, L>,
     ) -> Result<Core, Stop>
         requires { self.old.failed ≡ false }
-        ensures given { GivesAfter (λ c. c) result self.new.state (lambda_body place.now level forms.now self.old.state) }
+        ensures given { GivesAfter (λ c. c) result self.new.state (lambda_body (earlier_in means.now.earlier) place.now level forms.now self.old.state) }
         ensures ok { OnOk result (self.new.failed ≡ false) }
         ensures err { OnErr result (self.new.failed ≡ true) }
         ensures frame { self.new.frame ≡ self.old.frame }
         ensures path { self.new.path ≡ self.old.path }
     {
-        match lambda_body(&mut self.state, forms, place, level, nodes) {
+        match lambda_body(&mut self.state, forms, place, level, means, counts) {
             Ok(core) => Ok(core),
             Err(stop) => {
                 self.failed = true;
@@ -125,20 +133,21 @@ impl Expander {
 
     /// The record of a library or program with this body. The exports are external names, each with the
     /// identifier that it stands for.
-    pub fn top<N: Ledger>(
+    pub fn top<N: Ledger, L: Ledger>(
         self,
         forms: &[Syn],
         place: &Span,
         exports: &[(Symbol, Syn)],
         version: Items<u64>,
-        nodes: &mut Steps<N>,
+        means: &Means,
+        counts: &mut Counts<N, L>,
     ) -> Result<LibRecord, Stop>
         requires { self.failed ≡ false }
-        ensures { Gives (λ r. r) result (library_record self version place.now exports.now forms.now) }
+        ensures { Gives (λ r. r) result (library_record self (earlier_in means.now.earlier) version place.now exports.now forms.now) }
     {
         let mut state = self.state;
         match body_of(self.path, version, self.frame, place) {
-            Ok(at) => top(&mut state, at, exports, forms, nodes),
+            Ok(at) => top(&mut state, at, exports, forms, means, counts),
             Err(memory) => Err(Stop::from(memory)),
         }
     }
@@ -152,10 +161,11 @@ fn begun(
     earlier: &ReadyRecords,
     needs: &[bool],
     imports: &[(Symbol, Label)],
+    codes: IndexMap<CodeNo, Rc<Code>>,
 ) -> Result<Expander, Memory>
-    ensures { IfOk result (λ e. e ≡ ready name path (needed_records needs.now earlier.now) imports.now) }
+    ensures { IfOk result (λ e. e ≡ ready name path (needed_records needs.now earlier.now) imports.now (table.seen codes.entries)) }
 {
-    let state = Expansion::start(alloc, name, earlier, needs, imports)?;
+    let state = Expansion::start(alloc, name, earlier, needs, imports, codes)?;
     let frame = state.first_frame()?;
     Ok(Expander {
         state,
@@ -177,15 +187,16 @@ fn body_of(path: Symbol, version: Items<u64>, frame: FrameNo, place: &Span) -> R
     })
 }
 
-fn lambda_body<N: Ledger>(
+fn lambda_body<N: Ledger, L: Ledger>(
     state: &mut Expansion,
     forms: &[Syn],
     place: &Span,
     level: u32,
-    nodes: &mut Steps<N>,
+    means: &Means,
+    counts: &mut Counts<N, L>,
 ) -> Result<Core, Stop>
-    ensures { GivesAfter (λ c. c) result state.new (lambda_body place.now level forms.now state.old) }
+    ensures { GivesAfter (λ c. c) result state.new (lambda_body (earlier_in means.now.earlier) place.now level forms.now state.old) }
 {
     let nowhere = Syn::atom(state.alloc(), Atom::Nil)?;
-    body(state, &nowhere, forms, place, level, 0, nodes, ROOM)
+    body(state, &nowhere, forms, place, level, 0, means, counts, ROOM)
 }

@@ -10,6 +10,10 @@ ghost use Rattle.sx_expand.specs.Expression.{inside, form_at, perform, in_order,
 
 use crate::body::body;
 use crate::inside::{MOST_ROUND, deeper};
+use crate::keywords::keywords_form;
+use crate::patterns::syntax_case;
+use crate::settle::{Settled, settle};
+use crate::transformers::Transformers;
 use std::alloc::Global;
 use std::rc::Rc;
 use std::sync::ledger::Ledger;
@@ -20,10 +24,11 @@ use sx_base::name::{CodeNo, FrameNo, Label};
 use sx_base::span::Span;
 use sx_base::steps::Steps;
 use sx_core::code::{Code, Core, CoreNode, Init, Lambda};
-use sx_heads::plan::{Plan, plan_of};
+use sx_heads::plan::Plan;
 use sx_shapes::shape::{BindingSpec, FormalIds, LambdaCase};
 use sx_standing::binders::BoundSpec;
 use sx_standing::expansion::Expansion;
+use sx_standing::means::Counts;
 use sx_syntax::syn::Syn;
 
 /// A sequence of one is that one.
@@ -82,56 +87,61 @@ pub(crate) fn stamp_all<N: Ledger>(
 /// A form with so much room for the forms in it.
 #[cycle(form)]
 #[tactic(auto, using(crate::proofs::Steps::form_step, crate::proofs::Steps::form_too_deep))]
-pub fn expression<N: Ledger>(
+pub fn expression<M: Transformers, N: Ledger, L: Ledger>(
     state: &mut Expansion,
     form: &Syn,
     place: &Span,
     level: u32,
     depth: u16,
-    nodes: &mut Steps<N>,
+    means: &M,
+    counts: &mut Counts<N, L>,
     room: u16,
 ) -> Result<Core, Stop>
-    ensures { GivesAfter (λ c. c) result state.new ((inside room).form place.now level depth form.now state.old) }
+    ensures { GivesAfter (λ c. c) result state.new ((inside (M.records means.now) room).form place.now level depth form.now state.old) }
 {
     if room == 0 {
         return Err(state.fault_form(FaultKind::TooDeep, form, place));
     }
-    form_at(state, form, place, level, depth, nodes, room - 1)
+    form_at(state, form, place, level, depth, means, counts, room - 1)
 }
 
 #[cycle(form)]
-#[tactic(auto, unfolding(crate::specs::Expression::form_at))]
-fn form_at<N: Ledger>(
+#[tactic(auto, unfolding(crate::specs::Expression::form_at), using(crate::proofs::Steps::earlier_inside))]
+fn form_at<M: Transformers, N: Ledger, L: Ledger>(
     state: &mut Expansion,
     form: &Syn,
     place: &Span,
     level: u32,
     depth: u16,
-    nodes: &mut Steps<N>,
+    means: &M,
+    counts: &mut Counts<N, L>,
     room: u16,
 ) -> Result<Core, Stop>
-    ensures { GivesAfter (λ c. c) result state.new (form_at (inside room) place.now level depth form.now state.old) }
+    ensures { GivesAfter (λ c. c) result state.new (form_at (inside (M.records means.now) room) place.now level depth form.now state.old) }
 {
     if depth > MOST_ROUND {
         return Err(state.fault_form(FaultKind::TooDeep, form, place));
     }
-    let plan = plan_of(state, form, place, level)?;
-    perform(state, form, plan, place, level, depth, nodes, room)
+    let Settled { place, form, plan } = settle(state, form, place, level, means, counts)?;
+    perform(
+        state, &form, plan, &place, level, depth, means, counts, room,
+    )
 }
 
 #[cycle(form)]
 #[tactic(auto, unfolding(crate::specs::Expression::perform))]
-fn perform<N: Ledger>(
+fn perform<M: Transformers, N: Ledger, L: Ledger>(
     state: &mut Expansion,
     form: &Syn,
     plan: Plan,
     place: &Span,
     level: u32,
     depth: u16,
-    nodes: &mut Steps<N>,
+    means: &M,
+    counts: &mut Counts<N, L>,
     room: u16,
 ) -> Result<Core, Stop>
-    ensures { GivesAfter (λ c. c) result state.new (perform (inside room) place.now level depth form.now plan state.old) }
+    ensures { GivesAfter (λ c. c) result state.new (perform (inside (M.records means.now) room) place.now level depth form.now plan state.old) }
 {
     let inner = deeper(depth);
     match plan {
@@ -144,7 +154,8 @@ fn perform<N: Ledger>(
                 place,
                 level,
                 inner,
-                nodes,
+                means,
+                counts,
                 room,
             )
         }
@@ -157,12 +168,13 @@ fn perform<N: Ledger>(
                 place,
                 level,
                 inner,
-                nodes,
+                means,
+                counts,
                 room,
             )
         }
         Plan::Assignment(label, value) => set(
-            state, label, &value, place, level, inner, nodes, room,
+            state, label, &value, place, level, inner, means, counts, room,
         ),
         Plan::Sequence(forms) => in_sequence(
             state,
@@ -170,7 +182,8 @@ fn perform<N: Ledger>(
             place,
             level,
             inner,
-            nodes,
+            means,
+            counts,
             room,
         ),
         Plan::Lambda(ids, forms) => lambda(
@@ -181,7 +194,8 @@ fn perform<N: Ledger>(
             place,
             level,
             inner,
-            nodes,
+            means,
+            counts,
             room,
         ),
         Plan::CaseLambda(cases) => case_lambda(
@@ -191,7 +205,8 @@ fn perform<N: Ledger>(
             place,
             level,
             inner,
-            nodes,
+            means,
+            counts,
             room,
         ),
         Plan::Letrec(star, specs, forms) => letrec_form(
@@ -203,29 +218,59 @@ fn perform<N: Ledger>(
             place,
             level,
             inner,
-            nodes,
+            means,
+            counts,
             room,
         ),
+        Plan::Matching(subject, literals, clauses, span) => syntax_case(
+            state,
+            &subject,
+            literals.as_slice(),
+            clauses.as_slice(),
+            span,
+            place,
+            level,
+            inner,
+            means,
+            counts,
+            room,
+        ),
+        Plan::Keywords(recursive, specs, forms) => keywords_form(
+            state,
+            recursive,
+            specs.as_slice(),
+            forms.as_slice(),
+            place,
+            level,
+            inner,
+            means,
+            counts,
+            room,
+        ),
+        // No plan of a form that was settled is a use.
+        Plan::Use(_) => Err(state.fault_form(FaultKind::BadForm, form, place)),
+        Plan::SetUse(_, _) => Err(state.fault_form(FaultKind::BadForm, form, place)),
     }
 }
 
 /// The operator and the operands, from left to right.
 #[cycle(form)]
 #[tactic(auto, unfolding(crate::specs::Expression::application))]
-fn application<N: Ledger>(
+fn application<M: Transformers, N: Ledger, L: Ledger>(
     state: &mut Expansion,
     operator: &Syn,
     operands: &[Syn],
     place: &Span,
     level: u32,
     depth: u16,
-    nodes: &mut Steps<N>,
+    means: &M,
+    counts: &mut Counts<N, L>,
     room: u16,
 ) -> Result<Core, Stop>
-    ensures { GivesAfter (λ c. c) result state.new (application (inside room) place.now level depth operator.now operands.now state.old) }
+    ensures { GivesAfter (λ c. c) result state.new (application (inside (M.records means.now) room) place.now level depth operator.now operands.now state.old) }
 {
-    let operator = expression(state, operator, place, level, depth, nodes, room)?;
-    let operands = in_order(state, operands, place, level, depth, nodes, room)?;
+    let operator = expression(state, operator, place, level, depth, means, counts, room)?;
+    let operands = in_order(state, operands, place, level, depth, means, counts, room)?;
     let operator = Box::new(state.alloc(), operator)?;
     Ok(Core {
         node: CoreNode::App(operator, operands),
@@ -234,7 +279,7 @@ fn application<N: Ledger>(
 
 #[cycle(form)]
 #[tactic(auto, unfolding(crate::specs::Expression::conditional))]
-fn conditional<N: Ledger>(
+fn conditional<M: Transformers, N: Ledger, L: Ledger>(
     state: &mut Expansion,
     test: &Syn,
     consequent: &Syn,
@@ -242,20 +287,21 @@ fn conditional<N: Ledger>(
     place: &Span,
     level: u32,
     depth: u16,
-    nodes: &mut Steps<N>,
+    means: &M,
+    counts: &mut Counts<N, L>,
     room: u16,
 ) -> Result<Core, Stop>
-    ensures { GivesAfter (λ c. c) result state.new (conditional (inside room) place.now level depth test.now consequent.now other.now state.old) }
+    ensures { GivesAfter (λ c. c) result state.new (conditional (inside (M.records means.now) room) place.now level depth test.now consequent.now other.now state.old) }
 {
-    let test = expression(state, test, place, level, depth, nodes, room)?;
-    let consequent = expression(state, consequent, place, level, depth, nodes, room)?;
+    let test = expression(state, test, place, level, depth, means, counts, room)?;
+    let consequent = expression(state, consequent, place, level, depth, means, counts, room)?;
     alternate(
-        state, test, consequent, other, place, level, depth, nodes, room,
+        state, test, consequent, other, place, level, depth, means, counts, room,
     )
 }
 
 #[cycle(form)]
-fn alternate<N: Ledger>(
+fn alternate<M: Transformers, N: Ledger, L: Ledger>(
     state: &mut Expansion,
     test: Core,
     consequent: Core,
@@ -263,10 +309,11 @@ fn alternate<N: Ledger>(
     place: &Span,
     level: u32,
     depth: u16,
-    nodes: &mut Steps<N>,
+    means: &M,
+    counts: &mut Counts<N, L>,
     room: u16,
 ) -> Result<Core, Stop>
-    ensures { GivesAfter (λ c. c) result state.new (alternate (inside room) place.now level depth test consequent other.now state.old) }
+    ensures { GivesAfter (λ c. c) result state.new (alternate (inside (M.records means.now) room) place.now level depth test consequent other.now state.old) }
 {
     let test = Box::new(state.alloc(), test)?;
     let consequent = Box::new(state.alloc(), consequent)?;
@@ -275,7 +322,7 @@ fn alternate<N: Ledger>(
             node: CoreNode::If(test, consequent, None),
         }),
         Some(other) => {
-            let other = expression(state, other, place, level, depth, nodes, room)?;
+            let other = expression(state, other, place, level, depth, means, counts, room)?;
             let other = Box::new(state.alloc(), other)?;
             Ok(Core {
                 node: CoreNode::If(test, consequent, Some(other)),
@@ -286,19 +333,20 @@ fn alternate<N: Ledger>(
 
 #[cycle(form)]
 #[tactic(auto, unfolding(crate::specs::Expression::set))]
-fn set<N: Ledger>(
+fn set<M: Transformers, N: Ledger, L: Ledger>(
     state: &mut Expansion,
     label: Label,
     value: &Syn,
     place: &Span,
     level: u32,
     depth: u16,
-    nodes: &mut Steps<N>,
+    means: &M,
+    counts: &mut Counts<N, L>,
     room: u16,
 ) -> Result<Core, Stop>
-    ensures { GivesAfter (λ c. c) result state.new (set (inside room) place.now level depth label value.now state.old) }
+    ensures { GivesAfter (λ c. c) result state.new (set (inside (M.records means.now) room) place.now level depth label value.now state.old) }
 {
-    let value = expression(state, value, place, level, depth, nodes, room)?;
+    let value = expression(state, value, place, level, depth, means, counts, room)?;
     let value = Box::new(state.alloc(), value)?;
     Ok(Core {
         node: CoreNode::Set(label, value),
@@ -307,36 +355,38 @@ fn set<N: Ledger>(
 
 #[cycle(form)]
 #[tactic(auto, unfolding(crate::specs::Expression::in_sequence))]
-fn in_sequence<N: Ledger>(
+pub(crate) fn in_sequence<M: Transformers, N: Ledger, L: Ledger>(
     state: &mut Expansion,
     forms: &[Syn],
     place: &Span,
     level: u32,
     depth: u16,
-    nodes: &mut Steps<N>,
+    means: &M,
+    counts: &mut Counts<N, L>,
     room: u16,
 ) -> Result<Core, Stop>
-    ensures { GivesAfter (λ c. c) result state.new (in_sequence (inside room) place.now level depth forms.now state.old) }
+    ensures { GivesAfter (λ c. c) result state.new (in_sequence (inside (M.records means.now) room) place.now level depth forms.now state.old) }
 {
-    let parts = in_order(state, forms, place, level, depth, nodes, room)?;
+    let parts = in_order(state, forms, place, level, depth, means, counts, room)?;
     Ok(sequence_of(parts))
 }
 
 #[cycle(form)]
-fn in_order<N: Ledger>(
+fn in_order<M: Transformers, N: Ledger, L: Ledger>(
     state: &mut Expansion,
     forms: &[Syn],
     place: &Span,
     level: u32,
     depth: u16,
-    nodes: &mut Steps<N>,
+    means: &M,
+    counts: &mut Counts<N, L>,
     room: u16,
 ) -> Result<Vec<Core>, Stop>
-    ensures { GivesAfter (λ c. c.items) result state.new (in_order (inside room) place.now level depth forms.now state.old) }
+    ensures { GivesAfter (λ c. c.items) result state.new (in_order (inside (M.records means.now) room) place.now level depth forms.now state.old) }
 {
     let mut done = Vec::new(state.alloc());
     for form in forms {
-        let core = expression(state, form, place, level, depth, nodes, room)?;
+        let core = expression(state, form, place, level, depth, means, counts, room)?;
         done.push(core)?;
     }
     Ok(done)
@@ -344,7 +394,7 @@ fn in_order<N: Ledger>(
 
 #[cycle(form)]
 #[tactic(auto, unfolding(crate::specs::Expression::lambda))]
-fn lambda<N: Ledger>(
+fn lambda<M: Transformers, N: Ledger, L: Ledger>(
     state: &mut Expansion,
     form: &Syn,
     ids: &FormalIds,
@@ -352,32 +402,36 @@ fn lambda<N: Ledger>(
     place: &Span,
     level: u32,
     depth: u16,
-    nodes: &mut Steps<N>,
+    means: &M,
+    counts: &mut Counts<N, L>,
     room: u16,
 ) -> Result<Core, Stop>
-    ensures { GivesAfter (λ c. c) result state.new (lambda (inside room) place.now level depth form.now ids.now forms.now state.old) }
+    ensures { GivesAfter (λ c. c) result state.new (lambda (inside (M.records means.now) room) place.now level depth form.now ids.now forms.now state.old) }
 {
     let number = CodeNo(state.fresh()?);
-    let case = lambda_case(state, form, ids, forms, place, level, depth, nodes, room)?;
+    let case = lambda_case(
+        state, form, ids, forms, place, level, depth, means, counts, room,
+    )?;
     Ok(procedure_of_case(state.alloc(), number, case)?)
 }
 
 #[cycle(form)]
 #[tactic(auto, unfolding(crate::specs::Expression::case_lambda))]
-fn case_lambda<N: Ledger>(
+fn case_lambda<M: Transformers, N: Ledger, L: Ledger>(
     state: &mut Expansion,
     form: &Syn,
     cases: &[LambdaCase],
     place: &Span,
     level: u32,
     depth: u16,
-    nodes: &mut Steps<N>,
+    means: &M,
+    counts: &mut Counts<N, L>,
     room: u16,
 ) -> Result<Core, Stop>
-    ensures { GivesAfter (λ c. c) result state.new (case_lambda (inside room) place.now level depth form.now cases.now state.old) }
+    ensures { GivesAfter (λ c. c) result state.new (case_lambda (inside (M.records means.now) room) place.now level depth form.now cases.now state.old) }
 {
     let number = CodeNo(state.fresh()?);
-    let cases = all_cases(state, form, cases, place, level, depth, nodes, room)?;
+    let cases = all_cases(state, form, cases, place, level, depth, means, counts, room)?;
     let code = Rc::new(
         state.alloc(),
         Code {
@@ -392,17 +446,18 @@ fn case_lambda<N: Ledger>(
 }
 
 #[cycle(form)]
-fn all_cases<N: Ledger>(
+fn all_cases<M: Transformers, N: Ledger, L: Ledger>(
     state: &mut Expansion,
     form: &Syn,
     cases: &[LambdaCase],
     place: &Span,
     level: u32,
     depth: u16,
-    nodes: &mut Steps<N>,
+    means: &M,
+    counts: &mut Counts<N, L>,
     room: u16,
 ) -> Result<Vec<Lambda>, Stop>
-    ensures { GivesAfter (λ c. c.items) result state.new (all_cases (inside room) place.now level depth form.now cases.now state.old) }
+    ensures { GivesAfter (λ c. c.items) result state.new (all_cases (inside (M.records means.now) room) place.now level depth form.now cases.now state.old) }
 {
     let mut done = Vec::new(state.alloc());
     for case in cases {
@@ -414,7 +469,8 @@ fn all_cases<N: Ledger>(
             place,
             level,
             depth,
-            nodes,
+            means,
+            counts,
             room,
         )?;
         done.push(one)?;
@@ -425,7 +481,7 @@ fn all_cases<N: Ledger>(
 /// A case of a procedure: its formals have a frame, and so has its body.
 #[cycle(form)]
 #[tactic(auto, unfolding(crate::specs::Expression::lambda_case))]
-pub fn lambda_case<N: Ledger>(
+pub fn lambda_case<M: Transformers, N: Ledger, L: Ledger>(
     state: &mut Expansion,
     form: &Syn,
     ids: &FormalIds,
@@ -433,15 +489,16 @@ pub fn lambda_case<N: Ledger>(
     place: &Span,
     level: u32,
     depth: u16,
-    nodes: &mut Steps<N>,
+    means: &M,
+    counts: &mut Counts<N, L>,
     room: u16,
 ) -> Result<Lambda, Stop>
-    ensures { GivesAfter (λ c. c) result state.new (lambda_case (inside room) place.now level depth form.now ids.now forms.now state.old) }
+    ensures { GivesAfter (λ c. c) result state.new (lambda_case (inside (M.records means.now) room) place.now level depth form.now ids.now forms.now state.old) }
 {
     let outer = state.in_scope();
     let frame = state.fresh_frame()?;
     let formals = state.bind_formals(&frame, place, level, ids)?;
-    let forms = stamp_all(state.alloc(), &frame, forms, nodes)?;
+    let forms = stamp_all(state.alloc(), &frame, forms, counts.nodes)?;
     let body = body(
         state,
         form,
@@ -449,7 +506,8 @@ pub fn lambda_case<N: Ledger>(
         place,
         level,
         depth,
-        nodes,
+        means,
+        counts,
         room,
     )?;
     state.cut_scope(outer);
@@ -459,7 +517,7 @@ pub fn lambda_case<N: Ledger>(
 /// As `lambda_case`, of a procedure that a definition binds.
 #[cycle(form)]
 #[tactic(auto, using(crate::proofs::Steps::procedure_step, crate::proofs::Steps::procedure_too_deep))]
-pub fn procedure<N: Ledger>(
+pub fn procedure<M: Transformers, N: Ledger, L: Ledger>(
     state: &mut Expansion,
     form: &Syn,
     ids: &FormalIds,
@@ -467,10 +525,11 @@ pub fn procedure<N: Ledger>(
     place: &Span,
     level: u32,
     depth: u16,
-    nodes: &mut Steps<N>,
+    means: &M,
+    counts: &mut Counts<N, L>,
     room: u16,
 ) -> Result<Lambda, Stop>
-    ensures { GivesAfter (λ c. c) result state.new ((inside room).procedure place.now level depth form.now ids.now forms.now state.old) }
+    ensures { GivesAfter (λ c. c) result state.new ((inside (M.records means.now) room).procedure place.now level depth form.now ids.now forms.now state.old) }
 {
     if room == 0 {
         return Err(state.fault_form(FaultKind::TooDeep, form, place));
@@ -483,14 +542,15 @@ pub fn procedure<N: Ledger>(
         place,
         level,
         depth,
-        nodes,
+        means,
+        counts,
         room - 1,
     )
 }
 
 #[cycle(form)]
 #[tactic(auto, unfolding(crate::specs::Expression::letrec_form))]
-fn letrec_form<N: Ledger>(
+fn letrec_form<M: Transformers, N: Ledger, L: Ledger>(
     state: &mut Expansion,
     form: &Syn,
     star: bool,
@@ -499,10 +559,11 @@ fn letrec_form<N: Ledger>(
     place: &Span,
     level: u32,
     depth: u16,
-    nodes: &mut Steps<N>,
+    means: &M,
+    counts: &mut Counts<N, L>,
     room: u16,
 ) -> Result<Core, Stop>
-    ensures { GivesAfter (λ c. c) result state.new (letrec_form (inside room) place.now level depth form.now star specs.now forms.now state.old) }
+    ensures { GivesAfter (λ c. c) result state.new (letrec_form (inside (M.records means.now) room) place.now level depth form.now star specs.now forms.now state.old) }
 {
     let outer = state.in_scope();
     let frame = state.fresh_frame()?;
@@ -514,10 +575,11 @@ fn letrec_form<N: Ledger>(
         place,
         level,
         depth,
-        nodes,
+        means,
+        counts,
         room,
     )?;
-    let forms = stamp_all(state.alloc(), &frame, forms, nodes)?;
+    let forms = stamp_all(state.alloc(), &frame, forms, counts.nodes)?;
     let body = body(
         state,
         form,
@@ -525,7 +587,8 @@ fn letrec_form<N: Ledger>(
         place,
         level,
         depth,
-        nodes,
+        means,
+        counts,
         room,
     )?;
     let body = Box::new(state.alloc(), body)?;
@@ -536,21 +599,22 @@ fn letrec_form<N: Ledger>(
 }
 
 #[cycle(form)]
-fn all_inits<N: Ledger>(
+fn all_inits<M: Transformers, N: Ledger, L: Ledger>(
     state: &mut Expansion,
     frame: &FrameNo,
     bound: &[BoundSpec],
     place: &Span,
     level: u32,
     depth: u16,
-    nodes: &mut Steps<N>,
+    means: &M,
+    counts: &mut Counts<N, L>,
     room: u16,
 ) -> Result<Vec<Init>, Stop>
-    ensures { GivesAfter (λ c. c.items) result state.new (all_inits (inside room) place.now level depth frame.now bound.now state.old) }
+    ensures { GivesAfter (λ c. c.items) result state.new (all_inits (inside (M.records means.now) room) place.now level depth frame.now bound.now state.old) }
 {
     let mut done = Vec::new(state.alloc());
     for one in bound {
-        let init = one_init(state, frame, one, place, level, depth, nodes, room)?;
+        let init = one_init(state, frame, one, place, level, depth, means, counts, room)?;
         done.push(init)?;
     }
     Ok(done)
@@ -558,20 +622,23 @@ fn all_inits<N: Ledger>(
 
 #[cycle(form)]
 #[tactic(auto, unfolding(crate::specs::Expression::one_init))]
-fn one_init<N: Ledger>(
+fn one_init<M: Transformers, N: Ledger, L: Ledger>(
     state: &mut Expansion,
     frame: &FrameNo,
     bound: &BoundSpec,
     place: &Span,
     level: u32,
     depth: u16,
-    nodes: &mut Steps<N>,
+    means: &M,
+    counts: &mut Counts<N, L>,
     room: u16,
 ) -> Result<Init, Stop>
-    ensures { GivesAfter (λ i. i) result state.new (one_init (inside room) place.now level depth frame.now bound.now state.old) }
+    ensures { GivesAfter (λ i. i) result state.new (one_init (inside (M.records means.now) room) place.now level depth frame.now bound.now state.old) }
 {
-    let form = bound.init.stamp(state.alloc(), frame.share()?, nodes)?;
-    let value = expression(state, &form, place, level, depth, nodes, room)?;
+    let form = bound
+        .init
+        .stamp(state.alloc(), frame.share()?, counts.nodes)?;
+    let value = expression(state, &form, place, level, depth, means, counts, room)?;
     let label = bound.label.share()?;
     Ok(Init { label, value })
 }

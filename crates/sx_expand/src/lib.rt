@@ -12,12 +12,17 @@
 //! The promise: each call gives exactly the core code that the definition gives, or its fault at its
 //! place, and leaves exactly the state that the definition leaves; only want of memory is free.
 //!
-//! Here stand the core forms. A form of another kind is `NotBuilt`, in the order of expansion.
+//! Here stand the core forms, and uses of keywords that programs and libraries define. A form of another kind is
+//! `NotBuilt`, in the order of expansion.
 #![tactic(auto)]
 
 pub mod body;
 pub mod expander;
 pub mod expression;
 pub mod inside;
+pub mod keywords;
 pub mod libraries;
+pub mod patterns;
+pub mod settle;
 pub mod top;
+pub mod transformers;

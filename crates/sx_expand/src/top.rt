@@ -3,6 +3,7 @@
 ghost use Rattle.std.specs.Prelude.{◌≡◌, [], IfOk, OnOk};
 ghost use Rattle.sx_base.specs.Act.{GivesAfter};
 ghost use Rattle.sx_base.specs.Gives.{Gives};
+ghost use Rattle.sx_stage.specs.Libraries.{earlier_in};
 ghost use Rattle.sx_expand.specs.Expression.{inside};
 ghost use Rattle.sx_expand.specs.Top.{export, all_exports, exports, with_label_of, with_labels_of, code_of, with_lines_of, refs_of, record_of, record_in, kind_of, body_at, first_pass, finished, top};
 
@@ -26,6 +27,7 @@ use sx_core::references::references;
 use sx_heads::kept::KeptHeads;
 use sx_heads::taken::{BodyAt, BodyKind, Taken};
 use sx_standing::expansion::Expansion;
+use sx_standing::means::{Counts, Means};
 use sx_standing::share::share_library;
 use sx_syntax::syn::Syn;
 
@@ -178,17 +180,18 @@ fn kind_of(library: &LibName) -> BodyKind
 
 /// What comes after the first pass.
 #[tactic(auto, unfolding(crate::specs::Top::finished))]
-fn finished<N: Ledger>(
+fn finished<N: Ledger, L: Ledger>(
     state: &mut Expansion,
     at: TopAt,
     list: &[(Symbol, Syn)],
     taken: &Taken,
-    nodes: &mut Steps<N>,
+    means: &Means,
+    counts: &mut Counts<N, L>,
 ) -> Result<LibRecord, Stop>
-    ensures { Gives (λ r. r) result (record_in (finished (inside 602) at list.now taken.now state.old)) }
+    ensures { Gives (λ r. r) result (record_in (finished (inside (earlier_in means.now.earlier) 602) at list.now taken.now state.old)) }
 {
-    let exports = exports(state, &at, list, nodes)?;
-    let lines = finish_all(state, taken.waiting.as_slice(), 0, nodes, ROOM)?;
+    let exports = exports(state, &at, list, counts.nodes)?;
+    let lines = finish_all(state, taken.waiting.as_slice(), 0, means, counts, ROOM)?;
     Ok(record_of(state, at, exports, lines)?)
 }
 
@@ -208,36 +211,48 @@ fn body_at(state: &Expansion, at: &TopAt) -> Result<BodyAt, Memory>
 
 /// The first pass over the body of a library or program.
 #[tactic(auto, unfolding(crate::specs::Top::first_pass))]
-fn first_pass<N: Ledger>(
+fn first_pass<N: Ledger, L: Ledger>(
     state: &mut Expansion,
     at: &TopAt,
     forms: &[Syn],
-    nodes: &mut Steps<N>,
+    means: &Means,
+    counts: &mut Counts<N, L>,
 ) -> Result<Taken, Stop>
-    ensures { GivesAfter (λ t. t) result state.new (first_pass (inside 602) at.now forms.now state.old) }
+    ensures { GivesAfter (λ t. t) result state.new (first_pass (inside (earlier_in means.now.earlier) 602) at.now forms.now state.old) }
 {
-    let forms = stamp_all(state.alloc(), &at.frame, forms, nodes)?;
+    let forms = stamp_all(state.alloc(), &at.frame, forms, counts.nodes)?;
     let body = body_at(state, at)?;
     let mut taken = Taken {
         waiting: Items::new(state.alloc()),
         kept: KeptHeads::new(state.alloc()),
         has_expression: false,
+        moved: false,
     };
-    splice(state, &body, 0, &mut taken, forms.as_slice(), nodes, ROOM)?;
+    splice(
+        state,
+        &body,
+        0,
+        &mut taken,
+        forms.as_slice(),
+        means,
+        counts,
+        ROOM,
+    )?;
     Ok(taken)
 }
 
 /// The body of a library or program: its record. Nothing is known of the state that is left.
 #[tactic(auto, unfolding(crate::specs::Top::top))]
-pub fn top<N: Ledger>(
+pub fn top<N: Ledger, L: Ledger>(
     state: &mut Expansion,
     at: TopAt,
     list: &[(Symbol, Syn)],
     forms: &[Syn],
-    nodes: &mut Steps<N>,
+    means: &Means,
+    counts: &mut Counts<N, L>,
 ) -> Result<LibRecord, Stop>
-    ensures { Gives (λ r. r) result (record_in (top (inside 602) at list.now forms.now state.old)) }
+    ensures { Gives (λ r. r) result (record_in (top (inside (earlier_in means.now.earlier) 602) at list.now forms.now state.old)) }
 {
-    let taken = first_pass(state, &at, forms, nodes)?;
-    finished(state, at, list, &taken, nodes)
+    let taken = first_pass(state, &at, forms, means, counts)?;
+    finished(state, at, list, &taken, means, counts)
 }

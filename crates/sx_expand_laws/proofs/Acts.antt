@@ -25,6 +25,10 @@ pub gave-both : {A : Type 0} (P Q : A → State → Type 0) (r : Result (A × St
 gave-both P Q (Ok x) h k = (h, k)
 gave-both P Q (Err e) h k = tt
 
+pub gave-any : {A : Type 0} (P : A → State → Type 0) (r : Result (A × State) Fault) → ((a : A) (t : State) → P a t) → Gave P r
+gave-any P (Ok x) h = h x.0 x.1
+gave-any P (Err e) h = tt
+
 pub gave-if : {A : Type 0} (P : A → State → Type 0) (b : Bool) (r q : Result (A × State) Fault)
     → (b ≡ true → Gave P r) → (b ≡ false → Gave P q) → Gave P (if b then r else q)
 gave-if P true r q h k = h refl

@@ -1,46 +1,61 @@
 -- How a form changes the state, whatever the state and the form.
-use Rattle.std.proofs.Common.{◌≡◌, ℕ, zero, suc, Bool, true, false, List, [], length, map, Option, None, Some, Result, Ok, refl, arith}
+use Rattle.std.proofs.Common.{◌≡◌, ℕ, zero, suc, ◌+◌, ◌<◌, Bool, true, false, List, [], ◌∷◌, map, Option, None, Some, Ok, refl, sym, subst, arith}
 use Rattle.std.specs.Prelude.{nat_lt}
-use Rattle.sx_base.specs.Act.{after, give, each}
-use Rattle.sx_base.specs.declared.fault.Fault.{Fault}
+use Rattle.sx_base.specs.Act.{after, give, gather}
 use Rattle.sx_base.specs.declared.library.LibName.{LibName}
 use Rattle.sx_base.specs.declared.name.FrameNo.{FrameNo}
 use Rattle.sx_base.specs.declared.name.Label.{Label}
 use Rattle.sx_base.specs.declared.span.Span.{Span}
 use Rattle.sx_tree.specs.Changes.{stamp}
 use Rattle.sx_tree.specs.Tree.{Tree}
-use Rattle.sx_core.specs.Core.{PlainCore, two_armed, assignment, letrec, call, cores}
-use Rattle.sx_core.specs.CoreView.{inits}
+use Rattle.sx_core.specs.Core.{PlainCore, two_armed, assignment, letrec, call, matching, cores}
+use Rattle.sx_core.specs.CoreView.{inits, clauses}
 use Rattle.sx_core.specs.References.{formals_labels}
+use Rattle.sx_core.specs.declared.record.LibRecord.{LibRecord}
+use Rattle.sx_core_laws.specs.Words.{Each}
+use Rattle.sx_pattern.specs.declared.compile.Compiled.{Compiled}
+use Rattle.sx_pattern.specs.declared.compile.PatternVariable.{PatternVariable}
+use Rattle.sx_shapes.specs.At.{place_of}
 use Rattle.sx_shapes.specs.declared.shape.BindingSpec.{BindingSpec}
 use Rattle.sx_shapes.specs.declared.shape.FormalIds.{FormalIds}
 use Rattle.sx_shapes.specs.declared.shape.LambdaCase.{LambdaCase}
+use Rattle.sx_shapes.specs.declared.shape.PatternCase.{PatternCase}
 use Rattle.sx_standing.specs.Binders.{bind_specs, bind_formals}
-use Rattle.sx_standing.specs.InScope.{cut}
-use Rattle.sx_standing.specs.State.{State, Does, fresh, fresh_frame}
+use Rattle.sx_standing.specs.InScope.{apart}
+use Rattle.sx_standing.specs.Patterns.{pattern_of, check_literals, bind_pattern}
+use Rattle.sx_standing.specs.State.{State, fresh, fresh_frame}
+use Rattle.sx_standing.specs.Uses.{bind_keywords, finish_keyword}
 use Rattle.sx_standing.specs.declared.binders.BoundSpec.{BoundSpec}
-use Rattle.sx_heads.specs.Items.{begun, is_top, item_plan}
-use Rattle.sx_heads.specs.Plan.{plan_of}
+use Rattle.sx_heads.specs.Items.{begun, is_top, define_keyword}
+use Rattle.sx_heads.specs.declared.item.Item.{Item}
+use Rattle.sx_heads.specs.declared.item.Item.TheVariants as items
 use Rattle.sx_heads.specs.declared.plan.Plan.{Plan}
 use Rattle.sx_heads.specs.declared.plan.Plan.TheVariants as plans
 use Rattle.sx_heads.specs.declared.taken.BodyAt.{BodyAt}
 use Rattle.sx_heads.specs.declared.taken.Taken.{Taken}
 use Rattle.sx_heads.specs.declared.taken.Waits.{Waits}
 use Rattle.sx_heads.specs.declared.taken.Waits.TheVariants as waits
-use Rattle.sx_expand.specs.Body.{splice, spliced, item, value_of, finish_as, finish_one, finish_all, body_core, finish, lambda_at, body_in, body, sequence_of}
-use Rattle.sx_expand.specs.Expression.{in_order, case_in, lambda_case, lambda, one_case, all_cases, case_lambda, one_init, all_inits, letrec_in, letrec_form, application, alternate, conditional, set, in_sequence, perform, form_at, inside}
+use Rattle.sx_expand.specs.Body as expand_body
+use Rattle.sx_expand.specs.Body.{splice, perform_item, item, value_of, finish_as, finish_one, finish_all, body_core, finish, lambda_at, body_in, body, sequence_of}
+use Rattle.sx_expand.specs.Expression.{in_order, case_in, lambda_case, lambda, one_case, all_cases, case_lambda, one_init, all_inits, letrec_in, letrec_form, application, alternate, conditional, set, in_sequence, fender, clause_in, pattern_clause, all_clauses, syntax_case, keywords_form, perform, perform_settled, form_at, inside}
 use Rattle.sx_expand.specs.Inside.{Inside, deeper}
+use Rattle.sx_expand.specs.Keywords.{keyword, seen_in, keyword_in, all_keywords, keywords, with_keywords, define_syntax}
+use Rattle.sx_expand.specs.Settle.{settle, settle_item}
 use Rattle.sx_expand_laws.specs.InScope.{ScopeStays}
-use Rattle.sx_expand_laws.specs.States.{Adds, Later, LaterBut}
-use Rattle.sx_expand_laws.proofs.Acts.{Gave, gave-after, gave-within, gave-less, gave-if, gave-each, gave-gather, told}
-use Rattle.sx_expand_laws.proofs.Fresh.{label_name, fresh-none}
-use Rattle.sx_expand_laws.proofs.Scope.{adds-self}
-use Rattle.sx_expand_laws.proofs.Later.{later-self, later-then, later-within, but-self, but-then}
-use Rattle.sx_expand_laws.proofs.Lines.{kind_labels}
+use Rattle.sx_expand_laws.specs.States.{IsOwn, IsKept, Keeps, Adds, Later, LaterBut}
+use Rattle.sx_expand_laws.proofs.Acts.{Gave, gave-any, gave-both, gave-after, gave-within, gave-less, gave-if, gave-gather, told}
+use Rattle.sx_expand_laws.proofs.Fresh.{Made, each-map, label_name, fresh-none}
+use Rattle.sx_expand_laws.proofs.Scope.{adds-self, adds-later}
+use Rattle.sx_expand_laws.proofs.Later.{keeps-self, keeps-then, later-self, later-then, later-framed, but-self, but-then, but-later}
+use Rattle.sx_expand_laws.proofs.LineLabels.{kind_labels}
 use Rattle.sx_expand_laws.proofs.Naming.{as_frame, counted, counted-later}
+use Rattle.sx_expand_laws.proofs.BindingKeywords.{BindsKeywords, BindsPatterns, binds-keywords, keywords-kept, binds-patterns, pattern-adds-so}
+use Rattle.sx_expand_laws.proofs.Compiled.{variable_label, variable_depth}
+use Rattle.sx_expand_laws.proofs.Moved.{Names, Moved, Leaving, moved-after, moved-each, moved-counted, framed}
+use Rattle.sx_expand_laws.proofs.Settled.{settle-later}
+use Rattle.sx_expand_laws.proofs.Uses.{Patterned, pattern-later, literals-later, finish-later, finish-kept, moved-apart}
 use Rattle.sx_expand_laws.proofs.Binding.{BindsAll, spec_label, binds-formals, binds-specs}
-use Rattle.sx_expand_laws.proofs.Plans.{plan-later}
-use Rattle.sx_expand_laws.proofs.Items.{wait_kinds, Took, Takes, Comes, takes-item}
+use Rattle.sx_expand_laws.proofs.Items.{wait_kinds, Took, Takes, took-later, Settles, BindsOne, defines-keyword, settle-takes}
 
 -- nothing was taken yet
 took-none : (own : LibName) (top : Bool) (s : State) → Took own top s begun s
@@ -52,37 +67,6 @@ pub record Moves (own : LibName) (go : Inside) : Type 0 where
   pub procedure : (place : Span) (level depth : ℕ) (t : Tree) (ids : FormalIds) (forms : List Tree) (s : State) → s.names.library ≡ own → Gave (λ c u. Later own s u) (go.procedure place level depth t ids forms s)
   pub item : (at : BodyAt) (depth : ℕ) (d : Taken) (t : Tree) (start s : State) → s.names.library ≡ own → (is_top at.kind ≡ true → at.level ≡ 0) → Took own (is_top at.kind) start d s
       → Gave (Takes own at.frame (is_top at.kind) start s) (go.item at depth d t s)
-
-module _ (own : LibName) where
-  -- names that come are those of the library
-  abbrev Names : State → Type 0
-  Names s = s.names.library ≡ own
-
-  abbrev Moved : {A : Type 0} → State → A → State → Type 0
-  Moved s a t = Later own s t
-
-  -- before what came goes out of scope
-  abbrev Leaving : {A : Type 0} → State → A → State → Type 0
-  Leaving s a t = Later own s (cut (length s.scope) t)
-
-  moved-after : {A B : Type 0} (s : State) (r : Result (A × State) Fault) (k : A → Does B) → Gave (Moved s) r → ((a : A) (t : State) → Names t → Gave (Moved t) (k a t)) → Gave (Moved s) (after r k)
-  moved-after s r k h next = gave-after (Moved s) (Moved s) r k h (λ a t e. gave-less (Moved t) (Moved s) (k a t) (next a t e.next) (λ b u f. later-then own s t u e f))
-
-  moved-each : {X A : Type 0} (step : X → Does A) → ((x : X) (s : State) → Names s → Gave (Moved s) (step x s)) → (xs : List X) (s : State) → Names s → Gave (Moved s) (each step [] xs s)
-  moved-each step one xs s n = gave-each step (λ x t a u. Moved t a u) (λ ys t bs u. Moved t bs u) Names (λ t m. later-self own t m) (λ x t m. one x t m) (λ x t u a m e. e.next) (λ x ys t u v a bs m e f. later-then own t u v e f) xs s n
-
-  -- behind a new name
-  moved-counted : {A : Type 0} (s : State) (r : Result (A × State) Fault) → Names s → Gave (Moved (counted s)) r → Gave (Moved s) r
-  moved-counted s r n h = gave-less (Moved (counted s)) (Moved s) r h (λ a t e. later-then own s (counted s) t (counted-later own s n) e)
-
-  -- labels that come into scope in a new frame, and then what is done there
-  framed : {A B : Type 0} (labels : A → List Label) (s : State) (r : Result (A × State) Fault) (k : A → Does B) → Names s
-      → Gave (λ x u. LaterBut own (as_frame s.names) (counted s) u × Adds own false (labels x) (counted s) u) r → ((x : A) (u : State) → Names u → Gave (Moved u) (k x u)) → Gave (Leaving s) (after r k)
-  framed {A} labels s r k n h next = gave-after P (Leaving s) r k h
-      (λ x u e. gave-less (Moved u) (Leaving s) (k x u) (next x u e.0.next) (λ b v f. later-within own (as_frame s.names) (labels x) s (counted s) u v (counted-later own s n) e.0 e.1 n (omega arith) f))
-    where
-      P : A → State → Type 0
-      P x u = LaterBut own (as_frame s.names) (counted s) u × Adds own false (labels x) (counted s) u
 
 module _ (own : LibName) (go : Inside) (moves : Moves own go) where
   -- Bodies.
@@ -112,8 +96,8 @@ module _ (own : LibName) (go : Inside) (moves : Moves own go) where
       gave-gather (go.item at depth) (λ e t. Takes own at.frame (is_top at.kind) start s e t)
       (λ e x t j. gave-less (Takes own at.frame (is_top at.kind) start t) (Takes own at.frame (is_top at.kind) start s) (go.item at depth e x t)
       (moves.item at depth e x start t j.later.next low j.took)
-      (λ y u l. record { later = but-then own at.frame s t u j.later l.later; took = l.took }))
-      d forms s (record { later = but-self own at.frame s n; took = k })
+      (λ y u l. record { later = but-then own at.frame s t u j.later l.later; took = l.took; keeps = keeps-then own s t u j.later.up l.later.up j.keeps l.keeps }))
+      d forms s (record { later = but-self own at.frame s n; took = k; keeps = keeps-self own s })
 
   -- the first pass from its start
   pub first-takes : (at : BodyAt) (depth : ℕ) (forms : List Tree) (s : State) → Names own s → (is_top at.kind ≡ true → at.level ≡ 0) → Gave (Takes own at.frame (is_top at.kind) s s) (splice go at depth begun forms s)
@@ -123,13 +107,13 @@ module _ (own : LibName) (go : Inside) (moves : Moves own go) where
   pub body-takes : (place : Span) (level depth : ℕ) (forms : List Tree) (s : State) → Names own s → Gave (Takes own (as_frame s.names) false (counted s) (counted s)) (splice go (lambda_at (as_frame s.names) place level) depth begun forms (counted s))
   body-takes place level depth forms s n = first-takes (lambda_at (as_frame s.names) place level) depth forms (counted s) n (λ e. absurd (cc))
 
-  moved-body : (place : Span) (level depth : ℕ) (t : Tree) (forms : List Tree) (s : State) → Names own s → Gave (Moved own s) (body go place level depth t forms s)
+  pub moved-body : (place : Span) (level depth : ℕ) (t : Tree) (forms : List Tree) (s : State) → Names own s → Gave (Moved own s) (body go place level depth t forms s)
   unfolding body fresh_frame
   moved-body place level depth t forms s n =
       let first = splice go (lambda_at (as_frame s.names) place level) depth begun (map (stamp (as_frame s.names)) forms) (counted s) in
       gave-within (Moved own s) (λ u. after (fresh_frame u) (body_in go place level depth t forms)) s
-      (framed own (λ (d : Taken). kind_labels (wait_kinds d.waiting)) s first (finish go place level t) n
-      (gave-less (Takes own (as_frame s.names) false (counted s) (counted s)) _ first (body-takes place level depth (map (stamp (as_frame s.names)) forms) s n) (λ d u k. (k.later, k.took.adds)))
+      (framed own (λ (d : Taken). kind_labels (wait_kinds d.waiting)) (λ d. []) s first (finish go place level t) n
+      (gave-less (Takes own (as_frame s.names) false (counted s) (counted s)) _ first (body-takes place level depth (map (stamp (as_frame s.names)) forms) s n) (λ d u k. (k.later, (k.took.adds, k.keeps))))
       (λ d u m. moved-finish place level t d u m))
 
   -- Procedures and `letrec`.
@@ -140,8 +124,8 @@ module _ (own : LibName) (go : Inside) (moves : Moves own go) where
     moved-case ids forms s n =
         let f = as_frame s.names in
         gave-within (Moved own s) (λ u. after (fresh_frame u) (case_in go place level depth t ids forms)) s
-        (framed own formals_labels s (bind_formals f place level ids (counted s)) _ n
-        (gave-less (λ x u. BindsAll own f (counted s) (formals_labels x) u) _ (bind_formals f place level ids (counted s)) (binds-formals own f place level ids (counted s) n) (λ x u b. (b.later, b.adds)))
+        (framed own formals_labels (λ x. []) s (bind_formals f place level ids (counted s)) _ n
+        (gave-less (λ x u. BindsAll own f (counted s) (formals_labels x) u) _ (bind_formals f place level ids (counted s)) (binds-formals own f place level ids (counted s) n) (λ x u b. (b.later, (b.adds, b.keeps))))
         (λ x u m. moved-after own u (body go place level depth t (map (stamp f) forms) u) (λ c. give (record { formals = x; body = c })) (moved-body place level depth t (map (stamp f) forms) u m) (λ c v l. later-self own v l)))
 
     moved-lambda : (ids : FormalIds) (forms : List Tree) (s : State) → Names own s → Gave (Moved own s) (lambda go place level depth t ids forms s)
@@ -168,8 +152,8 @@ module _ (own : LibName) (go : Inside) (moves : Moves own go) where
     moved-letrec star bs forms s n =
         let f = as_frame s.names in
         gave-within (Moved own s) (λ u. after (fresh_frame u) (letrec_in go place level depth t star bs forms)) s
-        (framed own (map spec_label) s (bind_specs f place level bs (counted s)) _ n
-        (gave-less (λ xs u. BindsAll own f (counted s) (map spec_label xs) u) _ (bind_specs f place level bs (counted s)) (binds-specs own f place level bs (counted s) n) (λ xs u b. (b.later, b.adds)))
+        (framed own (map spec_label) (λ xs. []) s (bind_specs f place level bs (counted s)) _ n
+        (gave-less (λ xs u. BindsAll own f (counted s) (map spec_label xs) u) _ (bind_specs f place level bs (counted s)) (binds-specs own f place level bs (counted s) n) (λ xs u b. (b.later, (b.adds, b.keeps))))
         (λ xs u m. moved-after own u (all_inits go place level depth f xs u) (λ is v. after (body go place level depth t (map (stamp f) forms) v) (λ c. give (letrec star (inits is) c))) (moved-inits f xs u m)
         (λ is v l. moved-after own v (body go place level depth t (map (stamp f) forms) v) (λ c. give (letrec star (inits is) c)) (moved-body place level depth t (map (stamp f) forms) v l) (λ c w o. later-self own w o))))
 
@@ -201,6 +185,114 @@ module _ (own : LibName) (go : Inside) (moves : Moves own go) where
     unfolding in_sequence
     moved-sequence forms s n = moved-after own s (in_order go place level depth forms s) (λ cs. give (sequence_of cs)) (moved-order forms s n) (λ cs u m. later-self own u m)
 
+  -- The expression of a keyword.
+
+  -- it is kept then
+  abbrev pub Keeping : State → BoundSpec → State → Type 0
+  Keeping s b u = Later own s u × IsKept u b.label
+
+  pub moved-keyword : (place : Span) (level depth : ℕ) (b : BoundSpec) (s : State) → Names own s → Gave (λ x u. Keeping s b u) (keyword go place level depth b s)
+  unfolding keyword
+  moved-keyword place level depth b s n = gave-after (λ c u. Later own s u) (λ x u. Keeping s b u) (apart (go.form place (level + 1) depth b.init) s) (finish_keyword go.earlier (place_of b.init place) b.label)
+      (moved-apart own (go.form place (level + 1) depth b.init) s (moves.form place (level + 1) depth b.init (record s { scope = [] }) n))
+      (λ c u m. gave-less (λ x v. Later own u v × IsKept v b.label) (λ x v. Keeping s b v) (finish_keyword go.earlier (place_of b.init place) b.label c u)
+      (gave-both (λ x v. Later own u v) (λ x v. IsKept v b.label) (finish_keyword go.earlier (place_of b.init place) b.label c u)
+      (finish-later own go.earlier (place_of b.init place) b.label c u m.next) (finish-kept own go.earlier (place_of b.init place) b.label c u))
+      (λ x v k. (later-then own s u v m k.0, k.1)))
+
+  seen-label : (recursive : Bool) (f : FrameNo) (b : BoundSpec) → (seen_in recursive f b).label ≡ b.label
+  seen-label true f b = refl
+  seen-label false f b = refl
+
+  -- all of these are kept
+  abbrev pub KeepingAll : State → List BoundSpec → State → Type 0
+  KeepingAll s bs u = Later own s u × Each (λ (b : BoundSpec). b.label.0.number < s.names.number → IsKept u b.label) bs
+
+  moved-all : (place : Span) (level depth : ℕ) (recursive : Bool) (f : FrameNo) (bs : List BoundSpec) (s : State) → Names own s → Gave (λ x u. KeepingAll s bs u) (all_keywords go place level depth recursive f bs s)
+  unfolding gather
+  moved-all place level depth recursive f [] s n = (later-self own s n, tt)
+  moved-all place level depth recursive f (b ∷ bs) s n =
+      gave-after (λ x u. Keeping s (seen_in recursive f b) u) (λ x u. KeepingAll s (b ∷ bs) u) (keyword_in go place level depth recursive f tt b s) (λ e. gather (keyword_in go place level depth recursive f) e bs)
+      (moved-keyword place level depth (seen_in recursive f b) s n)
+      (λ x u k. gave-less (λ y v. KeepingAll u bs v) (λ y v. KeepingAll s (b ∷ bs) v) (all_keywords go place level depth recursive f bs u) (moved-all place level depth recursive f bs u k.0.next)
+      (λ y v j. (
+        later-then own s u v k.0 j.0,
+        (
+          (λ lt. j.0.keeps.kept b.label (omega (arith, lt, k.0.up)) (subst (λ (l : Label). IsKept u l) (seen-label recursive f b) k.1)),
+          each-map (λ (c : BoundSpec). c.label.0.number < u.names.number → IsKept v c.label) (λ (c : BoundSpec). c.label.0.number < s.names.number → IsKept v c.label) bs j.1 (λ c h lt. h (omega (arith, lt, k.0.up))),
+        ),
+      )))
+
+  -- where a new frame alone has more, and nothing came into scope
+  pub moved-keywords : (place : Span) (level depth : ℕ) (recursive : Bool) (bs : List BindingSpec) (forms : List Tree) (s : State) → Names own s → Gave (Moved own s) (with_keywords go place level depth recursive bs forms s)
+  unfolding fresh_frame keywords
+  moved-keywords place level depth recursive bs forms s n =
+      let f = as_frame s.names in
+      gave-after (λ x u. Later own s u) (Moved own s) (keywords go place level depth recursive bs f (counted s)) (λ _. give (map (stamp f) forms))
+      (gave-after (BindsKeywords own f (counted s)) (Moved own s) (bind_keywords f place level bs (counted s)) (all_keywords go place level depth recursive f) (binds-keywords own f place level bs (counted s) n)
+      (λ xs u b. gave-less (λ y v. KeepingAll u xs v) (Moved own s) (all_keywords go place level depth recursive f xs u) (moved-all place level depth recursive f xs u b.later.next)
+      (λ y v j. later-framed own f s (counted s) u v (counted-later own s n) b.later (b.adds false) n (omega arith) j.0 (keywords-kept own f (counted s) u v xs b j.0 j.1))))
+      (λ x u k. k)
+
+  -- and forms come of forms
+  pub keywords-some : (place : Span) (level depth : ℕ) (recursive : Bool) (bs : List BindingSpec) (x : Tree) (xs : List Tree) (s : State) → Names own s → Gave (λ ys u. Later own s u × (ys ≡ [] → ⊥)) (with_keywords go place level depth recursive bs (x ∷ xs) s)
+  keywords-some place level depth recursive bs x xs s n =
+      gave-both (λ ys u. Later own s u) (λ ys u. ys ≡ [] → ⊥) (with_keywords go place level depth recursive bs (x ∷ xs) s) (moved-keywords place level depth recursive bs (x ∷ xs) s n) some
+    where
+      some : Gave (λ ys u. ys ≡ [] → ⊥) (with_keywords go place level depth recursive bs (x ∷ xs) s)
+      some = gave-after (λ f u. Unit {0}) (λ ys u. ys ≡ [] → ⊥) (fresh_frame s) (λ frame s'. after (keywords go place level depth recursive bs frame s') (λ _. give (map (stamp frame) (x ∷ xs)))) (gave-any (λ f u. Unit {0}) (fresh_frame s) (λ f u. tt))
+          (λ f u k. gave-after (λ y v. Unit {0}) (λ ys v. ys ≡ [] → ⊥) (keywords go place level depth recursive bs f u) (λ _. give (map (stamp f) (x ∷ xs))) (gave-any (λ y v. Unit {0}) (keywords go place level depth recursive bs f u) (λ y v. tt))
+          (λ y v j e. absurd (cc)))
+
+  -- `syntax-case`.
+
+  module _ (place : Span) (level depth : ℕ) (literals : List Tree) where
+    moved-fender : (f : FrameNo) (o : Option Tree) (s : State) → Names own s → Gave (Moved own s) (fender go place level depth f o s)
+    moved-fender f None s n = later-self own s n
+    moved-fender f (Some t) s n = moved-after own s (go.form place level depth (stamp f t) s) (λ c. give (Some c)) (moves.form place level depth (stamp f t) s n) (λ c u m. later-self own u m)
+
+    -- a pattern, and its variables in a frame
+    pub record BindsPattern (f : FrameNo) (s : State) (p : Compiled) (u : State) : Type 0 where
+      pub compiled : State
+      pub patterned : Patterned own s p compiled
+      pub binds : BindsPatterns own f level compiled p.variables u
+
+    pub pattern-bound : (f : FrameNo) (p : Compiled) (s t : State) → Patterned own s p t → Gave (λ x u. BindsPattern f s p u) (bind_pattern f place level p.variables t)
+    pattern-bound f p s t h =
+        gave-less (λ x u. BindsPatterns own f level t p.variables u) (λ x u. BindsPattern f s p u) (bind_pattern f place level p.variables t)
+        (binds-patterns own f level place p.variables t h.later.next (mapped p.variables h.compiles.fresh.made))
+        (λ x u b. record { compiled = t; patterned = h; binds = b })
+      where
+        mapped : (vs : List PatternVariable) → Each (λ (l : Label). Made own s.names.number t.names.number l.0) (map variable_label vs) → Each (λ (v : PatternVariable). IsOwn own v.label.0 × (v.label.0.number < t.names.number)) vs
+        mapped [] h = tt
+        mapped (v ∷ vs) h = ((h.0.library, h.0.high), mapped vs h.1)
+
+    pub pattern-adds : (f : FrameNo) (p : Compiled) (s u : State) → BindsPattern f s p u → LaterBut own f s u × (Adds own false (map variable_label p.variables) (map variable_depth p.variables) s u × Keeps own s u)
+    pattern-adds f p s u b = (but-then own f s b.compiled u (but-later own f s b.compiled b.patterned.later) b.binds.later, (pattern-adds-so own f level p s b.compiled u b.patterned b.binds, keeps-then own s b.compiled u b.patterned.later.up b.binds.later.up b.patterned.later.keeps b.binds.keeps))
+
+    pub moved-clause : (c : PatternCase) (s : State) → Names own s → Gave (Moved own s) (pattern_clause go place level depth literals c s)
+    unfolding pattern_clause fresh_frame
+    moved-clause c s n =
+        let f = as_frame s.names in
+        gave-within (Moved own s) (λ u. after (fresh_frame u) (clause_in go place level depth literals c)) s
+        (gave-after (Patterned own (counted s)) (Leaving own s) (pattern_of literals place c.pattern (counted s)) _ (pattern-later own literals place c.pattern (counted s) n)
+        (λ p t h. framed own (λ x. map variable_label p.variables) (λ x. map variable_depth p.variables) s (bind_pattern f place level p.variables t) _ n
+        (gave-less (λ x u. BindsPattern f (counted s) p u) _ (bind_pattern f place level p.variables t) (pattern-bound f p (counted s) t h) (λ x u b. pattern-adds f p (counted s) u b))
+        (λ x u m. moved-after own u (fender go place level depth f c.fender u) _ (moved-fender f c.fender u m)
+        (λ e v l. moved-after own v (go.form place level depth (stamp f c.output) v) (λ o. give (record { pattern = p.pattern; fender = e; output = o })) (moves.form place level depth (stamp f c.output) v l) (λ o w j. later-self own w j)))))
+
+    moved-syntax_case : (subject : Tree) (cs : List PatternCase) (span : Span) (s : State) → Names own s → Gave (Moved own s) (syntax_case go place level depth subject literals cs span s)
+    unfolding syntax_case
+    moved-syntax_case subject cs span s n =
+        moved-after own s (go.form place level depth subject s) _ (moves.form place level depth subject s n)
+        (λ c u m. moved-after own u (check_literals place literals u) (λ _ v. after (all_clauses go place level depth literals cs v) (λ xs. give (matching c (clauses xs) span))) (literals-later own literals place u m)
+        (λ x v l. moved-after own v (all_clauses go place level depth literals cs v) (λ xs. give (matching c (clauses xs) span)) (moved-each own (pattern_clause go place level depth literals) moved-clause cs v l) (λ xs w j. later-self own w j)))
+
+  moved-keywords_form : (place : Span) (level depth : ℕ) (recursive : Bool) (bs : List BindingSpec) (forms : List Tree) (s : State) → Names own s → Gave (Moved own s) (keywords_form go place level depth recursive bs forms s)
+  unfolding keywords_form
+  moved-keywords_form place level depth recursive bs forms s n =
+      moved-after own s (with_keywords go place level depth recursive bs forms s) (in_sequence go place level depth) (moved-keywords place level depth recursive bs forms s n) (λ xs u m. moved-sequence place level depth xs u m)
+
   moved-perform : (place : Span) (level depth : ℕ) (t : Tree) (p : Plan) (s : State) → Names own s → Gave (Moved own s) (perform go place level depth t p s)
   unfolding perform
   moved-perform place level depth t (plans.Done c) s n = later-self own s n
@@ -211,44 +303,78 @@ module _ (own : LibName) (go : Inside) (moves : Moves own go) where
   moved-perform place level depth t (plans.Lambda ids forms) s n = moved-lambda place level (deeper depth) t ids forms s n
   moved-perform place level depth t (plans.CaseLambda cs) s n = moved-case_lambda place level (deeper depth) t cs s n
   moved-perform place level depth t (plans.Letrec star bs forms) s n = moved-letrec place level (deeper depth) t star bs forms s n
+  moved-perform place level depth t (plans.Matching subject literals cs span) s n = moved-syntax_case place level (deeper depth) literals subject cs span s n
+  moved-perform place level depth t (plans.Keywords recursive bs forms) s n = moved-keywords_form place level (deeper depth) recursive bs forms s n
+  moved-perform place level depth t (plans.Use l) s n = tt
+  moved-perform place level depth t (plans.SetUse l id) s n = tt
 
   moved-form : (place : Span) (level depth : ℕ) (t : Tree) (s : State) → Names own s → Gave (Moved own s) (form_at go place level depth t s)
   unfolding form_at
   moved-form place level depth t s n = gave-if (Moved own s) (nat_lt 600 depth) _ _ (λ e. tt)
-      (λ e. moved-after own s (plan_of place level t s) (perform go place level depth t) (plan-later own place level s n t) (λ p u m. moved-perform place level depth t p u m))
+      (λ e. moved-after own s (settle go.earlier place level t s) (perform_settled go level depth) (settle-later own go.earlier s.uses_left place level t s n) (λ d u m. moved-perform d.place level depth d.form d.plan u m))
 
   -- A form of a body.
 
   module _ (at : BodyAt) (start : State) (low : is_top at.kind ≡ true → at.level ≡ 0) where
-    spliced-takes : (depth : ℕ) (d : Taken) (o : Option (List Tree)) (s : State) → Takes own at.frame (is_top at.kind) start s d s → Gave (Takes own at.frame (is_top at.kind) start s) (spliced go at depth d o s)
-    spliced-takes depth d None s k = k
-    spliced-takes depth d (Some forms) s k = splice-takes at (deeper depth) start d forms s k.later.next low k.took
+    abbrev pub T : State → Taken → State → Type 0
+    T s d u = Takes own at.frame (is_top at.kind) start s d u
 
-    item-takes : (depth : ℕ) (d : Taken) (t : Tree) (s : State) → Names own s → Took own (is_top at.kind) start d s → Gave (Takes own at.frame (is_top at.kind) start s) (item go at depth d t s)
-    unfolding item
-    item-takes depth d t s n k =
-        gave-if (Takes own at.frame (is_top at.kind) start s) (nat_lt 600 depth) _ (after (item_plan at depth d t s) (λ p. spliced go at depth p.0 p.1)) (λ e. tt)
-        (λ e. gave-after (Comes own start at s) (Takes own at.frame (is_top at.kind) start s) (item_plan at depth d t s) (λ p. spliced go at depth p.0 p.1)
-        (takes-item own start at s n low depth d t k)
-        (λ p u j. gave-less (Takes own at.frame (is_top at.kind) start u) (Takes own at.frame (is_top at.kind) start s) (spliced go at depth p.0 p.1 u)
-        (spliced-takes depth p.0 p.1 u (record { later = but-self own at.frame u j.later.next; took = j.took }))
-        (λ y v l. record { later = but-then own at.frame s u v j.later l.later; took = l.took })))
+    defined-takes : (depth : ℕ) (d : Taken) (t : Tree) (b : BindingSpec) (s : State) → Names own s → Took own (is_top at.kind) start d s → Gave (T s) (after (define_syntax go at depth d t b s) (λ _. give d))
+    unfolding define_syntax
+    defined-takes depth d t b s n k =
+        gave-after (λ x u. T s d u) (T s) (after (define_keyword at d t b s) (keyword go at.place at.level depth)) (λ _. give d)
+        (gave-after (BindsOne own start at s n low) (λ x u. T s d u) (define_keyword at d t b s) (keyword go at.place at.level depth) (defines-keyword own start at s n low d t b)
+        (λ x u j. gave-less (λ y v. Keeping u x v) (λ y v. T s d v) (keyword go at.place at.level depth x u) (moved-keyword at.place at.level depth x u j.later.next)
+        (λ y v l. record {
+          later = but-then own at.frame s u v j.later (but-later own at.frame u v l.0);
+          took = took-later own (is_top at.kind) start d u v l.0.up (adds-later own (is_top at.kind) u v l.0) (took-later own (is_top at.kind) start d s u j.later.up (j.adds (is_top at.kind)) k);
+          keeps = keywords-kept own at.frame s u v (x ∷ []) j l.0 ((λ lt. l.1), tt);
+        })))
+        (λ x u j. j)
+
+    keywords-take : (depth : ℕ) (d : Taken) (recursive : Bool) (bs : List BindingSpec) (forms : List Tree) (s : State) → Names own s → Took own (is_top at.kind) start d s
+        → Gave (T s) (after (with_keywords go at.place at.level depth recursive bs forms s) (splice go at depth d))
+    keywords-take depth d recursive bs forms s n k =
+        gave-after (λ xs u. Later own s u) (T s) (with_keywords go at.place at.level depth recursive bs forms s) (splice go at depth d) (moved-keywords at.place at.level depth recursive bs forms s n)
+        (λ xs u l. gave-less (T u) (T s) (splice go at depth d xs u) (splice-takes at depth start d xs u l.next low (took-later own (is_top at.kind) start d s u l.up (adds-later own (is_top at.kind) s u l) k))
+        (λ y v j. record { later = but-then own at.frame s u v (but-later own at.frame s u l) j.later; took = j.took; keeps = keeps-then own s u v l.up j.later.up l.keeps j.keeps }))
+
+    performs-item : (depth : ℕ) (d : Taken) (t : Tree) (i : Item) (s : State) → Names own s → Took own (is_top at.kind) start d s → Gave (T s) (perform_item go at depth d t i s)
+    unfolding perform_item
+    performs-item depth d t items.Nothing s n k = record { later = but-self own at.frame s n; took = k; keeps = keeps-self own s }
+    performs-item depth d t (items.Forms forms) s n k = splice-takes at (deeper depth) start d forms s n low k
+    performs-item depth d t (items.Keyword b) s n k = defined-takes (deeper depth) d t b s n k
+    performs-item depth d t (items.Keywords recursive bs forms) s n k = keywords-take (deeper depth) d recursive bs forms s n k
+    performs-item depth d t (items.Use l) s n k = tt
+    performs-item depth d t (items.SetUse l) s n k = tt
+
+  item-takes : (at : BodyAt) (start : State) → (is_top at.kind ≡ true → at.level ≡ 0) → (depth : ℕ) (d : Taken) (t : Tree) (s : State) → Names own s → Took own (is_top at.kind) start d s
+      → Gave (Takes own at.frame (is_top at.kind) start s) (item go at depth d t s)
+  unfolding item
+  item-takes at start low depth d t s n k =
+      gave-if (Takes own at.frame (is_top at.kind) start s) (nat_lt 600 depth) _ (after (settle_item go.earlier at depth d t s) (expand_body.perform_settled go depth)) (λ e. tt)
+      (λ e. gave-after (Settles own go.earlier start depth at s) (Takes own at.frame (is_top at.kind) start s) (settle_item go.earlier at depth d t s) (expand_body.perform_settled go depth)
+      (settle-takes own go.earlier start depth s.uses_left at d t s n low k)
+      (λ p u j. gave-less (Takes own at.frame (is_top at.kind) start u) (Takes own at.frame (is_top at.kind) start s) (expand_body.perform_settled go depth p u)
+      (subst (λ (other : BodyAt). Gave (Takes own at.frame (is_top at.kind) start u) (perform_item go other depth p.0 p.1.form p.1.item u)) (sym j.1.1)
+      (performs-item (record at { place = j.1.0 }) start low depth p.0 p.1.form p.1.item u j.0.later.next j.0.took))
+      (λ y v l. record { later = but-then own at.frame s u v j.0.later l.later; took = l.took; keeps = keeps-then own s u v j.0.later.up l.later.up j.0.keeps l.keeps })))
 
 -- so it is inside forms, however deep they may nest
-pub inside-moves : (own : LibName) (room : ℕ) → Moves own (inside room)
+pub inside-moves : (own : LibName) (rs : List LibRecord) (room : ℕ) → Moves own (inside rs room)
 unfolding inside
-inside-moves own zero = record { form = λ place level depth t s n. tt; procedure = λ place level depth t ids forms s n. tt; item = λ at depth d t start s n low k. tt }
-inside-moves own (suc room) =
-    let moves = inside-moves own room in
+inside-moves own rs zero = record { form = λ place level depth t s n. tt; procedure = λ place level depth t ids forms s n. tt; item = λ at depth d t start s n low k. tt }
+inside-moves own rs (suc room) =
+    let moves = inside-moves own rs room in
     record {
-      form = moved-form own (inside room) moves;
-      procedure = moved-case own (inside room) moves;
-      item = λ at depth d t start s n low k. item-takes own (inside room) moves at start low depth d t s n k;
+      form = moved-form own (inside rs room) moves;
+      procedure = moved-case own (inside rs room) moves;
+      item = λ at depth d t start s n low k. item-takes own (inside rs room) moves at start low depth d t s n k;
     }
 
 -- from a state to the one behind a form
-pub form-later : (room : ℕ) (place : Span) (level depth : ℕ) (t : Tree) (s u : State) (c : PlainCore) → (inside room).form place level depth t s ≡ Ok (c, u) → Later s.names.library s u
-form-later room place level depth t s u c e = told (λ d v. Later s.names.library s v) ((inside room).form place level depth t s) c u ((inside-moves s.names.library room).form place level depth t s refl) e
+pub form-later : (rs : List LibRecord) (room : ℕ) (place : Span) (level depth : ℕ) (t : Tree) (s u : State) (c : PlainCore) → (inside rs room).form place level depth t s ≡ Ok (c, u) → Later s.names.library s u
+form-later rs room place level depth t s u c e = told (λ d v. Later s.names.library s v) ((inside rs room).form place level depth t s) c u ((inside-moves s.names.library rs room).form place level depth t s refl) e
 
 pub scope-stays : ScopeStays
-scope-stays room place level depth t s u c e = (form-later room place level depth t s u c e).scope
+scope-stays rs room place level depth t s u c e = (form-later rs room place level depth t s u c e).scope

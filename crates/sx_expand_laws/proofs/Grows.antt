@@ -1,6 +1,6 @@
 -- What a library adds to frames and bindings.
 use Rattle.std.proofs.Common.{◌≡◌, Bool, true, false, List, [], ◌∷◌, Some, refl, sym, ◌∙◌, ap, subst, arith, inl, inr}
-use Rattle.std.specs.Prelude.{◌⊎◌}
+use Rattle.std.specs.Prelude.{◌⊎◌, ◌≤◌}
 use Rattle.sx_base.specs.declared.library.LibName.{LibName}
 use Rattle.sx_base.specs.declared.name.FrameNo.{FrameNo}
 use Rattle.sx_base.specs.declared.name.Label.{Label}
@@ -13,7 +13,7 @@ use Rattle.sx_core.specs.Bindings.{bound_to}
 use Rattle.sx_core.specs.declared.binding.Binding.{Binding}
 use Rattle.sx_core_laws.specs.Words.{Among}
 use Rattle.sx_standing.specs.State.{State}
-use Rattle.sx_expand_laws.specs.States.{IsOwn, Shows, IsVariable, IndicesApart, Grows}
+use Rattle.sx_expand_laws.specs.States.{IsOwn, Shows, IsAdded, IndicesApart, Grows}
 use Rattle.sx_expand_laws.proofs.Fresh.{among-parts, among-first}
 
 -- a frame that keeps its rows shows what it showed
@@ -28,30 +28,34 @@ module _ (own : LibName) where
   }
 
   -- where frames, bindings and the next index are the same
-  pub grows-same : (s t : State) → t.frames ≡ s.frames → t.bindings ≡ s.bindings → t.index ≡ s.index → Grows own s t
-  grows-same s t f b x = record {
+  pub grows-same : (s t : State) → t.frames ≡ s.frames → t.bindings ≡ s.bindings → t.index ≡ s.index → s.names.number ≤ t.names.number → Grows own s t
+  grows-same s t f b x up = record {
     kept = λ g r a. subst (λ fs. Among (rows_at g fs) r) (sym f) a;
     rows = λ g r a. inl (subst (λ fs. Among (rows_at g fs) r) f a);
     bindings = λ l y e. inl (subst (λ bs. bound_to bs l ≡ Some y) b e);
+    bound = λ l y e. subst (λ bs. bound_to bs l ≡ Some y) (sym b) e;
     indices = indices-same s t b x;
+    numbered = λ h l y o e. let lt = h l y o (subst (λ bs. bound_to bs l ≡ Some y) b e) in omega (arith, lt, up);
   }
 
   pub grows-self : (s : State) → Grows own s s
-  grows-self s = grows-same s s refl refl refl
+  grows-self s = grows-same s s refl refl refl (omega arith)
 
   pub grows-then : (s t u : State) → Grows own s t → Grows own t u → Grows own s u
   grows-then s t u h k = record {
     kept = λ f r a. k.kept f r (h.kept f r a);
     rows = λ f r a. by_row f r (k.rows f r a);
     bindings = λ l b e. by_binding l b (k.bindings l b e);
+    bound = λ l b e. k.bound l b (h.bound l b e);
     indices = λ a. k.indices (h.indices a);
+    numbered = λ n. k.numbered (h.numbered n);
   }
     where
       by_row : (f : FrameNo) (r : Row) → Among (rows_at f t.frames) r ⊎ IsOwn own r.label.0 → Among (rows_at f s.frames) r ⊎ IsOwn own r.label.0
       by_row f r (inl a) = h.rows f r a
       by_row f r (inr o) = inr o
 
-      by_binding : (l : Label) (b : Binding) → (bound_to t.bindings l ≡ Some b) ⊎ (IsOwn own l.0 × IsVariable b) → (bound_to s.bindings l ≡ Some b) ⊎ (IsOwn own l.0 × IsVariable b)
+      by_binding : (l : Label) (b : Binding) → (bound_to t.bindings l ≡ Some b) ⊎ (IsOwn own l.0 × IsAdded b) → (bound_to s.bindings l ≡ Some b) ⊎ (IsOwn own l.0 × IsAdded b)
       by_binding l b (inl e) = h.bindings l b e
       by_binding l b (inr v) = inr v
 

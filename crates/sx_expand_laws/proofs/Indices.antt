@@ -1,12 +1,11 @@
 -- No two variables of a library have one index.
-use Rattle.std.proofs.Common.{◌≡◌, ℕ, zero, suc, ◌<◌, Bool, List, [], ◌++◌, Option, None, Some, refl, sym, ap, subst, arith, inl, inr}
+use Rattle.std.proofs.Common.{◌≡◌, ℕ, zero, suc, ◌<◌, List, [], ◌++◌, Option, None, Some, refl, sym, ap, subst, arith, inl, inr}
 use Rattle.std.specs.Prelude.{◌⊎◌}
 use Rattle.std.specs.List.{flat_map}
 use Rattle.std.proofs.lemmas.Grind.{flat_map-append}
 use Rattle.sx_base.specs.declared.library.LibName.{LibName}
 use Rattle.sx_base.specs.declared.name.Label.{Label}
 use Rattle.sx_core.specs.Bindings.{bound_to}
-use Rattle.sx_core.specs.Labels.{has_label}
 use Rattle.sx_core.specs.declared.binding.Binding.TheVariants as binding
 use Rattle.sx_core.specs.declared.binding.Binding.{Binding}
 use Rattle.sx_core.specs.declared.binding.VarInfo.{VarInfo}
@@ -33,25 +32,25 @@ module _ (own : LibName) (s : State) (next : s.names.library ≡ own) (indices :
   there-once None = tt
   there-once (Some n) = ((λ a. a), tt)
 
-  in-row : (n i : ℕ) (a : Bool) (o : Option Binding) → bound_to s.bindings (own_label s n) ≡ o → Among (flat_map bound_index (row_at a (own_label s n) o)) i → HasIndex n i
-  in-row n i a None e h = elim h [ ]
-  in-row n i a (Some (binding.Variable v)) e h = by (among-parts (there v.index) [] i h)
+  in-row : (n i : ℕ) (o : Option Binding) → bound_to s.bindings (own_label s n) ≡ o → Among (flat_map bound_index (row_at s (own_label s n) o)) i → HasIndex n i
+  in-row n i None e h = elim h [ ]
+  in-row n i (Some (binding.Variable v)) e h = by (among-parts (there v.index) [] i h)
     where
       by : Among (there v.index) i ⊎ Among [] i → HasIndex n i
       by (inl x) = record { variable = v; bound = e; index = there-is v.index i x }
       by (inr x) = elim x [ ]
-  in-row n i a (Some (binding.PatternVariable level depth)) e h = elim h [ ]
-  in-row n i a (Some (binding.Macro level expression)) e h = elim h [ ]
-  in-row n i a (Some (binding.Core f)) e h = elim h [ ]
-  in-row n i a (Some (binding.Primitive o)) e h = elim h [ ]
+  in-row n i (Some (binding.PatternVariable level depth)) e h = elim h [ ]
+  in-row n i (Some (binding.Macro level expression)) e h = elim h [ ]
+  in-row n i (Some (binding.Core f)) e h = elim h [ ]
+  in-row n i (Some (binding.Primitive o)) e h = elim h [ ]
 
-  row-once : (l : Label) (a : Bool) (o : Option Binding) → Once (flat_map bound_index (row_at a l o))
-  row-once l a None = tt
-  row-once l a (Some (binding.Variable v)) = there-once v.index
-  row-once l a (Some (binding.PatternVariable level depth)) = tt
-  row-once l a (Some (binding.Macro level expression)) = tt
-  row-once l a (Some (binding.Core f)) = tt
-  row-once l a (Some (binding.Primitive o)) = tt
+  row-once : (l : Label) (o : Option Binding) → Once (flat_map bound_index (row_at s l o))
+  row-once l None = tt
+  row-once l (Some (binding.Variable v)) = there-once v.index
+  row-once l (Some (binding.PatternVariable level depth)) = tt
+  row-once l (Some (binding.Macro level expression)) = tt
+  row-once l (Some (binding.Core f)) = tt
+  row-once l (Some (binding.Primitive o)) = tt
 
   -- an index below a number is that of a variable there
   record Below (n i : ℕ) : Type 0 where
@@ -66,7 +65,7 @@ module _ (own : LibName) (s : State) (next : s.names.library ≡ own) (indices :
     where
       by : (Among (flat_map bound_index (own_below s n)) i → Below n i) → Among (flat_map bound_index (own_below s n)) i ⊎ Among (flat_map bound_index (own_row s n)) i → Below (suc n) i
       by before (inl a) = let b = before a in record { number = b.number; less = let lt = b.less in omega (arith, lt); has = b.has }
-      by before (inr a) = record { number = n; less = omega arith; has = in-row n i (has_label s.assigned (own_label s n)) (bound_to s.bindings (own_label s n)) refl a }
+      by before (inr a) = record { number = n; less = omega arith; has = in-row n i (bound_to s.bindings (own_label s n)) refl a }
 
   same-number : (m n i : ℕ) → HasIndex m i → HasIndex n i → m ≡ n
   same-number m n i h k = ap (λ (l : Label). l.0.number) (indices.apart (own_label s m) (own_label s n) h.variable k.variable i next next h.bound k.bound h.index k.index)
@@ -75,9 +74,9 @@ module _ (own : LibName) (s : State) (next : s.names.library ≡ own) (indices :
   below-once zero = tt
   below-once (suc n) = subst (λ (xs : List ℕ). Once xs) (sym (flat_map-append bound_index (own_below s n) (own_row s n)))
       (once-append (flat_map bound_index (own_below s n)) (flat_map bound_index (own_row s n)) (below-once n)
-      (row-once (own_label s n) (has_label s.assigned (own_label s n)) (bound_to s.bindings (own_label s n)))
+      (row-once (own_label s n) (bound_to s.bindings (own_label s n)))
       (λ i a b. let x = in-below n i a in
-      let is = same-number x.number n i x.has (in-row n i (has_label s.assigned (own_label s n)) (bound_to s.bindings (own_label s n)) refl b) in
+      let is = same-number x.number n i x.has (in-row n i (bound_to s.bindings (own_label s n)) refl b) in
       let lt = x.less in omega (arith, is, lt)))
 
   pub indices-once : Once (flat_map bound_index (own_bindings s))

@@ -12,35 +12,27 @@ use Rattle.sx_core.specs.References.{binders, all_binders, init_binders}
 use Rattle.sx_core.specs.declared.code.Init.{Init}
 use Rattle.sx_core.specs.declared.record.Line.{Line}
 use Rattle.sx_core.specs.declared.record.Line.TheVariants as line
+use Rattle.sx_core_laws.specs.Templates.{Depths}
 use Rattle.sx_core_laws.specs.Words.{Each, Among, Once}
 use Rattle.sx_core_laws.specs.Parts.{parts, all_parts, init_parts, init_labels, own_number}
 use Rattle.sx_core_laws.specs.Records.{line_core}
 use Rattle.sx_expand.specs.Body.{sequence_of, inits_in, values_in, with_inits, body_core}
 use Rattle.sx_expand_laws.proofs.Fresh.{Made, FreshLabels, label_name, code_name, Apart, each-map, each-at, among-parts, made-apart}
-use Rattle.sx_expand_laws.proofs.Good.{InTurn, Inner, Good, GoodCores, GoodInits, IsFrom, Before, inner-none, inner-round, good-wider, cores-wider, inits-wider, inits-none, inits-cons, cores-cons, not-between, good-letrec}
+use Rattle.sx_expand_laws.proofs.LineLabels.{kind_labels, HasValue}
+use Rattle.sx_expand_laws.proofs.Good.{Bindings, InTurn, Inner, Good, GoodCores, GoodInits, IsFrom, Before, inner-none, inner-round, good-wider, cores-wider, inits-wider, inits-none, inits-cons, cores-cons, not-between, good-letrec}
 
-abbrev pub GoodLine : LibName → List Label → ℕ → ℕ → Line → Type 0
-GoodLine own ls a b x = Good own ls a b (line_core x)
+abbrev pub GoodLine : LibName → Bindings → Depths → List Label → ℕ → ℕ → Line → Type 0
+GoodLine own bs vs ls a b x = Good own bs vs ls a b (line_core x)
 
 -- the label that a line defines, if it defines one
 abbrev pub line_kind : Line → Option Label
 line_kind (line.Define l c) = Some l
 line_kind (line.Expr c) = None
 
-abbrev pub kind_labels : List (Option Label) → List Label
-kind_labels [] = []
-kind_labels (None ∷ ks) = kind_labels ks
-kind_labels (Some l ∷ ks) = l ∷ kind_labels ks
-
-abbrev pub HasValue : List (Option Label) → Type 0
-HasValue [] = ⊥
-HasValue (None ∷ ks) = Unit {0}
-HasValue (Some l ∷ ks) = HasValue ks
-
 -- values of variables and expressions, which share no name
-pub record GoodLines (own : LibName) (ls labels : List Label) (a b : ℕ) (xs : List Line) : Type 0 where
-  pub settings : GoodInits own ls labels a b (inits (inits_in xs))
-  pub values : GoodCores own ls a b (cores (values_in xs))
+pub record GoodLines (own : LibName) (bs : Bindings) (vs : Depths) (ls labels : List Label) (a b : ℕ) (xs : List Line) : Type 0 where
+  pub settings : GoodInits own bs vs ls labels a b (inits (inits_in xs))
+  pub values : GoodCores own bs vs ls a b (cores (values_in xs))
   pub apart : Apart (init_binders (inits (inits_in xs))) (all_binders (cores (values_in xs)))
   pub codes : Apart (flat_map own_number (init_parts (inits (inits_in xs)))) (flat_map own_number (all_parts (cores (values_in xs))))
 
@@ -52,7 +44,7 @@ inits-kinds [] = refl
 inits-kinds (line.Define l c ∷ xs) = ap (λ ls. l ∷ ls) (inits-kinds xs)
 inits-kinds (line.Expr c ∷ xs) = inits-kinds xs
 
-module _ (own : LibName) (ls : List Label) where
+module _ (own : LibName) (bs : Bindings) (vs : Depths) (ls : List Label) where
   abbrev codes_of : List PlainCore → List CodeNo
   codes_of ps = flat_map own_number ps
 
@@ -68,11 +60,11 @@ module _ (own : LibName) (ls : List Label) where
     by (inl f) = h x d f
     by (inr f) = k x d f
 
-  pub good-lines : (first a b : ℕ) (xs : List Line) → first ≤ a → Each (Before first) (kind_labels (kinds xs)) → Once (kind_labels (kinds xs)) → InTurn (GoodLine own ls) a b xs
-      → GoodLines own ls (kind_labels (kinds xs)) a b xs
+  pub good-lines : (first a b : ℕ) (xs : List Line) → first ≤ a → Each (Before first) (kind_labels (kinds xs)) → Once (kind_labels (kinds xs)) → InTurn (GoodLine own bs vs ls) a b xs
+      → GoodLines own bs vs ls (kind_labels (kinds xs)) a b xs
   good-lines first a b [] le before once h = record {
-    settings = inits-none own ls [] a b h;
-    values = record { closed = tt; binders = record { made = tt; once = tt }; inner = inner-none own a b h };
+    settings = inits-none own bs vs ls [] a b h;
+    values = record { closed = tt; suits = tt; binders = record { made = tt; once = tt }; inner = inner-none own bs a b h };
     apart = λ x d e. elim d [ ];
     codes = λ x d e. elim d [ ];
   }
@@ -80,8 +72,8 @@ module _ (own : LibName) (ls : List Label) where
       let rest = good-lines first m b xs (let u = h.inner.up in omega (arith, le, u)) before.1 once.1 k in
       let values = cores (values_in xs) in
       record {
-        settings = inits-cons own ls first a m b l c (kind_labels (kinds xs)) (inits (inits_in xs)) le before once h rest.settings;
-        values = cores-wider own ls m b a b values h.inner.up (omega arith) rest.values;
+        settings = inits-cons own bs vs ls first a m b l c (kind_labels (kinds xs)) (inits (inits_in xs)) le before once h rest.settings;
+        values = cores-wider own bs vs ls m b a b values h.inner.up (omega arith) rest.values;
         apart = apart-parts (l ∷ []) (binders c ++ init_binders (inits (inits_in xs))) (all_binders values)
             (λ x d e. let y = each-at (λ (n : Label). Made own m b n.0) (all_binders values) x rest.values.binders.made e in let z = first-one x d in let u = h.inner.up in omega (arith, z, y.low, le, u))
             (apart-parts (binders c) (init_binders (inits (inits_in xs))) (all_binders values) (made-apart label_name own a m m b (binders c) (all_binders values) (omega arith) h.binders.made rest.values.binders.made) rest.apart);
@@ -98,10 +90,10 @@ module _ (own : LibName) (ls : List Label) where
       let is = inits (inits_in xs) in
       let labels = kind_labels (kinds xs) in
       record {
-        settings = inits-wider own ls labels m b a b is h.inner.up (omega arith) rest.settings;
-        values = cores-cons own ls a m b c (cores (values_in xs)) h rest.values;
+        settings = inits-wider own bs vs ls labels m b a b is h.inner.up (omega arith) rest.settings;
+        values = cores-cons own bs vs ls a m b c (cores (values_in xs)) h rest.values;
         apart = apart-behind (init_binders is) (binders c) (all_binders (cores (values_in xs)))
-            (λ x d e. not-between own ls labels first a m b x le before (each-at (IsFrom own labels m b) (init_binders is) x rest.settings.from d) (each-at (λ (n : Label). Made own a m n.0) (binders c) x h.binders.made e))
+            (λ x d e. not-between own bs vs ls labels first a m b x le before (each-at (IsFrom own labels m b) (init_binders is) x rest.settings.from d) (each-at (λ (n : Label). Made own a m n.0) (binders c) x h.binders.made e))
             rest.apart;
         codes = λ x d e. apart-behind (codes_of (init_parts is)) (codes_of (parts c)) (codes_of (all_parts (cores (values_in xs))))
             (λ y f g. made-apart code_name own a m m b (codes_of (parts c)) (codes_of (init_parts is)) (omega arith) h.inner.codes.made rest.settings.inner.codes.made y g f) rest.codes
@@ -110,16 +102,17 @@ module _ (own : LibName) (ls : List Label) where
 
   -- Expressions in sequence: one is that one.
 
-  only-one : (a b : ℕ) (c : PlainCore) → GoodCores own ls a b (cores (c ∷ [])) → Good own ls a b c
+  only-one : (a b : ℕ) (c : PlainCore) → GoodCores own bs vs ls a b (cores (c ∷ [])) → Good own bs vs ls a b c
   only-one a b c h = record {
     closed = h.closed.0;
+    suits = h.suits.0;
     binders = subst (FreshLabels own a b) (append-nil (binders c)) h.binders;
-    inner = subst (Inner own a b) (append-nil (parts c)) h.inner;
+    inner = subst (Inner own bs a b) (append-nil (parts c)) h.inner;
   }
 
-  pub good-values : (a b : ℕ) (c : PlainCore) (cs : List PlainCore) → GoodCores own ls a b (cores (c ∷ cs)) → Good own ls a b (sequence_of (c ∷ cs))
+  pub good-values : (a b : ℕ) (c : PlainCore) (cs : List PlainCore) → GoodCores own bs vs ls a b (cores (c ∷ cs)) → Good own bs vs ls a b (sequence_of (c ∷ cs))
   good-values a b c [] h = only-one a b c h
-  good-values a b c (d ∷ cs) h = record { closed = h.closed; binders = h.binders; inner = inner-round own a b (sequence (cores (c ∷ (d ∷ cs)))) (all_parts (cores (c ∷ (d ∷ cs)))) refl (omega arith) h.inner }
+  good-values a b c (d ∷ cs) h = record { closed = h.closed; suits = h.suits; binders = h.binders; inner = inner-round own bs a b (sequence (cores (c ∷ (d ∷ cs)))) (all_parts (cores (c ∷ (d ∷ cs)))) refl (omega arith) h.inner }
 
   pub values-apart : (xs : List Label) (cs : List PlainCore) → Apart xs (all_binders (cores cs)) → Apart xs (binders (sequence_of cs))
   values-apart xs [] h = h
@@ -131,31 +124,31 @@ module _ (own : LibName) (ls : List Label) where
   values-codes ns (c ∷ []) h = subst (λ (ps : List PlainCore). Apart ns (codes_of ps)) (append-nil (parts c)) h
   values-codes ns (c ∷ (d ∷ cs)) h = h
 
-  values-there : (a b : ℕ) (xs : List Line) → HasValue (kinds xs) → GoodCores own ls a b (cores (values_in xs)) → Good own ls a b (sequence_of (values_in xs))
+  values-there : (a b : ℕ) (xs : List Line) → HasValue (kinds xs) → GoodCores own bs vs ls a b (cores (values_in xs)) → Good own bs vs ls a b (sequence_of (values_in xs))
   values-there a b [] v h = elim v [ ]
   values-there a b (line.Define l c ∷ xs) v h = values-there a b xs v h
   values-there a b (line.Expr c ∷ xs) v h = good-values a b c (values_in xs) h
 
 -- The core code of a body whose variables were made from a to m, and its lines from there to b.
-module _ (own : LibName) (ls : List Label) where
+module _ (own : LibName) (bs : Bindings) (vs : Depths) (ls : List Label) where
   abbrev Sees : List Label → List Label
   Sees labels = labels ++ ls
 
   with-values : (a m b : ℕ) (labels : List Label) (is : List Init) (c : PlainCore) → init_labels (inits is) ≡ labels → a ≤ m → FreshLabels own a m labels
-      → GoodInits own (labels ++ ls) labels m b (inits is) → Good own (labels ++ ls) m b c
-      → Apart (init_binders (inits is)) (binders c) → Apart (flat_map own_number (init_parts (inits is))) (flat_map own_number (parts c)) → Good own ls a b (with_inits is c)
+      → GoodInits own bs vs (labels ++ ls) labels m b (inits is) → Good own bs vs (labels ++ ls) m b c
+      → Apart (init_binders (inits is)) (binders c) → Apart (flat_map own_number (init_parts (inits is))) (flat_map own_number (parts c)) → Good own bs vs ls a b (with_inits is c)
   with-values a m b labels [] c e le fresh h k apart codes =
-      subst (λ (ns : List Label). Good own (ns ++ ls) a b c) (sym e) (good-wider own (labels ++ ls) m b a b c le (omega arith) k)
-  with-values a m b labels (i ∷ is) c e le fresh h k apart codes = good-letrec own ls a m b true labels (inits (i ∷ is)) c e le fresh h k apart codes
+      subst (λ (ns : List Label). Good own bs vs (ns ++ ls) a b c) (sym e) (good-wider own bs vs (labels ++ ls) m b a b c le (omega arith) k)
+  with-values a m b labels (i ∷ is) c e le fresh h k apart codes = good-letrec own bs vs ls a m b true labels (inits (i ∷ is)) c e le fresh h k apart codes
 
   pub good-body : (a m b : ℕ) (labels : List Label) (xs : List Line) → kind_labels (kinds xs) ≡ labels → a ≤ m → FreshLabels own a m labels → HasValue (kinds xs)
-      → InTurn (GoodLine own (labels ++ ls)) m b xs → Good own ls a b (body_core xs)
+      → InTurn (GoodLine own bs vs (labels ++ ls)) m b xs → Good own bs vs ls a b (body_core xs)
   good-body a m b labels xs e le fresh v h =
       let made : FreshLabels own a m (kind_labels (kinds xs)) = subst (FreshLabels own a m) (sym e) fresh in
       let before = each-map (λ l. Made own a m l.0) (Before m) (kind_labels (kinds xs)) made.made (λ l x. x.high) in
-      let all = good-lines own (labels ++ ls) m m b xs (omega arith) before made.once h in
+      let all = good-lines own bs vs (labels ++ ls) m m b xs (omega arith) before made.once h in
       with-values a m b labels (inits_in xs) (sequence_of (values_in xs)) (inits-kinds xs ∙ e) le fresh
-      (subst (λ (ns : List Label). GoodInits own (labels ++ ls) ns m b (inits (inits_in xs))) e all.settings)
-      (values-there own (labels ++ ls) m b xs v all.values)
-      (values-apart own (labels ++ ls) (init_binders (inits (inits_in xs))) (values_in xs) all.apart)
-      (values-codes own (labels ++ ls) (flat_map own_number (init_parts (inits (inits_in xs)))) (values_in xs) all.codes)
+      (subst (λ (ns : List Label). GoodInits own bs vs (labels ++ ls) ns m b (inits (inits_in xs))) e all.settings)
+      (values-there own bs vs (labels ++ ls) m b xs v all.values)
+      (values-apart own bs vs (labels ++ ls) (init_binders (inits (inits_in xs))) (values_in xs) all.apart)
+      (values-codes own bs vs (labels ++ ls) (flat_map own_number (init_parts (inits (inits_in xs)))) (values_in xs) all.codes)

@@ -17,62 +17,81 @@ use Rattle.sx_core.specs.declared.binding.Binding.{Binding}
 use Rattle.sx_core.specs.declared.binding.Binding.TheVariants as binding
 use Rattle.sx_core.specs.declared.binding.VarInfo.{VarInfo}
 use Rattle.sx_core.specs.declared.core_form.CoreForm.{CoreForm}
+use Rattle.sx_core.specs.Core.{instance}
+use Rattle.sx_core.specs.Template.{PlainTemplate}
+use Rattle.sx_core_laws.specs.Scope.{template_labels}
+use Rattle.sx_core_laws.specs.Templates.{Depths, Suits}
 use Rattle.sx_core_laws.specs.Words.{Each, Among}
+use Rattle.sx_shapes.specs.At.{place_of}
+use Rattle.sx_standing.specs.Patterns.{template_of}
+use Rattle.sx_template.specs.Compile as templates
 use Rattle.sx_standing.specs.Standing.{label_standing, numbered_as, given_as, bound_as, standing_by, standing_of}
 use Rattle.sx_standing.specs.State.{State}
 use Rattle.sx_standing.specs.declared.standing.Standing.{Standing}
 use Rattle.sx_standing.specs.declared.standing.Standing.TheVariants as standing
-use Rattle.sx_heads.specs.Plan.{reference, target, assign_to, assign, plan_of}
+use Rattle.sx_heads.specs.Plan.{done, reference, assign, plan_of}
 use Rattle.sx_heads.specs.declared.plan.Plan.{Plan}
 use Rattle.sx_heads.specs.declared.plan.Plan.TheVariants as plans
-use Rattle.sx_expand_laws.specs.States.{Adds, IsOwn, IsTop, Later, Reach, Sound}
+use Rattle.sx_expand_laws.specs.States.{Adds, Grows, IsOwn, IsTop, IsPattern, Later, Reach, Sound}
 use Rattle.sx_expand_laws.proofs.Acts.{Gave, gave-after, gave-less}
 use Rattle.sx_expand_laws.proofs.Fresh.{each-append, each-at, each-map, among-first, among-second}
-use Rattle.sx_expand_laws.proofs.Good.{Good, good-quoted, good-variable, good-primitive}
-use Rattle.sx_expand_laws.proofs.Plans.{IsOfForms, plan-cases}
-use Rattle.sx_expand_laws.proofs.References.{MayRefer, RefersBy, TargetBy, Refers, Targets, reference-is, target-is}
-use Rattle.sx_expand_laws.proofs.Scope.{label-there}
+use Rattle.sx_expand_laws.proofs.Good.{Bindings, IsVariableIn, Good, good-quoted, good-variable, good-primitive, good-instance}
+use Rattle.sx_expand_laws.proofs.Plans.{IsOfForms, IsTemplate, template-is, plan-cases}
+use Rattle.sx_expand_laws.proofs.References.{MayRefer, RefersBy, AssignsBy, Refers, reference-is, assign-is}
+use Rattle.sx_expand_laws.proofs.Scope.{label-there, adds-later}
+use Rattle.sx_expand_laws.proofs.Templated.{IfGood, TemplateFits, compiled-fits, fits-suit}
 
 -- what may be referred to is among the labels
 abbrev Fits : ℕ → List Label → State → Standing → Type 0
 Fits level ls s standing.Nothing = Unit {0}
-Fits level ls s (standing.Variable v) = MayRefer level s v → Among ls v.label
+Fits level ls s (standing.Variable v) = (MayRefer level s v → Among ls v.label) × IsVariableIn s.bindings v.label
 Fits level ls s standing.PatternVariable = Unit {0}
 Fits level ls s (standing.Primitive op) = op.0 < 301
 Fits level ls s (standing.Core f) = Unit {0}
 Fits level ls s (standing.Keyword l) = Unit {0}
+Fits level ls s standing.Unbuilt = Unit {0}
 
 -- what a plan has itself
-abbrev pub Planned : LibName → List Label → ℕ → Plan → Type 0
-Planned own ls n (plans.Done c) = Good own ls n n c
-Planned own ls n (plans.Call operator operands) = Unit {0}
-Planned own ls n (plans.Conditional test consequent other) = Unit {0}
-Planned own ls n (plans.Assignment l value) = Among ls l
-Planned own ls n (plans.Sequence []) = ⊥
-Planned own ls n (plans.Sequence (x ∷ xs)) = Unit {0}
-Planned own ls n (plans.Lambda ids forms) = Unit {0}
-Planned own ls n (plans.CaseLambda cs) = Unit {0}
-Planned own ls n (plans.Letrec star bs forms) = Unit {0}
+abbrev pub Planned : LibName → Bindings → Depths → List Label → ℕ → Plan → Type 0
+Planned own bs vs ls n (plans.Done c) = Good own bs vs ls n n c
+Planned own bs vs ls n (plans.Call operator operands) = Unit {0}
+Planned own bs vs ls n (plans.Conditional test consequent other) = Unit {0}
+Planned own bs vs ls n (plans.Assignment l value) = IsVariableIn bs l × Among ls l
+Planned own bs vs ls n (plans.Sequence []) = ⊥
+Planned own bs vs ls n (plans.Sequence (x ∷ xs)) = Unit {0}
+Planned own bs vs ls n (plans.Lambda ids forms) = Unit {0}
+Planned own bs vs ls n (plans.CaseLambda cs) = Unit {0}
+Planned own bs vs ls n (plans.Letrec star specs forms) = Unit {0}
+Planned own bs vs ls n (plans.Matching subject literals cs span) = Unit {0}
+Planned own bs vs ls n (plans.Keywords recursive specs []) = ⊥
+Planned own bs vs ls n (plans.Keywords recursive specs (x ∷ xs)) = Unit {0}
+Planned own bs vs ls n (plans.Use l) = Unit {0}
+Planned own bs vs ls n (plans.SetUse l id) = Unit {0}
 
-forms-planned : (own : LibName) (ls : List Label) (n : ℕ) (p : Plan) → IsOfForms p → Planned own ls n p
-forms-planned own ls n (plans.Done c) h = elim h [ ]
-forms-planned own ls n (plans.Call operator operands) h = tt
-forms-planned own ls n (plans.Conditional test consequent other) h = tt
-forms-planned own ls n (plans.Assignment l value) h = elim h [ ]
-forms-planned own ls n (plans.Sequence []) h = elim h [ ]
-forms-planned own ls n (plans.Sequence (x ∷ xs)) h = tt
-forms-planned own ls n (plans.Lambda ids forms) h = tt
-forms-planned own ls n (plans.CaseLambda cs) h = tt
-forms-planned own ls n (plans.Letrec star bs forms) h = tt
+forms-planned : (own : LibName) (bs : Bindings) (vs : Depths) (ls : List Label) (n : ℕ) (p : Plan) → IsOfForms p → Planned own bs vs ls n p
+forms-planned own bs vs ls n (plans.Done c) h = elim h [ ]
+forms-planned own bs vs ls n (plans.Call operator operands) h = tt
+forms-planned own bs vs ls n (plans.Conditional test consequent other) h = tt
+forms-planned own bs vs ls n (plans.Assignment l value) h = elim h [ ]
+forms-planned own bs vs ls n (plans.Sequence []) h = elim h [ ]
+forms-planned own bs vs ls n (plans.Sequence (x ∷ xs)) h = tt
+forms-planned own bs vs ls n (plans.Lambda ids forms) h = tt
+forms-planned own bs vs ls n (plans.CaseLambda cs) h = tt
+forms-planned own bs vs ls n (plans.Letrec star specs forms) h = tt
+forms-planned own bs vs ls n (plans.Matching subject literals cs span) h = tt
+forms-planned own bs vs ls n (plans.Keywords recursive specs []) h = elim h [ ]
+forms-planned own bs vs ls n (plans.Keywords recursive specs (x ∷ xs)) h = tt
+forms-planned own bs vs ls n (plans.Use l) h = tt
+forms-planned own bs vs ls n (plans.SetUse l id) h = elim h [ ]
 
 below : (m k : ℕ) → nat_lt m k ≡ true → m < k
 below m k e = omega (arith, ltb-true)
 
-module _ (own : LibName) (given : List Label) (level : ℕ) (ls : List Label) (s : State) (sound : Sound own given s) (reach : Reach own given level s ls) where
+module _ (own : LibName) (given : List Label) (vs : Depths) (level : ℕ) (ls : List Label) (s : State) (sound : Sound own given s) (reach : Reach own given vs level s ls) where
   numbered-fits : (l : Label) → Fits level ls s (numbered_as l)
   numbered-fits l = by (nat_lt l.0.number 301) refl
     where
-      by_keyword : l.0.number < 301 → (b : Bool) → Fits level ls s (if b then standing.Keyword l else standing.Primitive (record { 0 = l.0.number }))
+      by_keyword : l.0.number < 301 → (b : Bool) → Fits level ls s (if b then standing.Unbuilt else standing.Primitive (record { 0 = l.0.number }))
       by_keyword lt true = tt
       by_keyword lt false = lt
 
@@ -99,7 +118,7 @@ module _ (own : LibName) (given : List Label) (level : ℕ) (ls : List Label) (s
 
   bound-fits : (l : Label) (o : Option Binding) → bound_to s.bindings l ≡ o → Fits level ls s (bound_as s l o)
   bound-fits l None e = tt
-  bound-fits l (Some (binding.Variable v)) e = variable-there l v e
+  bound-fits l (Some (binding.Variable v)) e = (variable-there l v e, (v, e))
   bound-fits l (Some (binding.PatternVariable level depth)) e = tt
   bound-fits l (Some (binding.Macro level expression)) e = tt
   bound-fits l (Some (binding.Core f)) e = tt
@@ -124,62 +143,91 @@ module _ (own : LibName) (given : List Label) (level : ℕ) (ls : List Label) (s
 
   -- Plans.
 
-  planned-standing : (st : Standing) (p : Plan) → Fits level ls s st → RefersBy level s st p → Planned own ls s.names.number p
+  -- at this state
+  abbrev P : Plan → State → Type 0
+  P p t = Planned own t.bindings vs ls t.names.number p
+
+  planned-standing : (st : Standing) (p : Plan) → Fits level ls s st → RefersBy level s st p → P p s
   planned-standing standing.Nothing p h k = elim k [ ]
-  planned-standing (standing.Variable v) p h k = subst (Planned own ls s.names.number) (sym k.0) (good-variable own ls s.names.number s.names.number v.label (omega arith) (h k.1))
+  planned-standing (standing.Variable v) p h k = subst (λ q. P q s) (sym k.0) (good-variable own s.bindings vs ls s.names.number s.names.number v.label (omega arith) h.1 (h.0 k.1))
   planned-standing standing.PatternVariable p h k = elim k [ ]
-  planned-standing (standing.Primitive op) p h k = subst (Planned own ls s.names.number) (sym k) (good-primitive own ls s.names.number s.names.number op (omega arith) h)
+  planned-standing (standing.Primitive op) p h k = subst (λ q. P q s) (sym k) (good-primitive own s.bindings vs ls s.names.number s.names.number op (omega arith) h)
   planned-standing (standing.Core f) p h k = elim k [ ]
-  planned-standing (standing.Keyword l) p h k = elim k [ ]
+  planned-standing (standing.Keyword l) p h k = subst (λ q. P q s) (sym k) tt
+  planned-standing standing.Unbuilt p h k = elim k [ ]
 
-  target-standing : (st : Standing) (l : Label) → Fits level ls s st → TargetBy level s st l → Among ls l
-  target-standing standing.Nothing l h k = elim k [ ]
-  target-standing (standing.Variable v) l h k = subst (Among ls) (sym k.0) (h k.1)
-  target-standing standing.PatternVariable l h k = elim k [ ]
-  target-standing (standing.Primitive op) l h k = elim k [ ]
-  target-standing (standing.Core f) l h k = elim k [ ]
-  target-standing (standing.Keyword m) l h k = elim k [ ]
+  -- noting an assignment changes no binding
+  assigned-standing : (somewhere : Span) (id value : Tree) (st : Standing) (p : Plan) (u : State) → Fits level ls s st → AssignsBy somewhere level s id value st p u → P p u
+  assigned-standing somewhere id value standing.Nothing p u h k = elim k [ ]
+  assigned-standing somewhere id value (standing.Variable v) p u h k = subst (λ q. P q u) (sym k.0) (subst (λ (t : State). P (plans.Assignment v.label value) t) (sym k.1.0) (h.1, h.0 k.1.1))
+  assigned-standing somewhere id value standing.PatternVariable p u h k = elim k [ ]
+  assigned-standing somewhere id value (standing.Primitive op) p u h k = elim k [ ]
+  assigned-standing somewhere id value (standing.Core f) p u h k = elim k [ ]
+  assigned-standing somewhere id value (standing.Keyword m) p u h k = subst (λ q. P q u) (sym k.0) tt
+  assigned-standing somewhere id value standing.Unbuilt p u h k = elim k [ ]
 
-  abbrev IsPlanned : Plan → State → Type 0
-  IsPlanned p t = Planned own ls t.names.number p
+  -- the template of a form suits the pattern variables in scope
+  template-suits : (place : Span) (t : Tree) (x : PlainTemplate) (u : State) → IsTemplate place level t s x u → Suits vs 0 x × Each (Among ls) (template_labels x)
+  template-suits place t x u k =
+      let c : templates.Context = record { frames = s.frames; bindings = s.bindings; level = level; place = place } in
+      let fits = subst (IfGood (TemplateFits (λ l d. IsPattern s l level d) 0)) k.compiled (compiled-fits (λ l d. IsPattern s l level d) c (λ l d e. e) t) in
+      let both = fits-suit (λ l d. IsPattern s l level d) s.scope vs (λ l d a p. reach.depths l level d a p) 0 x k.in_scope fits in
+      (both.0, each-map (Among s.scope) (Among ls) (template_labels x) both.1 (λ l a. each-at (Among ls) s.scope l reach.scope a))
 
-  pub planned-of : (place : Span) (t : Tree) → Gave (λ p u. Planned own ls u.names.number p) (plan_of place level t s)
-  unfolding assign
-  planned-of place t = plan-cases IsPlanned place level s (λ d. good-quoted own ls s.names.number s.names.number d (omega arith))
-      (λ id. gave-less (Refers place level s (standing_of s id)) IsPlanned (reference place level id s) (reference-is place level s id)
-      (λ p u k. subst (IsPlanned p) (sym k.0) (planned-standing (standing_of s id) p (fits id) k.1)))
-      (λ x id value. gave-after (Targets place level s (standing_of s id)) IsPlanned (target place level x id s) (assign_to value) (target-is place level s x id)
-      (λ l u k. target-standing (standing_of s id) l (fits id) k.1))
-      (λ p h. forms-planned own ls s.names.number p h) t
+  pub planned-of : (place : Span) (t : Tree) → Gave P (plan_of place level t s)
+  planned-of place t = plan-cases P place level s (λ d. good-quoted own s.bindings vs ls s.names.number s.names.number d (omega arith))
+      (λ id. gave-less (Refers place level s (standing_of s id)) P (reference place level id s) (reference-is place level s id)
+      (λ p u k. subst (P p) (sym k.0) (planned-standing (standing_of s id) p (fits id) k.1)))
+      (λ x id value. gave-less (AssignsBy place level s id value (standing_of s id)) P (assign place level x id value s) (assign-is place level s x id value)
+      (λ p u k. assigned-standing place id value (standing_of s id) p u (fits id) k))
+      (λ x operand. gave-after (IsTemplate place level operand s) P (template_of place level operand s) (λ y. done (instance y (place_of x place))) (template-is place level operand s)
+      (λ y u k. let suits = template-suits place operand y u k in subst (P (plans.Done (instance y (place_of x place)))) (sym k.same) (good-instance own s.bindings vs ls s.names.number s.names.number y (place_of x place) (omega arith) suits.1 suits.0)))
+      (λ p h. forms-planned own s.bindings vs ls s.names.number p h) t
 
 -- Later states, and more labels.
 
-module _ (own : LibName) (given : List Label) (level : ℕ) where
-  pub reach-later : (s t : State) (ls : List Label) → Later own s t → Reach own given level s ls → Reach own given level t ls
-  reach-later s t ls h k = record {
+module _ (own : LibName) (given : List Label) (vs : Depths) (level : ℕ) where
+  pub reach-later : (s t : State) (ls : List Label) → Later own s t → Sound own given s → Reach own given vs level s ls → Reach own given vs level t ls
+  reach-later s t ls h sound k = record {
     scope = subst (Each (Among ls)) (sym h.scope) k.scope;
     top = λ l v o b. k.top l v o (h.tops l v o b);
     foreign = k.foreign;
+    depths = λ l at depth a p. by l at depth ((adds-later own false s t h).patterns sound.in_scope sound.numbered l at depth a p);
+    patterns = each-map (λ (v : Label × ℕ). (at : ℕ) × IsPattern s v.0 at v.1) (λ (v : Label × ℕ). (at : ℕ) × IsPattern t v.0 at v.1) vs k.patterns (λ v p. (p.0, h.grows.bound v.0 (binding.PatternVariable p.0 v.1) p.1));
   }
+    where
+      by : (l : Label) (at depth : ℕ) → (Among s.scope l × IsPattern s l at depth) ⊎ Among {A = Label × ℕ} [] (l, depth) → Among vs (l, depth)
+      by l at depth (inl x) = k.depths l at depth x.0 x.1
+      by l at depth (inr x) = elim x [ ]
 
-  pub reach-more : (s : State) (ls ms : List Label) → ((l : Label) → Among ls l → Among ms l) → Reach own given level s ls → Reach own given level s ms
+  pub reach-more : (s : State) (ls ms : List Label) → ((l : Label) → Among ls l → Among ms l) → Reach own given vs level s ls → Reach own given vs level s ms
   reach-more s ls ms w k = record {
     scope = each-map (Among ls) (Among ms) s.scope k.scope w;
     top = λ l v o b. let r = k.top l v o b in (r.0, (λ e. w l (r.1 e)));
     foreign = λ l a. w l (k.foreign l a);
+    depths = k.depths;
+    patterns = k.patterns;
   }
 
-  -- where labels come
-  pub reach-added : (top : Bool) (ms ls : List Label) (s t : State) → Adds own top ms s t → Reach own given level s ls → Reach own given level t (ms ++ ls)
-  reach-added top ms ls s t h k = record {
+  -- where labels come, and pattern variables
+  pub reach-added : (top : Bool) (ms ls : List Label) (ds : Depths) (s t : State) → Adds own top ms ds s t → Grows own s t → Each (λ (v : Label × ℕ). (at : ℕ) × IsPattern t v.0 at v.1) ds
+      → Sound own given s → Reach own given vs level s ls → Reach own given (ds ++ vs) level t (ms ++ ls)
+  reach-added top ms ls ds s t h grows are sound k = record {
     scope = subst (Each (Among (ms ++ ls))) (sym h.scope)
         (each-append (Among (ms ++ ls)) s.scope h.more
         (each-map (Among ls) (Among (ms ++ ls)) s.scope k.scope (among-second ms ls))
         (each-map (Among ms) (Among (ms ++ ls)) h.more h.new (among-first ms ls)));
     top = λ l v o b. by l v o (h.tops l v o b);
     foreign = λ l a. among-second ms ls l (k.foreign l a);
+    depths = λ l at depth a p. depth-of l at depth (h.patterns sound.in_scope sound.numbered l at depth a p);
+    patterns = each-append (λ (v : Label × ℕ). (at : ℕ) × IsPattern t v.0 at v.1) ds vs are
+        (each-map (λ (v : Label × ℕ). (at : ℕ) × IsPattern s v.0 at v.1) (λ (v : Label × ℕ). (at : ℕ) × IsPattern t v.0 at v.1) vs k.patterns (λ v p. (p.0, grows.bound v.0 (binding.PatternVariable p.0 v.1) p.1)));
   }
     where
       by : (l : Label) (v : VarInfo) → IsOwn own l.0 → IsTop s l v ⊎ ((top ≡ true) × ((v.level ≡ 0) × Among ms l)) → (v.level ≡ 0) × (level ≡ 0 → Among (ms ++ ls) l)
       by l v o (inl b) = let r = k.top l v o b in (r.0, (λ e. among-second ms ls l (r.1 e)))
       by l v o (inr p) = (p.1.0, (λ e. among-first ms ls l p.1.1))
+
+      depth-of : (l : Label) (at depth : ℕ) → (Among s.scope l × IsPattern s l at depth) ⊎ Among ds (l, depth) → Among (ds ++ vs) (l, depth)
+      depth-of l at depth (inl x) = among-second ds vs (l, depth) (k.depths l at depth x.0 x.1)
+      depth-of l at depth (inr x) = among-first ds vs (l, depth) x

@@ -1,10 +1,11 @@
 -- Each reference names the binder that its leaf stands for.
-use Rattle.std.proofs.Common.{◌≡◌, ℕ, zero, suc, Bool, true, false, List, [], ◌∷◌, ◌++◌, Option, None, Some, Ok, Err, refl, sym, ◌∙◌, ap, subst, inl, inr, if◌then◌else◌}
-use Rattle.std.specs.Prelude.{◌&&◌, nat_eq, nat_lt, is_some}
+use Rattle.std.proofs.Common.{◌≡◌, ℕ, zero, suc, Bool, true, false, List, [], ◌∷◌, ◌++◌, Option, None, Some, Result, Ok, Err, refl, sym, ◌∙◌, ap, subst, inl, inr, if◌then◌else◌}
+use Rattle.std.specs.Prelude.{◌⊎◌, ◌&&◌, nat_eq, nat_lt, is_some}
 use Rattle.std.specs.Cmp.Lexicographic.{pointwise}
 use Rattle.sx_base.specs.Act.{after, give}
 use Rattle.sx_base.specs.Op.{is_keyword}
 use Rattle.sx_base.specs.Same.{same_library, texts_decides}
+use Rattle.sx_base.specs.declared.fault.Fault.{Fault}
 use Rattle.sx_base.specs.declared.fault.FaultKind.TheVariants as kind
 use Rattle.sx_base.specs.declared.library.LibName.TheVariants as library
 use Rattle.sx_base.specs.declared.name.FrameNo.{FrameNo}
@@ -21,28 +22,35 @@ use Rattle.sx_frames.specs.Scope.{Scope, rows_at, with_row, label_at, label_by, 
 use Rattle.sx_frames.proofs.FrameLaws.{rows_at-with_row}
 use Rattle.sx_scope.specs.Stands.{stands, row_for, symbol_of}
 use Rattle.sx_core.specs.Bindings.{bound_to}
-use Rattle.sx_core.specs.Core.{variable}
+use Rattle.sx_core.specs.Core.{PlainCore, variable}
 use Rattle.sx_core.specs.CoreForm.{at_number}
 use Rattle.sx_core.specs.declared.binding.Binding.TheVariants as binding
 use Rattle.sx_core.specs.declared.binding.Binding.{Binding}
 use Rattle.sx_core.specs.declared.core_form.CoreForm.{CoreForm}
+use Rattle.sx_core.specs.declared.record.LibRecord.{LibRecord}
+use Rattle.sx_shapes.specs.At.{place_of}
 use Rattle.sx_shapes.specs.Lists.{is_leaf}
 use Rattle.sx_standing.specs.Binders.{bind_variable, bind_as, row_put, put_variable, variable_for}
 use Rattle.sx_standing.specs.Standing.{label_standing, numbered_as, given_as, bound_as, standing_by, standing_of}
-use Rattle.sx_standing.specs.State.{State, fresh, fault_form}
+use Rattle.sx_standing.specs.State.{State, Does, fresh, fault_form}
 use Rattle.sx_standing.specs.declared.standing.Standing.TheVariants as standing
 use Rattle.sx_standing.specs.declared.standing.Standing.{Standing}
-use Rattle.sx_heads.specs.Plan.{reference, target}
+use Rattle.sx_heads.specs.Plan.{reference, target_by, plan_of}
 use Rattle.sx_heads.specs.declared.plan.Plan.TheVariants as plans
 use Rattle.sx_heads.specs.declared.plan.Plan.{Plan}
-use Rattle.sx_expand.specs.Expression.{perform, form_at, inside}
-use Rattle.sx_expand_laws.specs.Named.{RefersTo, ReferencesNameBinders, AssignmentsNameBinders, BindersAreFound, BindersStay}
+use Rattle.sx_expand.specs.Expression.{perform, perform_settled, form_at, inside}
+use Rattle.sx_expand.specs.Inside.{Inside}
+use Rattle.sx_expand.specs.Settle.{next_form, too_many, step_of, step, settled_by, settle_to, settle}
+use Rattle.sx_expand.specs.declared.settle.Settled.{Settled}
+use Rattle.sx_expand.specs.declared.settle.Step.{Step}
+use Rattle.sx_expand.specs.declared.settle.Step.TheVariants as steps
+use Rattle.sx_expand_laws.specs.Named.{RefersTo, IsUse, ReferencesNameBinders, AssignmentsNameBinders, BindersAreFound, BindersStay}
 use Rattle.sx_expand_laws.specs.States.{IsOld}
 use Rattle.sx_expand_laws.specs.Trees.{StampsAre, LeavesAre}
 use Rattle.sx_expand_laws.proofs.Acts.{Gave, gave-after, gave-less, gave-if, told}
 use Rattle.sx_expand_laws.proofs.Changes.{form-later}
 use Rattle.sx_expand_laws.proofs.Naming.{as_label, counted}
-use Rattle.sx_expand_laws.proofs.References.{RefersBy, TargetBy, Refers, Targets, reference-is, target-is}
+use Rattle.sx_expand_laws.proofs.References.{RefersBy, TargetBy, Refers, Targets, reference-is, target_by-is}
 
 -- References.
 
@@ -54,12 +62,13 @@ OfLabel l standing.PatternVariable = Unit {0}
 OfLabel l (standing.Primitive op) = Unit {0}
 OfLabel l (standing.Core f) = Unit {0}
 OfLabel l (standing.Keyword m) = Unit {0}
+OfLabel l standing.Unbuilt = Unit {0}
 
 label-kept : (s : State) (l : Label) → OfLabel l (label_standing s l)
 unfolding label_standing
 label-kept s l = by (same_library l.0.library library.Core)
   where
-    by_keyword : (b : Bool) → OfLabel l (if b then standing.Keyword l else standing.Primitive (record { 0 = l.0.number }))
+    by_keyword : (b : Bool) → OfLabel l (if b then standing.Unbuilt else standing.Primitive (record { 0 = l.0.number }))
     by_keyword true = tt
     by_keyword false = tt
 
@@ -83,42 +92,85 @@ label-kept s l = by (same_library l.0.library library.Core)
     by true = by_number (nat_lt l.0.number 301)
     by false = bound (bound_to s.bindings l)
 
-abbrev Finishes : State → Option Label → Plan → State → Type 0
-Finishes s o (plans.Done c) u = RefersTo s o c × (u ≡ s)
-Finishes s o _ u = ⊥
+-- a reference to what the leaf stands for, or a use
+abbrev Finishes : State → Option Label → Standing → Plan → State → Type 0
+Finishes s o st (plans.Done c) u = RefersTo s o c × (u ≡ s)
+Finishes s o st (plans.Use l) u = (st ≡ standing.Keyword l) × (u ≡ s)
+Finishes s o st _ u = ⊥
 
-finishes : (level : ℕ) (s : State) (l : Label) (st : Standing) (p : Plan) (u : State) → label_standing s l ≡ st → OfLabel l st → u ≡ s → RefersBy level s st p → Finishes s (Some l) p u
+finishes : (level : ℕ) (s : State) (l : Label) (st : Standing) (p : Plan) (u : State) → label_standing s l ≡ st → OfLabel l st → u ≡ s → RefersBy level s st p → Finishes s (Some l) st p u
 finishes level s l standing.Nothing p u is of same h = elim h [ ]
-finishes level s l (standing.Variable v) p u is of same h = subst (λ q. Finishes s (Some l) q u) (sym h.0) (inl (ap variable of), same)
+finishes level s l (standing.Variable v) p u is of same h = subst (λ q. Finishes s (Some l) (standing.Variable v) q u) (sym h.0) (inl (ap variable of), same)
 finishes level s l standing.PatternVariable p u is of same h = elim h [ ]
-finishes level s l (standing.Primitive o) p u is of same h = subst (λ q. Finishes s (Some l) q u) (sym h) (inr (o, (is, refl)), same)
+finishes level s l (standing.Primitive o) p u is of same h = subst (λ q. Finishes s (Some l) (standing.Primitive o) q u) (sym h) (inr (o, (is, refl)), same)
 finishes level s l (standing.Core f) p u is of same h = elim h [ ]
-finishes level s l (standing.Keyword m) p u is of same h = elim h [ ]
+finishes level s l (standing.Keyword m) p u is of same h = subst (λ q. Finishes s (Some l) (standing.Keyword m) q u) (sym h) (refl, same)
+finishes level s l standing.Unbuilt p u is of same h = elim h [ ]
 
-reference-named : (place : Span) (level : ℕ) (id : Tree) (s : State) → Gave (Finishes s (stands s.frames id)) (reference place level id s)
+reference-named : (place : Span) (level : ℕ) (id : Tree) (s : State) → Gave (Finishes s (stands s.frames id) (standing_of s id)) (reference place level id s)
 unfolding standing_of
-reference-named place level id s = gave-less (Refers place level s (standing_by s (stands s.frames id))) (Finishes s (stands s.frames id)) (reference place level id s) (reference-is place level s id) (λ p u k. by (stands s.frames id) p u k)
+reference-named place level id s = gave-less (Refers place level s (standing_by s (stands s.frames id))) (Finishes s (stands s.frames id) (standing_by s (stands s.frames id))) (reference place level id s) (reference-is place level s id) (λ p u k. by (stands s.frames id) p u k)
   where
-    by : (o : Option Label) (p : Plan) (u : State) → Refers place level s (standing_by s o) p u → Finishes s o p u
+    by : (o : Option Label) (p : Plan) (u : State) → Refers place level s (standing_by s o) p u → Finishes s o (standing_by s o) p u
     by None p u k = elim k.1 [ ]
     by (Some l) p u k = finishes level s l (label_standing s l) p u refl (label-kept s l) k.0 k.1
 
-form-named : (room : ℕ) (place : Span) (level depth : ℕ) (t : Tree) (s : State) → is_leaf t ≡ true → Gave (λ c u. RefersTo s (stands s.frames t) c × (u ≡ s)) ((inside room).form place level depth t s)
-unfolding inside form_at perform
-form-named zero place level depth t s h = tt
-form-named (suc room) place level depth (leaf r x c) s h = gave-if (λ d u. RefersTo s (stands s.frames (leaf r x c)) d × (u ≡ s)) (nat_lt 600 depth) _ _ (λ e. tt)
-    (λ e. gave-after (Finishes s (stands s.frames (leaf r x c))) (λ d u. RefersTo s (stands s.frames (leaf r x c)) d × (u ≡ s)) (reference place level (leaf r x c) s) (perform (inside room) place level depth (leaf r x c))
-    (reference-named place level (leaf r x c) s) by)
-  where
-    by : (p : Plan) (u : State) → Finishes s (stands s.frames (leaf r x c)) p u → Gave (λ d v. RefersTo s (stands s.frames (leaf r x c)) d × (v ≡ s)) (perform (inside room) place level depth (leaf r x c) p u)
-    by (plans.Done d) u k = k
-    by _ u k = elim k [ ]
-form-named (suc room) place level depth (atom r a) s h = absurd (cc)
-form-named (suc room) place level depth (pair r a d) s h = absurd (cc)
-form-named (suc room) place level depth (vector r d) s h = absurd (cc)
+-- what is settled of a leaf that is no use is its own plan
+module _ (rs : List LibRecord) (place : Span) (level : ℕ) (t : Tree) (s : State) where
+  abbrev Answers : PlainCore → State → Type 0
+  Answers c u = (RefersTo s (stands s.frames t) c × (u ≡ s)) ⊎ IsUse s t
+
+  abbrev IsSettled : Settled → State → Type 0
+  IsSettled d u = ((c : PlainCore) × ((d.plan ≡ plans.Done c) × (RefersTo s (stands s.frames t) c × (u ≡ s)))) ⊎ IsUse s t
+
+  abbrev IsStep : Step → State → Type 0
+  IsStep (steps.Plan p) u = (c : PlainCore) × ((p ≡ plans.Done c) × (RefersTo s (stands s.frames t) c × (u ≡ s)))
+  IsStep (steps.Use l) u = IsUse s t
+
+  step-named : (p : Plan) (u : State) → Finishes s (stands s.frames t) (standing_of s t) p u → Gave IsStep (step_of rs place t p u)
+  step-named (plans.Done c) u h = (c, (refl, h))
+  step-named (plans.Use l) u h = (l, h.0)
+  step-named _ u h = elim h [ ]
+
+  -- whatever comes of a use
+  any : {A : Type 0} (P : A → State → Type 0) (r : Result (A × State) Fault) → ((a : A) (u : State) → P a u) → Gave P r
+  any P (Ok p) h = h p.0 p.1
+  any P (Err e) h = tt
+
+  settled-named : (onward : Label → Does Settled) (x : Step) (u : State) → IsStep x u → Gave IsSettled (settled_by onward place t x u)
+  settled-named onward (steps.Plan p) u h = inl h
+  settled-named onward (steps.Use l) u h = any IsSettled (onward l u) (λ a v. inr h)
+
+  plan-named : Gave (Finishes s (stands s.frames t) (standing_of s t)) (plan_of place level t s) → Gave IsStep (step rs place level t s)
+  unfolding step
+  plan-named h = gave-after (Finishes s (stands s.frames t) (standing_of s t)) IsStep (plan_of place level t s) (step_of rs place t) h step-named
+
+  settle-named : (left : ℕ) → Gave (Finishes s (stands s.frames t) (standing_of s t)) (plan_of place level t s) → Gave IsSettled (settle_to rs left place level t s)
+  unfolding settle_to
+  settle-named zero h = gave-after IsStep IsSettled (step rs place level t s) (settled_by (λ l. too_many t place) place t) (plan-named h) (settled-named (λ l. too_many t place))
+  settle-named (suc left) h = gave-after IsStep IsSettled (step rs place level t s) (settled_by (λ l s'. after (next_form rs left place t l None s') (settle_to rs left (place_of t place) level)) place t) (plan-named h)
+      (settled-named (λ l s'. after (next_form rs left place t l None s') (settle_to rs left (place_of t place) level)))
+
+  pub performs-named : (go : Inside) (depth : ℕ) (d : Settled) (u : State) → IsSettled d u → Gave Answers (perform_settled go level depth d u)
+  unfolding perform
+  performs-named go depth d u (inl h) = subst (λ (p : Plan). Gave Answers (perform go d.place level depth d.form p u)) (sym h.1.0) (inl h.1.1)
+  performs-named go depth d u (inr h) = any Answers (perform_settled go level depth d u) (λ a v. inr h)
+
+form-named : (rs : List LibRecord) (room : ℕ) (place : Span) (level depth : ℕ) (t : Tree) (s : State) → is_leaf t ≡ true
+    → Gave (λ c u. (RefersTo s (stands s.frames t) c × (u ≡ s)) ⊎ IsUse s t) ((inside rs room).form place level depth t s)
+unfolding inside form_at
+form-named rs zero place level depth t s h = tt
+form-named rs (suc room) place level depth (leaf r x c) s h =
+    let earlier = (inside rs room).earlier in
+    gave-if (Answers earlier place level (leaf r x c) s) (nat_lt 600 depth) _ _ (λ e. tt)
+    (λ e. gave-after (IsSettled earlier place level (leaf r x c) s) (Answers earlier place level (leaf r x c) s) (settle earlier place level (leaf r x c) s) (perform_settled (inside rs room) level depth)
+    (settle-named earlier place level (leaf r x c) s s.uses_left (reference-named place level (leaf r x c) s)) (performs-named earlier place level (leaf r x c) s (inside rs room) depth))
+form-named rs (suc room) place level depth (atom r a) s h = absurd (cc)
+form-named rs (suc room) place level depth (pair r a d) s h = absurd (cc)
+form-named rs (suc room) place level depth (vector r d) s h = absurd (cc)
 
 pub references-named : ReferencesNameBinders
-references-named room place level depth t s u c h e = told (λ d v. RefersTo s (stands s.frames t) d × (v ≡ s)) ((inside room).form place level depth t s) c u (form-named room place level depth t s h) e
+references-named rs room place level depth t s u c h e = told (λ d v. (RefersTo s (stands s.frames t) d × (v ≡ s)) ⊎ IsUse s t) ((inside rs room).form place level depth t s) c u (form-named rs room place level depth t s h) e
 
 -- Assignments.
 
@@ -129,17 +181,18 @@ target-label level s l m standing.PatternVariable of h = elim h [ ]
 target-label level s l m (standing.Primitive o) of h = elim h [ ]
 target-label level s l m (standing.Core f) of h = elim h [ ]
 target-label level s l m (standing.Keyword k) of h = elim h [ ]
+target-label level s l m standing.Unbuilt of h = elim h [ ]
 
-target-named : (place : Span) (level : ℕ) (t id : Tree) (s : State) → Gave (λ l u. stands s.frames id ≡ Some l) (target place level t id s)
+target-named : (place : Span) (level : ℕ) (t id : Tree) (s : State) → Gave (λ l u. stands s.frames id ≡ Some l) (target_by place level t id (standing_of s id) s)
 unfolding standing_of
-target-named place level t id s = gave-less (Targets place level s (standing_by s (stands s.frames id))) (λ l u. stands s.frames id ≡ Some l) (target place level t id s) (target-is place level s t id) (λ l u k. by (stands s.frames id) l u k)
+target-named place level t id s = gave-less (Targets place level s (standing_by s (stands s.frames id))) (λ l u. stands s.frames id ≡ Some l) (target_by place level t id (standing_by s (stands s.frames id)) s) (target_by-is place level s t id (standing_by s (stands s.frames id))) (λ l u k. by (stands s.frames id) l u k)
   where
     by : (o : Option Label) (l : Label) (u : State) → Targets place level s (standing_by s o) l u → o ≡ Some l
     by None l u k = elim k.1 [ ]
     by (Some m) l u k = target-label level s m l (label_standing s m) (label-kept s m) k.1
 
 pub assignments-named : AssignmentsNameBinders
-assignments-named place level t id s u l e = told (λ m v. stands s.frames id ≡ Some m) (target place level t id s) l u (target-named place level t id s) e
+assignments-named place level t id s u l e = told (λ m v. stands s.frames id ≡ Some m) (target_by place level t id (standing_of s id) s) l u (target-named place level t id s) e
 
 -- Binders.
 
@@ -191,4 +244,4 @@ leaf-stays fs gs P same (pair r a d) h = refl
 leaf-stays fs gs P same (vector r d) h = refl
 
 pub binders-stay : BindersStay
-binders-stay room place level depth t s u c e id old = leaf-stays s.frames u.frames (IsOld s.names.library s) (form-later room place level depth t s u c e).same id old
+binders-stay rs room place level depth t s u c e id old = leaf-stays s.frames u.frames (IsOld s.names.library s) (form-later rs room place level depth t s u c e).same id old

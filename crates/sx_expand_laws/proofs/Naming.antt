@@ -1,5 +1,5 @@
 -- New names, and the binding of variables.
-use Rattle.std.proofs.Common.{◌≡◌, ℕ, ◌+◌, ◌<◌, Bool, true, false, [], ◌∷◌, ◌++◌, Some, Ok, Err, refl, sym, ◌∙◌, ap, subst, arith, inl, inr, if◌then◌else◌, None, ◌≤◌}
+use Rattle.std.proofs.Common.{◌≡◌, ℕ, ◌+◌, ◌<◌, Bool, true, false, List, [], ◌∷◌, ◌++◌, Some, Ok, Err, refl, sym, ◌∙◌, ap, subst, arith, inl, inr, if◌then◌else◌, None, ◌≤◌}
 use Rattle.std.specs.Prelude.{◌⊎◌, is_some, nat_eq}
 use Rattle.sx_base.specs.Act.{after, give}
 use Rattle.sx_base.specs.Named.{Named}
@@ -17,17 +17,17 @@ use Rattle.sx_core.specs.Bindings.{bound_to}
 use Rattle.sx_core.specs.declared.binding.Binding.{Binding}
 use Rattle.sx_core.specs.declared.binding.Binding.TheVariants as binding
 use Rattle.sx_core.specs.declared.binding.VarInfo.{VarInfo}
-use Rattle.sx_core_laws.specs.Words.{Among}
+use Rattle.sx_core_laws.specs.Words.{Each, Among}
 use Rattle.sx_shapes.specs.Lists.{is_leaf}
 use Rattle.sx_standing.specs.Binders.{bind_variable, bind_as, row_put, put_variable, variable_for, index_at, next_index}
 use Rattle.sx_standing.specs.InScope.{with_local}
 use Rattle.sx_standing.specs.State.{State, fresh, fault_form}
-use Rattle.sx_expand_laws.specs.States.{IsOwn, IsVariable, IsTop, IndicesApart, Grows, Adds, Later, LaterBut}
+use Rattle.sx_expand_laws.specs.States.{IsOwn, IsAdded, IsTop, IsPattern, IsUnbound, IsNumbered, IndicesApart, Grows, Keeps, Adds, Later, LaterBut}
 use Rattle.sx_expand_laws.proofs.Acts.{Gave, gave-if}
-use Rattle.sx_expand_laws.proofs.Fresh.{Made}
+use Rattle.sx_expand_laws.proofs.Fresh.{Made, each-append, each-at, each-map, among-parts}
 use Rattle.sx_expand_laws.proofs.Grows.{grows-same, grows-then, row-kept, row-new}
 use Rattle.sx_expand_laws.proofs.Scope.{binder-behind}
-use Rattle.sx_expand_laws.proofs.Later.{bound-more}
+use Rattle.sx_expand_laws.proofs.Later.{bound-more, bound-kept, bound-last, keeps-same, keeps-more}
 
 -- the state behind a new name
 abbrev pub counted : State → State
@@ -59,7 +59,7 @@ index-up level n = by (nat_eq level 0)
 
 module _ (own : LibName) where
   pub counted-later : (s : State) → s.names.library ≡ own → Later own s (counted s)
-  counted-later s n = record { here = refl; next = n; up = omega arith; same = λ f o. refl; grows = grows-same own s (counted s) refl refl refl; scope = refl; tops = λ l v o b. b }
+  counted-later s n = record { here = refl; next = n; up = omega arith; same = λ f o. refl; grows = grows-same own s (counted s) refl refl refl (omega arith); scope = refl; tops = λ l v o b. b; keeps = keeps-same own s (counted s) refl refl }
 
   -- a new name is one of the library
   pub next-made : (s : State) → s.names.library ≡ own → Made own s.names.number (s.names.number + 1) s.names
@@ -86,53 +86,137 @@ module _ (own : LibName) where
       apart m j w x i o q (inr p) (inl d) k r = let lt = h.below j x i q d r in let is = (index-is v.level s.index i (new-index w i p.1 k)).0 in absurd (omega (arith, lt, is))
       apart m j w x i o q (inr p) (inr p') k r = p.0 ∙ sym p'.0
 
-  variable-grows : (s : State) (f : FrameNo) (id : Tree) (l : Label) (v : VarInfo) → v.index ≡ index_at v.level s.index → IsOwn own l.0 → Grows own s (with_variable f id l v s)
-  variable-grows s f id l v ix mine = record {
+  pub added-row : (s : State) (f : FrameNo) (id : Tree) (l : Label) → IsOwn own l.0 → (g : FrameNo) (r : Row) → Among (rows_at g (with_row s.frames f (row_for id l))) r → Among (rows_at g s.frames) r ⊎ IsOwn own r.label.0
+  added-row s f id l mine g r a = by (row-new s.frames f (row_for id l) g r a)
+    where
+      by : Among (rows_at g s.frames) r ⊎ (r ≡ row_for id l) → Among (rows_at g s.frames) r ⊎ IsOwn own r.label.0
+      by (inl a) = inl a
+      by (inr e) = inr (subst (λ (x : Row). IsOwn own x.label.0) (sym e) mine)
+
+  added-binding : (s : State) (l : Label) (x : Binding) → IsOwn own l.0 → IsAdded x → (m : Label) (b : Binding) → bound_to (s.bindings ++ (l, x) ∷ []) m ≡ Some b → (bound_to s.bindings m ≡ Some b) ⊎ (IsOwn own m.0 × IsAdded b)
+  added-binding s l x mine added m b e = by (bound-more s.bindings l m x b e)
+    where
+      by : (bound_to s.bindings m ≡ Some b) ⊎ ((m ≡ l) × (x ≡ b)) → (bound_to s.bindings m ≡ Some b) ⊎ (IsOwn own m.0 × IsAdded b)
+      by (inl e) = inl e
+      by (inr p) = inr (ap (λ (x : Label). x.0.library) p.0 ∙ mine, subst IsAdded p.1 added)
+
+  -- a label that was made before the next name
+  pub added-numbered : (s : State) (l : Label) (x : Binding) → l.0.number < s.names.number → IsNumbered own s → (m : Label) (b : Binding) → IsOwn own m.0 → bound_to (s.bindings ++ (l, x) ∷ []) m ≡ Some b → m.0.number < s.names.number
+  added-numbered s l x lt h m b o e = by (bound-more s.bindings l m x b e)
+    where
+      by : (bound_to s.bindings m ≡ Some b) ⊎ ((m ≡ l) × (x ≡ b)) → m.0.number < s.names.number
+      by (inl e) = h m b o e
+      by (inr p) = subst (λ (y : Label). y.0.number < s.names.number) (sym p.0) lt
+
+  -- the binding of what is no variable
+  pub other-grows : (s : State) (f : FrameNo) (id : Tree) (l : Label) (x : Binding) (ls : List Label) → IsAdded x → ((v : VarInfo) → x ≡ binding.Variable v → ⊥) → IsOwn own l.0 → l.0.number < s.names.number
+      → Grows own s (record s { frames = with_row s.frames f (row_for id l); bindings = s.bindings ++ (l, x) ∷ []; scope = ls })
+  other-grows s f id l x ls added other mine lt = record {
     kept = row-kept s.frames f (row_for id l);
-    rows = λ g r a. by_row g r (row-new s.frames f (row_for id l) g r a);
-    bindings = λ m b e. by_binding m b (bound-more s.bindings l m (binding.Variable v) b e);
-    indices = variable-indices s f id l v ix;
+    rows = added-row s f id l mine;
+    bindings = added-binding s l x mine added;
+    bound = λ m b e. bound-kept s.bindings l m x b e;
+    indices = λ h. record {
+      below = λ m w i o e k. h.below m w i o (before m w e) k;
+      apart = λ m j w y i o q e d k r. h.apart m j w y i o q (before m w e) (before j y d) k r;
+    };
+    numbered = λ h. added-numbered s l x lt h;
   }
     where
-      by_row : (g : FrameNo) (r : Row) → Among (rows_at g s.frames) r ⊎ (r ≡ row_for id l) → Among (rows_at g s.frames) r ⊎ IsOwn own r.label.0
-      by_row g r (inl a) = inl a
-      by_row g r (inr e) = inr (subst (λ (x : Row). IsOwn own x.label.0) (sym e) mine)
+      before : (m : Label) (w : VarInfo) → bound_to (s.bindings ++ (l, x) ∷ []) m ≡ Some (binding.Variable w) → bound_to s.bindings m ≡ Some (binding.Variable w)
+      before m w e = by (bound-more s.bindings l m x (binding.Variable w) e)
+        where
+          by : (bound_to s.bindings m ≡ Some (binding.Variable w)) ⊎ ((m ≡ l) × (x ≡ binding.Variable w)) → bound_to s.bindings m ≡ Some (binding.Variable w)
+          by (inl e) = e
+          by (inr p) = absurd (other w p.1)
 
-      by_binding : (m : Label) (b : Binding) → (bound_to s.bindings m ≡ Some b) ⊎ ((m ≡ l) × (binding.Variable v ≡ b)) → (bound_to s.bindings m ≡ Some b) ⊎ (IsOwn own m.0 × IsVariable b)
-      by_binding m b (inl e) = inl e
-      by_binding m b (inr p) = inr (ap (λ (x : Label). x.0.library) p.0 ∙ mine, (v, sym p.1))
+  variable-grows : (s : State) (f : FrameNo) (id : Tree) (l : Label) (v : VarInfo) → v.index ≡ index_at v.level s.index → IsOwn own l.0 → l.0.number < s.names.number → Grows own s (with_variable f id l v s)
+  variable-grows s f id l v ix mine lt = record {
+    kept = row-kept s.frames f (row_for id l);
+    rows = added-row s f id l mine;
+    bindings = added-binding s l (binding.Variable v) mine tt;
+    bound = λ m b e. bound-kept s.bindings l m (binding.Variable v) b e;
+    indices = variable-indices s f id l v ix;
+    numbered = λ h. added-numbered s l (binding.Variable v) lt h;
+  }
 
-  variable-adds : (s : State) (f : FrameNo) (id : Tree) (l : Label) (v : VarInfo) → (v.top ≡ true → v.level ≡ 0) → Adds own v.top (l ∷ []) s (with_variable f id l v s)
-  variable-adds s f id l v low =
-      let b = binder-behind v.top l s.scope in
-      record { more = b.more; scope = b.is; new = b.new; tops = λ m w o t. by m w t.1 (bound-more s.bindings l m (binding.Variable v) (binding.Variable w) t.0) }
+  -- what comes into scope is bound, where it is the label that was bound or was in scope
+  pub scope-bound : (bs : List (Label × Binding)) (l : Label) (x : Binding) (ls more : List Label) → Each (Among (l ∷ [])) more → Each (λ m. (b : Binding) × (bound_to bs m ≡ Some b)) ls
+      → Each (λ m. (b : Binding) × (bound_to (bs ++ (l, x) ∷ []) m ≡ Some b)) (ls ++ more)
+  scope-bound bs l x ls more new h = each-append (λ m. (b : Binding) × (bound_to (bs ++ (l, x) ∷ []) m ≡ Some b)) ls more
+      (each-map (λ m. (b : Binding) × (bound_to bs m ≡ Some b)) (λ m. (b : Binding) × (bound_to (bs ++ (l, x) ∷ []) m ≡ Some b)) ls h (λ m b. (b.0, bound-kept bs l m x b.0 b.1)))
+      (each-map (Among (l ∷ [])) (λ m. (b : Binding) × (bound_to (bs ++ (l, x) ∷ []) m ≡ Some b)) more new by)
     where
-      by : (m : Label) (w : VarInfo) → w.top ≡ true → (bound_to s.bindings m ≡ Some (binding.Variable w)) ⊎ ((m ≡ l) × (binding.Variable v ≡ binding.Variable w)) → IsTop s m w ⊎ ((v.top ≡ true) × ((w.level ≡ 0) × Among (l ∷ []) m))
+      by : (m : Label) → Among (l ∷ []) m → (b : Binding) × (bound_to (bs ++ (l, x) ∷ []) m ≡ Some b)
+      by m (inl e) = subst (λ (y : Label). (b : Binding) × (bound_to (bs ++ (l, x) ∷ []) y ≡ Some b)) (sym e) (bound-last bs l x)
+      by m (inr e) = elim e [ ]
+
+  -- a pattern variable that was bound before, or that was bound now
+  pub scope-patterns : (s : State) (l : Label) (x : Binding) (more : List Label) → Each (Among (l ∷ [])) more → IsUnbound s l → (m : Label) (level depth : ℕ) → Among (s.scope ++ more) m
+      → bound_to (s.bindings ++ (l, x) ∷ []) m ≡ Some (binding.PatternVariable level depth) → (Among s.scope m × IsPattern s m level depth) ⊎ ((m ≡ l) × (x ≡ binding.PatternVariable level depth))
+  scope-patterns s l x more new unbound m level depth a e = by (bound-more s.bindings l m x (binding.PatternVariable level depth) e)
+    where
+      there : IsPattern s m level depth → Among s.scope m ⊎ Among more m → (Among s.scope m × IsPattern s m level depth) ⊎ ((m ≡ l) × (x ≡ binding.PatternVariable level depth))
+      there p (inl b) = inl (b, p)
+      there p (inr b) = absurd (old (each-at (Among (l ∷ [])) more m new b))
+        where
+          old : Among (l ∷ []) m → ⊥
+          old (inl e) = unbound (binding.PatternVariable level depth) (subst (λ (y : Label). bound_to s.bindings y ≡ Some (binding.PatternVariable level depth)) e p)
+          old (inr e) = e
+
+      by : IsPattern s m level depth ⊎ ((m ≡ l) × (x ≡ binding.PatternVariable level depth)) → (Among s.scope m × IsPattern s m level depth) ⊎ ((m ≡ l) × (x ≡ binding.PatternVariable level depth))
+      by (inl p) = there p (among-parts s.scope more m a)
+      by (inr p) = inr p
+
+  -- what was made later than all labels that are bound isn't bound
+  pub new-unbound : (s : State) (l : Label) → IsNumbered own s → IsOwn own l.0 → s.names.number ≤ l.0.number → IsUnbound s l
+  new-unbound s l n mine high b e = let lt = n l b mine e in omega (arith, lt, high)
+
+  -- the label is that of the name before the next
+  variable-adds : (s : State) (f : FrameNo) (id : Tree) (v : VarInfo) → (v.top ≡ true → v.level ≡ 0) → s.names.library ≡ own → Adds own v.top (as_label s.names ∷ []) [] s (with_variable f id (as_label s.names) v (counted s))
+  variable-adds s f id v low mine =
+      let b = binder-behind v.top (as_label s.names) s.scope in
+      record {
+        more = b.more;
+        scope = b.is;
+        new = b.new;
+        tops = λ m w o t. by m w t.1 (bound-more s.bindings (as_label s.names) m (binding.Variable v) (binding.Variable w) t.0);
+        bound = λ h. subst (Each (λ m. (x : Binding) × (bound_to (s.bindings ++ (as_label s.names, binding.Variable v) ∷ []) m ≡ Some x))) (sym b.is) (scope-bound s.bindings (as_label s.names) (binding.Variable v) s.scope b.more b.new h);
+        numbered = λ h. added-numbered (counted s) (as_label s.names) (binding.Variable v) (omega arith) (λ l y o e. let lt = h l y o e in omega (arith, lt));
+        patterns = λ h n m level depth a p. pattern m level depth (scope-patterns s (as_label s.names) (binding.Variable v) b.more b.new (new-unbound s (as_label s.names) n mine (omega arith)) m level depth (subst (λ (xs : List Label). Among xs m) b.is a) p);
+      }
+    where
+      by : (m : Label) (w : VarInfo) → w.top ≡ true → (bound_to s.bindings m ≡ Some (binding.Variable w)) ⊎ ((m ≡ as_label s.names) × (binding.Variable v ≡ binding.Variable w)) → IsTop s m w ⊎ ((v.top ≡ true) × ((w.level ≡ 0) × Among (as_label s.names ∷ []) m))
       by m w t (inl e) = inl (e, t)
       by m w t (inr p) = let e = p.1 in let is : v ≡ w = cc in let top : v.top ≡ true = ap (λ (x : VarInfo). x.top) is ∙ t in inr (top, (ap (λ (x : VarInfo). x.level) (sym is) ∙ low top, inl p.0))
+
+      pattern : (m : Label) (level depth : ℕ) → (Among s.scope m × IsPattern s m level depth) ⊎ ((m ≡ as_label s.names) × (binding.Variable v ≡ binding.PatternVariable level depth)) → (Among s.scope m × IsPattern s m level depth) ⊎ Among {A = Label × ℕ} [] (m, depth)
+      pattern m level depth (inl p) = inl p
+      pattern m level depth (inr p) = let bad = p.1 in absurd (cc)
 
   -- what the binding of a variable gives: a new name, and nothing else comes into scope
   pub record Binds (f : FrameNo) (top : Bool) (s : State) (l : Label) (t : State) : Type 0 where
     pub later : LaterBut own f s t
     pub label : l ≡ as_label s.names
     pub up : t.names.number ≡ s.names.number + 1
-    pub adds : Adds own top (l ∷ []) s t
+    pub adds : Adds own top (l ∷ []) [] s t
+    pub keeps : Keeps own s t
 
   variable-binds : (s : State) (f : FrameNo) (id : Tree) (v : VarInfo) → v.index ≡ index_at v.level s.index → (v.top ≡ true → v.level ≡ 0) → s.names.library ≡ own
       → Binds f v.top s (as_label s.names) (with_variable f id (as_label s.names) v (counted s))
   variable-binds s f id v ix low n =
-      let adds = variable-adds (counted s) f id (as_label s.names) v low in
       record {
         later = record {
           here = refl;
           next = n;
           up = omega arith;
           same = λ g o d. rows_at-other s.frames f g (row_for id (as_label s.names)) d;
-          grows = grows-then own s (counted s) (with_variable f id (as_label s.names) v (counted s)) (grows-same own s (counted s) refl refl refl) (variable-grows (counted s) f id (as_label s.names) v ix n);
+          grows = grows-then own s (counted s) (with_variable f id (as_label s.names) v (counted s)) (grows-same own s (counted s) refl refl refl (omega arith)) (variable-grows (counted s) f id (as_label s.names) v ix n (omega arith));
         };
         label = refl;
         up = refl;
-        adds = record { more = adds.more; scope = adds.scope; new = adds.new; tops = adds.tops };
+        adds = variable-adds s f id v low n;
+        keeps = keeps-more own s (with_variable f id (as_label s.names) v (counted s)) (as_label s.names) (binding.Variable v) refl (λ level e x. absurd (cc)) refl;
       }
 
   pub binds : (f : FrameNo) (place : Span) (level : ℕ) (top : Bool) (id : Tree) (s : State) → (top ≡ true → level ≡ 0) → s.names.library ≡ own → Gave (Binds f top s) (bind_variable f place level top id s)

@@ -7,28 +7,34 @@ use Rattle.sx_base.specs.declared.name.Label.{Label}
 use Rattle.sx_base.specs.declared.span.Span.{Span}
 use Rattle.sx_tree.specs.Leaves.{strip}
 use Rattle.sx_tree.specs.Tree.{Tree, atom, leaf, pair, vector}
-use Rattle.sx_core.specs.Core.{quoted}
+use Rattle.sx_core.specs.Core.{quoted, instance}
+use Rattle.sx_core.specs.Template.{PlainTemplate}
 use Rattle.sx_core.specs.declared.core_form.CoreForm.{CoreForm}
+use Rattle.sx_core.specs.declared.core_form.CoreForm.TheVariants as core_forms
+use Rattle.sx_shapes.specs.At.{place_of}
 use Rattle.sx_shapes.specs.Forms.{shape}
 use Rattle.sx_shapes.specs.Lists.{is_leaf, is_nil_atom, proper_elements}
+use Rattle.sx_shapes.specs.declared.shape.BindingSpec.{BindingSpec}
 use Rattle.sx_shapes.specs.declared.shape.Shape.{Shape}
 use Rattle.sx_shapes.specs.declared.shape.Shape.TheVariants as shapes
+use Rattle.sx_standing.specs.Patterns.{has_variables, first_outside, outside_fault, template_in, template_of}
 use Rattle.sx_standing.specs.Standing.{standing_of, role_of}
 use Rattle.sx_standing.specs.State.{State}
 use Rattle.sx_standing.specs.declared.standing.Role.{Role}
 use Rattle.sx_standing.specs.declared.standing.Role.TheVariants as role
 use Rattle.sx_standing.specs.declared.standing.Standing.{Standing}
 use Rattle.sx_standing.specs.declared.standing.Standing.TheVariants as standing
-use Rattle.sx_heads.specs.Plan.{reference, constant, target, assign_to, assign, call_of, application, in_sequence, is_star, shape_plan, with_shape, by_role, keyword_plan, by_head, list_plan, plan_of}
+use Rattle.sx_template.specs.Compile as templates
+use Rattle.sx_heads.specs.Plan.{done, reference, constant, assign, keywords_plan, is_letrec_syntax, operand_plan, call_of, application, in_sequence, is_star, shape_plan, with_shape, by_role, keyword_plan, by_head, list_plan, plan_of}
 use Rattle.sx_heads.specs.declared.plan.Plan.{Plan}
 use Rattle.sx_heads.specs.declared.plan.Plan.TheVariants as plans
 use Rattle.sx_expand_laws.specs.States.{Later}
 use Rattle.sx_expand_laws.proofs.Acts.{Gave, gave-after, gave-less, gave-if}
 use Rattle.sx_expand_laws.proofs.Grows.{grows-same}
-use Rattle.sx_expand_laws.proofs.Later.{later-self}
-use Rattle.sx_expand_laws.proofs.References.{Refers, Targets, marked, reference-is, target-is}
+use Rattle.sx_expand_laws.proofs.Later.{keeps-same, later-self}
+use Rattle.sx_expand_laws.proofs.References.{Refers, AssignsBy, marked, reference-is, assign-is}
 
--- a plan of forms alone
+-- a plan of forms alone, or a use
 abbrev pub IsOfForms : Plan → Type 0
 IsOfForms (plans.Done c) = ⊥
 IsOfForms (plans.Call operator operands) = Unit {0}
@@ -39,10 +45,19 @@ IsOfForms (plans.Sequence (x ∷ xs)) = Unit {0}
 IsOfForms (plans.Lambda ids forms) = Unit {0}
 IsOfForms (plans.CaseLambda cs) = Unit {0}
 IsOfForms (plans.Letrec star bs forms) = Unit {0}
+IsOfForms (plans.Matching subject literals cs span) = Unit {0}
+IsOfForms (plans.Keywords recursive bs []) = ⊥
+IsOfForms (plans.Keywords recursive bs (x ∷ xs)) = Unit {0}
+IsOfForms (plans.Use l) = Unit {0}
+IsOfForms (plans.SetUse l id) = ⊥
 
--- What holds of constants, references, assignments and plans of forms holds of each plan.
+-- the plan of a template's instance
+abbrev pub Instances : (Plan → State → Type 0) → Span → ℕ → State → Type 0
+Instances P place level s = (t operand : Tree) → Gave P (operand_plan place level t core_forms.Syntax operand s)
+
+-- What holds of constants, references, assignments, instances of templates and plans of forms holds of each plan.
 module _ (P : Plan → State → Type 0) (place : Span) (level : ℕ) (s : State) (quotes : (d : PlainDatum) → P (plans.Done (quoted d)) s) (refers : (id : Tree) → Gave P (reference place level id s))
-    (assigns : (t id value : Tree) → Gave P (assign place level t id value s)) (forms : (p : Plan) → IsOfForms p → P p s) where
+    (assigns : (t id value : Tree) → Gave P (assign place level t id value s)) (instances : Instances P place level s) (forms : (p : Plan) → IsOfForms p → P p s) where
   by-constant : (t : Tree) (is_nil : Bool) → Gave P (constant place t is_nil s)
   by-constant t true = tt
   by-constant t false = quotes (strip t)
@@ -59,6 +74,14 @@ module _ (P : Plan → State → Type 0) (place : Span) (level : ℕ) (s : State
   by-sequence t [] = tt
   by-sequence t (x ∷ xs) = forms (plans.Sequence (x ∷ xs)) tt
 
+  by-keywords : (t : Tree) (f : CoreForm) (bs : List BindingSpec) (xs : List Tree) → Gave P (keywords_plan place t f bs xs s)
+  by-keywords t f bs [] = tt
+  by-keywords t f bs (x ∷ xs) = forms (plans.Keywords (is_letrec_syntax f) bs (x ∷ xs)) tt
+
+  by-operand : (t : Tree) (f : CoreForm) (operand : Tree) → Gave P (operand_plan place level t f operand s)
+  by-operand t core_forms.Syntax operand = instances t operand
+  by-operand t _ operand = tt
+
   by-shape : (t : Tree) (f : CoreForm) (x : Shape) → Gave P (shape_plan place level t f x s)
   unfolding shape_plan
   by-shape t f (shapes.Quote datum) = quotes (strip datum)
@@ -71,9 +94,9 @@ module _ (P : Plan → State → Type 0) (place : Span) (level : ℕ) (s : State
   by-shape t f (shapes.Define id value) = tt
   by-shape t f (shapes.DefineProcedure id ids body) = tt
   by-shape t f (shapes.DefineSyntax id value) = tt
-  by-shape t f (shapes.LetSyntax bs body) = tt
-  by-shape t f (shapes.Operand operand) = tt
-  by-shape t f (shapes.SyntaxCase subject literals clauses) = tt
+  by-shape t f (shapes.LetSyntax bs body) = by-keywords t f bs body
+  by-shape t f (shapes.Operand operand) = by-operand t f operand
+  by-shape t f (shapes.SyntaxCase subject literals clauses) = forms (plans.Matching subject literals clauses (place_of t place)) tt
 
   by-shaped : (t : Tree) (f : CoreForm) (r : Result Shape Fault) → Gave P (with_shape place level t f r s)
   by-shaped t f (Err e) = tt
@@ -99,7 +122,8 @@ module _ (P : Plan → State → Type 0) (place : Span) (level : ℕ) (s : State
   by-standing t head rest standing.PatternVariable = by-application t head rest
   by-standing t head rest (standing.Primitive op) = by-application t head rest
   by-standing t head rest (standing.Core f) = by-keyword t head f
-  by-standing t head rest (standing.Keyword l) = tt
+  by-standing t head rest (standing.Keyword l) = forms (plans.Use l) tt
+  by-standing t head rest standing.Unbuilt = tt
 
   by-list : (t head rest : Tree) → Gave P (list_plan place level t head rest s)
   unfolding list_plan
@@ -111,17 +135,44 @@ module _ (P : Plan → State → Type 0) (place : Span) (level : ℕ) (s : State
   plan-cases (pair r a d) = by-list (pair r a d) a d
   plan-cases (vector r d) = tt
 
+-- a template leaves the state as it is
+pub record IsTemplate (place : Span) (level : ℕ) (t : Tree) (s : State) (x : PlainTemplate) (u : State) : Type 0 where
+  pub same : u ≡ s
+  pub compiled : templates.compiled (record { frames = s.frames; bindings = s.bindings; level = level; place = place }) t ≡ Ok x
+  pub in_scope : has_variables s.scope x ≡ true
+
+pub template-is : (place : Span) (level : ℕ) (t : Tree) (s : State) → Gave (IsTemplate place level t s) (template_of place level t s)
+unfolding template_of
+template-is place level t s = by (templates.compiled (record { frames = s.frames; bindings = s.bindings; level = level; place = place }) t) refl
+  where
+    outside : (o : Option Tree) → Gave (IsTemplate place level t s) (outside_fault place t o s)
+    outside None = tt
+    outside (Some id) = tt
+
+    by : (r : Result PlainTemplate Fault) → templates.compiled (record { frames = s.frames; bindings = s.bindings; level = level; place = place }) t ≡ r → Gave (IsTemplate place level t s) (template_in place t s r)
+    by (Err e) is = tt
+    by (Ok x) is = gave-if (IsTemplate place level t s) (has_variables s.scope x) _ _ (λ e. record { same = refl; compiled = is; in_scope = e }) (λ e. outside (first_outside s t))
+
 module _ (own : LibName) (place : Span) (level : ℕ) (s : State) (next : s.names.library ≡ own) where
   abbrev Moves : {A : Type 0} → A → State → Type 0
   Moves a t = Later own s t
 
   marked-later : (l : Label) → Later own s (marked l s)
-  marked-later l = record { here = refl; next = next; up = omega arith; same = λ f o. refl; grows = grows-same own s (marked l s) refl refl refl; scope = refl; tops = λ m v o b. b }
+  marked-later l = record { here = refl; next = next; up = omega arith; same = λ f o. refl; grows = grows-same own s (marked l s) refl refl refl (omega arith); scope = refl; tops = λ m v o b. b; keeps = keeps-same own s (marked l s) refl refl }
+
+  assigned-later : (id value : Tree) (st : Standing) (p : Plan) (u : State) → AssignsBy place level s id value st p u → Later own s u
+  assigned-later id value standing.Nothing p u k = elim k [ ]
+  assigned-later id value (standing.Variable v) p u k = subst (Later own s) (sym k.1.0) (marked-later v.label)
+  assigned-later id value standing.PatternVariable p u k = elim k [ ]
+  assigned-later id value (standing.Primitive op) p u k = elim k [ ]
+  assigned-later id value (standing.Core f) p u k = elim k [ ]
+  assigned-later id value (standing.Keyword l) p u k = subst (Later own s) (sym k.1) (later-self own s next)
+  assigned-later id value standing.Unbuilt p u k = elim k [ ]
 
   -- at most an assignment is noted
   pub plan-later : (t : Tree) → Gave (λ p u. Later own s u) (plan_of place level t s)
-  unfolding assign
   plan-later t = plan-cases Moves place level s (λ d. later-self own s next)
       (λ id. gave-less (Refers place level s (standing_of s id)) Moves (reference place level id s) (reference-is place level s id) (λ p u k. subst (Later own s) (sym k.0) (later-self own s next)))
-      (λ x id value. gave-after (Targets place level s (standing_of s id)) Moves (target place level x id s) (assign_to value) (target-is place level s x id) (λ l u k. subst (Later own s) (sym k.0) (marked-later l)))
+      (λ x id value. gave-less (AssignsBy place level s id value (standing_of s id)) Moves (assign place level x id value s) (assign-is place level s x id value) (λ p u k. assigned-later id value (standing_of s id) p u k))
+      (λ x operand. gave-after (IsTemplate place level operand s) Moves (template_of place level operand s) (λ y. done (instance y (place_of x place))) (template-is place level operand s) (λ y u k. subst (Later own s) (sym k.same) (later-self own s next)))
       (λ p h. later-self own s next) t

@@ -1,5 +1,5 @@
 -- The record of a library or program is good.
-use Rattle.std.proofs.Common.{◌≡◌, ℕ, ◌≤◌, Bool, true, List, [], ◌++◌, map, Some, Result, Ok, Err, refl, sym, ◌∙◌, ap, subst, inl, inr}
+use Rattle.std.proofs.Common.{◌≡◌, ℕ, ◌≤◌, Bool, true, List, [], ◌++◌, map, Some, Result, Ok, Err, refl, sym, ◌∙◌, ap, subst, arith, inl, inr, append-nil}
 use Rattle.std.specs.Prelude.{◌⊎◌}
 use Rattle.std.specs.List.{flat_map}
 use Rattle.sx_base.specs.Act.{after}
@@ -21,6 +21,7 @@ use Rattle.sx_core_laws.specs.Words.{Each, Among, Once}
 use Rattle.sx_core_laws.specs.Parts.{code_numbers}
 use Rattle.sx_core_laws.specs.Records.{defined, line_labels, run_binders}
 use Rattle.sx_core_laws.specs.Follows.{line_cores}
+use Rattle.sx_eval.specs.Codes.{Codes}
 use Rattle.sx_standing.specs.Own.{own_bindings}
 use Rattle.sx_standing.specs.Start.{started}
 use Rattle.sx_standing.specs.State.{State}
@@ -36,15 +37,17 @@ use Rattle.sx_expand_laws.specs.Good.{RecordsAreGood}
 use Rattle.sx_expand_laws.specs.Indices.{bound_index}
 use Rattle.sx_expand_laws.proofs.Indices.{indices-once}
 use Rattle.sx_expand_laws.specs.Ready.{IsReady}
-use Rattle.sx_expand_laws.specs.States.{IsOwn, IsForeign, IsTop, Sound, Grows, Adds}
+use Rattle.sx_expand_laws.specs.States.{IsOwn, IsForeign, IsTop, Sound, Keeps, Grows, Adds, Reach}
 use Rattle.sx_expand_laws.proofs.Acts.{Gave, gave-after, gave-less}
 use Rattle.sx_expand_laws.proofs.Fresh.{Made, FreshLabels, each-map, among-parts, among-first, among-second}
 use Rattle.sx_expand_laws.proofs.Grows.{grows-same, grows-then}
 use Rattle.sx_expand_laws.proofs.Shown.{IsShown, shown-later}
-use Rattle.sx_expand_laws.proofs.Later.{sound-grown}
+use Rattle.sx_expand_laws.proofs.Later.{keeps-same, keeps-then, sound-grown}
+use Rattle.sx_expand_laws.proofs.Scope.{adds-then, adds-same}
 use Rattle.sx_expand_laws.proofs.Top.{GoodRun, SameScope, AreShown, kinds-defined, lines-closed, lines-well-made, lines-codes, run-binders, same-exports}
 use Rattle.sx_expand_laws.proofs.Good.{InTurn}
-use Rattle.sx_expand_laws.proofs.Lines.{GoodLine, kind_labels}
+use Rattle.sx_expand_laws.proofs.LineLabels.{kind_labels}
+use Rattle.sx_expand_laws.proofs.Lines.{GoodLine}
 use Rattle.sx_expand_laws.proofs.Items.{wait_kinds, Took, Takes}
 use Rattle.sx_expand_laws.proofs.Meanings.{reach-more, reach-added}
 use Rattle.sx_expand_laws.proofs.Changes.{first-takes}
@@ -59,11 +62,12 @@ pub record Runs (own : LibName) (given : List Label) (start : State) (r : LibRec
   pub middle : ℕ
   pub last : ℕ
   pub name : r.name ≡ own
-  pub run : GoodRun own (given ++ defined r) first middle last r.run
   pub references : r.refs ≡ refs_of r.name r.run
   pub ended : State
+  pub run : GoodRun own ended.bindings (given ++ defined r) first middle last r.run
   pub next : ended.names.library ≡ own
   pub grows : Grows own start ended
+  pub keeps : Keeps own start ended
   pub bindings : r.bindings ≡ own_bindings ended
   pub frames : r.frames ≡ rows_in r.name ended.frames
   pub exports : AreShown ended.frames r.exports
@@ -80,6 +84,7 @@ module _ (own : LibName) (given : List Label) (go : Inside) (safe : Safe own giv
     pub next : s.names.library ≡ own
     pub took : Took own Top start d s
     pub grows : Grows own start s
+    pub keeps : Keeps own start s
 
   -- the exports leave what was taken
   took-same : (d : Taken) (s t : State) → SameScope s t → Done d s → Done d t
@@ -89,26 +94,38 @@ module _ (own : LibName) (given : List Label) (go : Inside) (safe : Safe own giv
     took = record {
       labels = subst (λ (n : Named). FreshLabels own start.names.number n.number (kind_labels (wait_kinds d.waiting))) (sym h.names) k.took.labels;
       up = subst (λ (n : Named). start.names.number ≤ n.number) (sym h.names) k.took.up;
-      adds = record {
-        more = k.took.adds.more;
-        scope = h.scope ∙ k.took.adds.scope;
-        new = k.took.adds.new;
-        tops = λ l v o b. k.took.adds.tops l v o (ap (λ bs. bound_to bs l) (sym h.bindings) ∙ b.0, b.1);
-      };
+      adds = subst (λ (xs : List Label). Adds own Top xs [] start t) (append-nil (kind_labels (wait_kinds d.waiting))) (adds-then own Top (kind_labels (wait_kinds d.waiting)) [] [] [] start s t k.took.adds (adds-same own Top s t h.scope grows.bound tops grows.numbered));
       value = k.took.value;
     };
-    grows = grows-then own start s t k.grows (grows-same own s t h.frames h.bindings h.index);
+    grows = grows-then own start s t k.grows grows;
+    keeps = keeps-then own start s t k.took.up (let e = ap (λ (n : Named). n.number) h.names in omega (arith, e)) k.keeps (keeps-same own s t h.bindings h.keywords);
   }
+    where
+      grows : Grows own s t
+      grows = grows-same own s t h.frames h.bindings h.index (let e = ap (λ (n : Named). n.number) h.names in omega (arith, e))
+
+      tops : (l : Label) (v : VarInfo) → IsOwn own l.0 → IsTop t l v → IsTop s l v
+      tops l v o b = (ap (λ bs. bound_to bs l) (sym h.bindings) ∙ b.0, b.1)
 
   no-top : (l : Label) (v : VarInfo) → IsOwn own l.0 → IsTop start l v → ⊥
   no-top l v o b = none l (binding.Variable v) b.0 o
 
+  -- nothing was in scope
+  blank-reach : Reach own given [] 0 start given
+  blank-reach = record {
+    scope = subst (Each (Among given)) (sym blank) tt;
+    top = λ l v o b. absurd (no-top l v o b);
+    foreign = λ l a. a;
+    depths = λ l at depth a p. absurd (subst (λ (xs : List Label). Among xs l) blank a);
+    patterns = tt;
+  }
+
   -- the second pass starts with the variables of the top
-  starts-top : (labels : List Label) (d : Taken) (s : State) → Done d s → Adds own Top labels start s → Starts own given 0 (given ++ labels) s
+  starts-top : (labels : List Label) (d : Taken) (s : State) → Done d s → Adds own Top labels [] start s → Starts own given [] 0 (given ++ labels) s
   starts-top labels d s h adds = (
-    sound-grown own given start s h.here h.next h.grows sound,
-    reach-more own given 0 s (labels ++ given) (given ++ labels) (λ l a. turned l (among-parts labels given l a))
-        (reach-added own given 0 Top labels given start s adds (record { scope = subst (Each (Among given)) (sym blank) tt; top = λ l v o b. absurd (no-top l v o b); foreign = λ l a. a })),
+    sound-grown own given start s h.here h.next h.grows adds.bound sound,
+    reach-more own given [] 0 s (labels ++ given) (given ++ labels) (λ l a. turned l (among-parts labels given l a))
+        (reach-added own given [] 0 Top labels given [] start s adds h.grows tt sound blank-reach),
   )
     where
       turned : (l : Label) → Among labels l ⊎ Among given l → Among (given ++ labels) l
@@ -123,8 +140,8 @@ module _ (own : LibName) (given : List Label) (go : Inside) (safe : Safe own giv
   gives-record at es d t h shown =
       let labels = kind_labels (wait_kinds d.waiting) in
       let took = h.took in
-      gave-after (GivesLines own given go safe 0 (given ++ labels) d.waiting t) (λ r v. Runs own given start r) (finish_all go 0 d.waiting t) (λ lines. give_record at es lines)
-      (gives-lines own given go safe 0 (given ++ labels) d.waiting t (starts-top labels d t h took.adds))
+      gave-after (GivesLines own given go safe 0 [] (given ++ labels) d.waiting t) (λ r v. Runs own given start r) (finish_all go 0 d.waiting t) (λ lines. give_record at es lines)
+      (gives-lines own given go safe 0 [] (given ++ labels) d.waiting t (starts-top labels d t h took.adds))
       (λ xs v k.
       let is : labels ≡ flat_map line_labels xs = sym (kinds-defined xs ∙ ap kind_labels k.kinds) in
       record {
@@ -134,12 +151,13 @@ module _ (own : LibName) (given : List Label) (go : Inside) (safe : Safe own giv
         name = k.later.here ∙ h.here ∙ sound.here;
         run = record {
           labels = subst (FreshLabels own start.names.number t.names.number) is took.labels;
-          lines = subst (λ (ls : List Label). InTurn (GoodLine own (given ++ ls)) t.names.number v.names.number xs) is k.good;
+          lines = subst (λ (ls : List Label). InTurn (GoodLine own v.bindings [] (given ++ ls)) t.names.number v.names.number xs) is k.good;
         };
         references = refl;
         ended = v;
         next = k.later.next;
         grows = grows-then own start t v h.grows k.later.grows;
+        keeps = keeps-then own start t v took.up k.later.up h.keeps k.later.keeps;
         bindings = refl;
         frames = refl;
         exports = each-map (λ (e : List ℕ × Label). IsShown t.frames e.1) (λ (e : List ℕ × Label). IsShown v.frames e.1) es shown (λ e j. shown-later own t v e.1 k.later.grows j);
@@ -158,38 +176,38 @@ module _ (own : LibName) (given : List Label) (go : Inside) (safe : Safe own giv
       gave-after Done (λ r v. Runs own given start r) (splice go (body_at at start.library) 0 begun (map (stamp at.frame) forms) start) (finished go at es)
       (gave-less (Takes own at.frame Top start start) Done (splice go (body_at at start.library) 0 begun (map (stamp at.frame) forms) start)
       (first-takes own go safe.moves (body_at at start.library) 0 (map (stamp at.frame) forms) start sound.next (λ e. refl))
-      (λ d t k. record { here = k.later.here; next = k.later.next; took = k.took; grows = k.later.grows }))
+      (λ d t k. record { here = k.later.here; next = k.later.next; took = k.took; grows = k.later.grows; keeps = k.keeps }))
       (λ d t k. gives-finished at es d t k)
 
 in-record : (P : LibRecord → Type 0) (x : Result (LibRecord × State) Fault) (r : LibRecord) → Gave (λ y v. P y) x → record_in x ≡ Ok r → P r
 in-record P (Ok p) r h e = let is : p.0 ≡ r = cc in subst P is h
 in-record P (Err f) r h e = absurd (cc)
 
-pub record-runs : (own : LibName) (path : List ℕ) (records : List LibRecord) (imports : List (List ℕ × Label)) (version : List ℕ) (place : Span) (exports : List (List ℕ × Tree)) (forms : List Tree) (r : LibRecord)
-    → IsReady own records → library_record (ready own path records imports) version place exports forms ≡ Ok r → Runs own (flat_map defined records) (started own records imports) r
-record-runs own path records imports version place exports forms r h e =
+pub record-runs : (own : LibName) (path : List ℕ) (records : List LibRecord) (imports : List (List ℕ × Label)) (version : List ℕ) (place : Span) (exports : List (List ℕ × Tree)) (forms : List Tree) (codes : Codes) (r : LibRecord)
+    → IsReady own records → library_record (ready own path records imports codes) records version place exports forms ≡ Ok r → Runs own (flat_map defined records) (started own records imports codes) r
+record-runs own path records imports version place exports forms codes r h e =
     let given = flat_map defined records in
-    let start = started own records imports in
-    let at = body_of (ready own path records imports) version place in
-    in-record (Runs own given start) (top (inside 602) at exports forms start) r
-    (gives-top own given (inside 602) (inside-safe own given 602) start (started-sound own records imports h) (started-scope own records imports) (started-foreign own records imports h) at exports forms) e
+    let start = started own records imports codes in
+    let at = body_of (ready own path records imports codes) version place in
+    in-record (Runs own given start) (top (inside records 602) at exports forms start) r
+    (gives-top own given (inside records 602) (inside-safe own given records 602) start (started-sound own records imports codes h) (started-scope own records imports codes) (started-foreign own records imports codes h) at exports forms) e
 
 pub records-good : RecordsAreGood
-records-good own path records imports version place exports forms r h e =
+records-good own path records imports version place exports forms codes r h e =
     let given = flat_map defined records in
-    let runs = record-runs own path records imports version place exports forms r h e in
+    let runs = record-runs own path records imports version place exports forms codes r h e in
     let ls = given ++ defined r in
-    let all = run-binders own ls runs.first runs.middle runs.last r.run runs.run in
-    let codes = lines-codes own ls runs.middle runs.last r.run runs.run.lines in (
+    let all = run-binders own runs.ended.bindings ls runs.first runs.middle runs.last r.run runs.run in
+    let numbers = lines-codes own runs.ended.bindings ls runs.middle runs.last r.run runs.run.lines in (
       record {
-        closed = lines-closed own ls runs.middle runs.last r.run runs.run.lines;
+        closed = lines-closed own runs.ended.bindings ls runs.middle runs.last r.run runs.run.lines;
         bound_once = all.0;
         bound_here = each-map (λ l. l.0.library ≡ own) (λ l. l.0.library ≡ r.name) (run_binders r) all.1 (λ l k. k ∙ sym runs.name);
         indexed_once = subst (λ bs. Once (flat_map bound_index bs)) (sym runs.bindings)
-            (indices-once own runs.ended runs.next (runs.grows.indices (started-indices own records imports h)));
-        numbered_once = codes.once;
-        numbered_here = each-map (λ n. Made own runs.middle runs.last n.0) (λ n. n.0.library ≡ r.name) (flat_map code_numbers (line_cores r)) codes.made (λ n k. k.library ∙ sym runs.name);
-        well_made = lines-well-made own ls runs.middle runs.last r.run runs.run.lines;
+            (indices-once own runs.ended runs.next (runs.grows.indices (started-indices own records imports codes h)));
+        numbered_once = numbers.once;
+        numbered_here = each-map (λ n. Made own runs.middle runs.last n.0) (λ n. n.0.library ≡ r.name) (flat_map code_numbers (line_cores r)) numbers.made (λ n k. k.library ∙ sym runs.name);
+        well_made = lines-well-made own runs.ended.bindings ls runs.middle runs.last r.run runs.run.lines;
         references = runs.references;
       },
       runs.name,

@@ -1,5 +1,5 @@
 -- What references and the targets of assignments are.
-use Rattle.std.proofs.Common.{◌≡◌, ℕ, true, false, refl, inl, inr}
+use Rattle.std.proofs.Common.{◌≡◌, ℕ, true, false, refl, ◌∙◌, ap, inl, inr}
 use Rattle.std.specs.Prelude.{◌⊎◌, nat_eq}
 use Rattle.std.specs.Cmp.{unsigned_Decides}
 use Rattle.sx_base.specs.declared.name.Label.{Label}
@@ -13,10 +13,10 @@ use Rattle.sx_standing.specs.State.{State}
 use Rattle.sx_standing.specs.declared.standing.Standing.{Standing}
 use Rattle.sx_standing.specs.declared.standing.Standing.TheVariants as standing
 use Rattle.sx_standing.specs.declared.standing.Variable.{Variable}
-use Rattle.sx_heads.specs.Plan.{variable_at, refer, reference, target_variable, target_by, target}
+use Rattle.sx_heads.specs.Plan.{variable_at, refer, reference, target_variable, target_by, assign_to, assign_by, assign}
 use Rattle.sx_heads.specs.declared.plan.Plan.{Plan}
 use Rattle.sx_heads.specs.declared.plan.Plan.TheVariants as plans
-use Rattle.sx_expand_laws.proofs.Acts.{Gave, gave-if}
+use Rattle.sx_expand_laws.proofs.Acts.{Gave, gave-after, gave-if}
 
 -- an expression of this level may refer to the variable: to one of the library in scope, of this level, or to one of the top of another
 abbrev pub MayRefer : ℕ → State → Variable → Type 0
@@ -29,7 +29,8 @@ RefersBy level s (standing.Variable v) p = (p ≡ plans.Done (variable v.label))
 RefersBy level s standing.PatternVariable p = ⊥
 RefersBy level s (standing.Primitive op) p = p ≡ plans.Done (primitive op)
 RefersBy level s (standing.Core f) p = ⊥
-RefersBy level s (standing.Keyword l) p = ⊥
+RefersBy level s (standing.Keyword l) p = p ≡ plans.Use l
+RefersBy level s standing.Unbuilt p = ⊥
 
 abbrev pub TargetBy : ℕ → State → Standing → Label → Type 0
 TargetBy level s standing.Nothing l = ⊥
@@ -38,6 +39,7 @@ TargetBy level s standing.PatternVariable l = ⊥
 TargetBy level s (standing.Primitive op) l = ⊥
 TargetBy level s (standing.Core f) l = ⊥
 TargetBy level s (standing.Keyword m) l = ⊥
+TargetBy level s standing.Unbuilt l = ⊥
 
 abbrev pub marked : Label → State → State
 marked l s = record s { assigned = with_label s.assigned l }
@@ -65,7 +67,8 @@ module _ (place : Span) (level : ℕ) (s : State) where
   refer-is id standing.PatternVariable = tt
   refer-is id (standing.Primitive op) = (refl, refl)
   refer-is id (standing.Core f) = tt
-  refer-is id (standing.Keyword l) = tt
+  refer-is id (standing.Keyword l) = (refl, refl)
+  refer-is id standing.Unbuilt = tt
 
   pub reference-is : (id : Tree) → Gave (Refers (standing_of s id)) (reference place level id s)
   unfolding reference
@@ -81,14 +84,36 @@ module _ (place : Span) (level : ℕ) (s : State) where
       (λ e. tt))
       (λ not-own. gave-if (Targets (standing.Variable v)) v.top _ _ (λ top. gave-if (Targets (standing.Variable v)) (has_label s.exports v.label) _ _ (λ e. tt) (λ e. tt)) (λ e. tt))
 
-  target_by-is : (t id : Tree) (st : Standing) → Gave (Targets st) (target_by place level t id st s)
+  pub target_by-is : (t id : Tree) (st : Standing) → Gave (Targets st) (target_by place level t id st s)
   target_by-is t id standing.Nothing = tt
   target_by-is t id (standing.Variable v) = target_variable-is t id v
   target_by-is t id standing.PatternVariable = tt
   target_by-is t id (standing.Primitive op) = tt
   target_by-is t id (standing.Core f) = tt
   target_by-is t id (standing.Keyword l) = tt
+  target_by-is t id standing.Unbuilt = tt
 
-  pub target-is : (t id : Tree) → Gave (Targets (standing_of s id)) (target place level t id s)
-  unfolding target
-  target-is t id = target_by-is t id (standing_of s id)
+  -- the plan of an assignment
+  abbrev pub AssignsBy : Tree → Tree → Standing → Plan → State → Type 0
+  AssignsBy id value standing.Nothing p t = ⊥
+  AssignsBy id value (standing.Variable v) p t = (p ≡ plans.Assignment v.label value) × ((t ≡ marked v.label s) × MayRefer level s v)
+  AssignsBy id value standing.PatternVariable p t = ⊥
+  AssignsBy id value (standing.Primitive op) p t = ⊥
+  AssignsBy id value (standing.Core f) p t = ⊥
+  AssignsBy id value (standing.Keyword l) p t = (p ≡ plans.SetUse l id) × (t ≡ s)
+  AssignsBy id value standing.Unbuilt p t = ⊥
+
+  assign_by-is : (t id value : Tree) (st : Standing) → Gave (AssignsBy id value st) (assign_by place level t id value st s)
+  assign_by-is t id value standing.Nothing = tt
+  assign_by-is t id value (standing.Variable v) =
+      gave-after (Targets (standing.Variable v)) (AssignsBy id value (standing.Variable v)) (target_variable place level t id v s) (assign_to value) (target_variable-is t id v)
+      (λ l u k. (ap (λ m. plans.Assignment m value) k.1.0, (k.0 ∙ ap (λ m. marked m s) k.1.0, k.1.1)))
+  assign_by-is t id value standing.PatternVariable = tt
+  assign_by-is t id value (standing.Primitive op) = tt
+  assign_by-is t id value (standing.Core f) = tt
+  assign_by-is t id value (standing.Keyword l) = (refl, refl)
+  assign_by-is t id value standing.Unbuilt = tt
+
+  pub assign-is : (t id value : Tree) → Gave (AssignsBy id value (standing_of s id)) (assign place level t id value s)
+  unfolding assign
+  assign-is t id value = assign_by-is t id value (standing_of s id)

@@ -1,5 +1,5 @@
 -- Records that serve those behind them.
-use Rattle.std.proofs.Common.{◌≡◌, ℕ, zero, suc, Bool, true, false, List, [], ◌∷◌, ◌++◌, map, Option, None, Some, refl, sym, ◌∙◌, ap, subst, inl, inr, if◌then◌else◌}
+use Rattle.std.proofs.Common.{◌≡◌, ℕ, zero, suc, Bool, true, false, List, [], ◌∷◌, ◌++◌, map, Option, None, Some, ◌<◌, refl, sym, ◌∙◌, subst, inl, inr, if◌then◌else◌}
 use Rattle.std.specs.Prelude.{◌⊎◌}
 use Rattle.std.specs.List.{flat_map}
 use Rattle.std.proofs.lemmas.Grind.{flat_map-append}
@@ -12,7 +12,6 @@ use Rattle.sx_frames.specs.Rows.{Row}
 use Rattle.sx_frames.specs.Scope.{rows_at}
 use Rattle.sx_frames.proofs.ListedLaws.{ordered_rows_in}
 use Rattle.sx_core.specs.Bindings.{bound_to}
-use Rattle.sx_core.specs.Labels.{has_label}
 use Rattle.sx_core.specs.declared.binding.Binding.{Binding}
 use Rattle.sx_core.specs.declared.binding.Binding.TheVariants as binding
 use Rattle.sx_core.specs.declared.binding.VarInfo.{VarInfo}
@@ -21,13 +20,15 @@ use Rattle.sx_core_laws.specs.Words.{Each, Among}
 use Rattle.sx_core_laws.specs.Records.{defined}
 use Rattle.sx_core_laws.specs.Follows.{IsOwn, IsRecorded, IsKnown, Follows, names_of, bound_labels, row_labels, export_labels, top_label}
 use Rattle.sx_core_laws.specs.Following.{AllFollow}
-use Rattle.sx_standing.specs.Own.{with_assigned, row_at, own_label, own_row, own_below, own_bindings}
+use Rattle.sx_core.specs.Core.{PlainCore}
+use Rattle.sx_eval.specs.Codes.{Codes}
+use Rattle.sx_standing.specs.Own.{completed, row_at, own_label, own_row, own_below, own_bindings}
 use Rattle.sx_standing.specs.Start.{started}
 use Rattle.sx_standing.specs.State.{State}
 use Rattle.sx_expand_laws.specs.Ready.{IsReady}
 use Rattle.sx_expand_laws.specs.Serves.{IsThere, IsLabelThere, Serves, AllServe}
 use Rattle.sx_expand_laws.specs.Serving.{FollowersServe, RecordsServe}
-use Rattle.sx_expand_laws.specs.States.{IsVariable}
+use Rattle.sx_expand_laws.specs.States.{IsAdded, IsKept, IsMacro}
 use Rattle.sx_expand_laws.proofs.Fresh.{each-at, each-of, each-map, each-append, among-parts, among-first, among-second}
 use Rattle.sx_expand_laws.proofs.Shown.{IsShown, row-shown}
 use Rattle.sx_expand_laws.proofs.Started.{names-append, started-foreign, started-there}
@@ -92,14 +93,14 @@ ordered-own k n [] h = tt
 ordered-own k n (r ∷ rs) h = (h.0, ordered-own k r.frame.0.number rs h.2)
 
 -- what holds of each label of the library and what it is bound to
-module _ (v : State) (P : Label × Binding → Type 0) (holds : (n : ℕ) (a : Bool) (b : Binding) → bound_to v.bindings (own_label v n) ≡ Some b → P (own_label v n, with_assigned a b)) where
-  row-holds : (n : ℕ) (a : Bool) (o : Option Binding) → bound_to v.bindings (own_label v n) ≡ o → Each P (row_at a (own_label v n) o)
-  row-holds n a None e = tt
-  row-holds n a (Some b) e = (holds n a b e, tt)
+module _ (v : State) (P : Label × Binding → Type 0) (holds : (n : ℕ) (b : Binding) → bound_to v.bindings (own_label v n) ≡ Some b → P (own_label v n, completed v (own_label v n) b)) where
+  row-holds : (n : ℕ) (o : Option Binding) → bound_to v.bindings (own_label v n) ≡ o → Each P (row_at v (own_label v n) o)
+  row-holds n None e = tt
+  row-holds n (Some b) e = (holds n b e, tt)
 
   below-holds : (n : ℕ) → Each P (own_below v n)
   below-holds zero = tt
-  below-holds (suc n) = each-append P (own_below v n) (own_row v n) (below-holds n) (row-holds n (has_label v.assigned (own_label v n)) (bound_to v.bindings (own_label v n)) refl)
+  below-holds (suc n) = each-append P (own_below v n) (own_row v n) (below-holds n) (row-holds n (bound_to v.bindings (own_label v n)) refl)
 
   pub bindings-hold : Each P (own_bindings v)
   unfolding own_bindings
@@ -107,29 +108,47 @@ module _ (v : State) (P : Label × Binding → Type 0) (holds : (n : ℕ) (a : B
 
 -- The record that expansion gives.
 
-module _ (own : LibName) (records : List LibRecord) (imports : List (List ℕ × Label)) (r : LibRecord) (ready : IsReady own records) (runs : Runs own (flat_map defined records) (started own records imports) r) where
+module _ (own : LibName) (records : List LibRecord) (imports : List (List ℕ × Label)) (codes : Codes) (r : LibRecord) (ready : IsReady own records) (runs : Runs own (flat_map defined records) (started own records imports codes) r) where
+  abbrev l : ℕ → Label
+  l n = own_label runs.ended n
+
   -- what its labels are bound to
-  own-variable : (n : ℕ) (b : Binding) → bound_to runs.ended.bindings (own_label runs.ended n) ≡ Some b → IsVariable b
-  own-variable n b e = by (runs.grows.bindings (own_label runs.ended n) b e)
+  own-added : (n : ℕ) (b : Binding) → bound_to runs.ended.bindings (l n) ≡ Some b → IsAdded b
+  own-added n b e = by (runs.grows.bindings (l n) b e)
     where
-      by : (bound_to (started own records imports).bindings (own_label runs.ended n) ≡ Some b) ⊎ (((own_label runs.ended n).0.library ≡ own) × IsVariable b) → IsVariable b
-      by (inl k) = absurd (started-foreign own records imports ready (own_label runs.ended n) b k runs.next)
+      by : (bound_to (started own records imports codes).bindings (l n) ≡ Some b) ⊎ (((l n).0.library ≡ own) × IsAdded b) → IsAdded b
+      by (inl k) = absurd (started-foreign own records imports codes ready (l n) b k runs.next)
       by (inr k) = k.1
 
-  recorded : (n : ℕ) (a : Bool) (b : Binding) → bound_to runs.ended.bindings (own_label runs.ended n) ≡ Some b → IsRecorded (own_label runs.ended n, with_assigned a b)
-  recorded n a b e = let k = own-variable n b e in subst (λ (x : Binding). IsRecorded (own_label runs.ended n, with_assigned a x)) (sym k.1) tt
+  -- each keyword of the library has its expression
+  pub keyword-kept : (n level : ℕ) (e : Option PlainCore) → IsMacro runs.ended (l n) level e → IsKept runs.ended (l n)
+  keyword-kept n level e k = by (runs.keeps.keywords (l n) level e runs.next k)
+    where
+      by : IsMacro (started own records imports codes) (l n) level e ⊎ (IsKept runs.ended (l n) × ((l n).0.number < runs.ended.names.number)) → IsKept runs.ended (l n)
+      by (inl i) = absurd (started-foreign own records imports codes ready (l n) (binding.Macro level e) i runs.next)
+      by (inr p) = p.0
 
-  top-defined : (n : ℕ) (v : VarInfo) → bound_to runs.ended.bindings (own_label runs.ended n) ≡ Some (binding.Variable v) → Each (Among (defined r)) (if v.top then own_label runs.ended n ∷ [] else [])
+  recorded : (n : ℕ) (b : Binding) → bound_to runs.ended.bindings (l n) ≡ Some b → IsRecorded (l n, completed runs.ended (l n) b)
+  recorded n (binding.Variable v) e = tt
+  recorded n (binding.PatternVariable level depth) e = tt
+  recorded n (binding.Macro level None) e = let k = keyword-kept n level None e in subst (λ (o : Option PlainCore). IsRecorded (l n, binding.Macro level o)) (sym k.1) tt
+  recorded n (binding.Macro level (Some c)) e = elim (own-added n (binding.Macro level (Some c)) e) [ ]
+  recorded n (binding.Core f) e = elim (own-added n (binding.Core f) e) [ ]
+  recorded n (binding.Primitive o) e = elim (own-added n (binding.Primitive o) e) [ ]
+
+  top-defined : (n : ℕ) (v : VarInfo) → bound_to runs.ended.bindings (l n) ≡ Some (binding.Variable v) → Each (Among (defined r)) (if v.top then l n ∷ [] else [])
   top-defined n v e = by v.top refl
     where
-      by : (b : Bool) → v.top ≡ b → Each (Among (defined r)) (if b then own_label runs.ended n ∷ [] else [])
-      by true top = (runs.tops (own_label runs.ended n) v runs.next (e, top), tt)
+      by : (b : Bool) → v.top ≡ b → Each (Among (defined r)) (if b then l n ∷ [] else [])
+      by true top = (runs.tops (l n) v runs.next (e, top), tt)
       by false top = tt
 
-  told-top : (n : ℕ) (a : Bool) (b : Binding) → bound_to runs.ended.bindings (own_label runs.ended n) ≡ Some b → Each (Among (defined r)) (top_label (own_label runs.ended n, with_assigned a b))
-  told-top n a b e =
-      let k = own-variable n b e in
-      subst (λ (x : Binding). Each (Among (defined r)) (top_label (own_label runs.ended n, with_assigned a x))) (sym k.1) (top-defined n k.0 (e ∙ ap Some k.1))
+  told-top : (n : ℕ) (b : Binding) → bound_to runs.ended.bindings (l n) ≡ Some b → Each (Among (defined r)) (top_label (l n, completed runs.ended (l n) b))
+  told-top n (binding.Variable v) e = top-defined n v e
+  told-top n (binding.PatternVariable level depth) e = tt
+  told-top n (binding.Macro level expression) e = tt
+  told-top n (binding.Core f) e = tt
+  told-top n (binding.Primitive o) e = tt
 
   frames-own : Each (λ (f : FrameRow). IsOwn r f.frame.0) r.frames
   frames-own = subst (Each (λ (f : FrameRow). IsOwn r f.frame.0)) (sym runs.frames) (ordered-own r.name 0 (rows_in r.name runs.ended.frames) (ordered_rows_in r.name runs.ended.frames))
@@ -138,8 +157,8 @@ module _ (own : LibName) (records : List LibRecord) (imports : List (List ℕ ×
     row-there : (f : FrameNo) (x : Row) → Among (rows_at f runs.ended.frames) x → IsLabelThere records r x.label
     row-there f x a = by (runs.grows.rows f x a)
       where
-        by : Among (rows_at f (started own records imports).frames) x ⊎ (x.label.0.library ≡ own) → IsLabelThere records r x.label
-        by (inl b) = inr (each-at (λ (y : Row). IsThere records y.label.0.library) (rows_at f (started own records imports).frames) x (started-there own records imports ready.earlier there f) b)
+        by : Among (rows_at f (started own records imports codes).frames) x ⊎ (x.label.0.library ≡ own) → IsLabelThere records r x.label
+        by (inl b) = inr (each-at (λ (y : Row). IsThere records y.label.0.library) (rows_at f (started own records imports codes).frames) x (started-there own records imports codes ready.earlier there f) b)
         by (inr mine) = inl (mine ∙ sym runs.name)
 
     shown-there : (l : Label) → IsShown runs.ended.frames l → IsLabelThere records r l
@@ -154,7 +173,7 @@ module _ (own : LibName) (records : List LibRecord) (imports : List (List ℕ ×
     pub record-serves : Serves records r
     record-serves = record {
       own_bindings = each-mapped (λ (l : Label). IsOwn r l.0) (λ (b : Label × Binding). b.0) r.bindings
-          (subst (Each (λ (b : Label × Binding). IsOwn r b.0.0)) (sym runs.bindings) (bindings-hold runs.ended (λ (b : Label × Binding). IsOwn r b.0.0) (λ n a b e. runs.next ∙ sym runs.name)));
+          (subst (Each (λ (b : Label × Binding). IsOwn r b.0.0)) (sym runs.bindings) (bindings-hold runs.ended (λ (b : Label × Binding). IsOwn r b.0.0) (λ n b e. runs.next ∙ sym runs.name)));
       kinds = subst (Each IsRecorded) (sym runs.bindings) (bindings-hold runs.ended IsRecorded recorded);
       tops_defined = each-flat (Among (defined r)) top_label r.bindings
           (subst (Each (λ (b : Label × Binding). Each (Among (defined r)) (top_label b))) (sym runs.bindings) (bindings-hold runs.ended (λ (b : Label × Binding). Each (Among (defined r)) (top_label b)) told-top));
@@ -165,4 +184,4 @@ module _ (own : LibName) (records : List LibRecord) (imports : List (List ℕ ×
     }
 
 pub records-serve : RecordsServe
-records-serve own path records imports version place exports forms r h there e = record-serves own records imports r h (record-runs own path records imports version place exports forms r h e) there
+records-serve own path records imports version place exports forms codes r h there e = record-serves own records imports codes r h (record-runs own path records imports version place exports forms codes r h e) there

@@ -19,6 +19,7 @@ use Rattle.sx_core.specs.declared.record.LibRecord.{LibRecord}
 use Rattle.sx_core_laws.specs.Words.{Each, Among}
 use Rattle.sx_core_laws.specs.Records.{defined}
 use Rattle.sx_core_laws.specs.Follows.{IsOwn, IsRecorded, names_of, bound_labels, top_label, tops}
+use Rattle.sx_eval.specs.Codes.{Codes}
 use Rattle.sx_standing.specs.Start.{bindings_of, rows_of, first_frame, import_row, started}
 use Rattle.sx_expand_laws.specs.Ready.{IsReady}
 use Rattle.sx_expand_laws.specs.Serves.{IsThere, IsLabelThere, AllServe}
@@ -84,10 +85,10 @@ module _ (own : LibName) (given : List Label) where
 -- What the library begins with.
 
 -- what is bound is told
-started-told : (own : LibName) (records : List LibRecord) (imports : List (List ℕ × Label)) → IsReady own records
-    → (l : Label) (b : Binding) → bound_to (started own records imports).bindings l ≡ Some b → Told own (flat_map defined records) (l, b)
+started-told : (own : LibName) (records : List LibRecord) (imports : List (List ℕ × Label)) (codes : Codes) → IsReady own records
+    → (l : Label) (b : Binding) → bound_to (started own records imports codes).bindings l ≡ Some b → Told own (flat_map defined records) (l, b)
 unfolding started
-started-told own records imports h l b e =
+started-told own records imports codes h l b e =
     let given = flat_map defined records in
     bound-told own given (bindings_of records) l b (bindings-told own given [] records h.earlier h.new (λ m a. a)) e
 
@@ -98,28 +99,30 @@ told-foreign own given l (binding.Macro level expression) h = h
 told-foreign own given l (binding.Core form) h = elim h [ ]
 told-foreign own given l (binding.Primitive o) h = elim h [ ]
 
-pub started-foreign : (own : LibName) (records : List LibRecord) (imports : List (List ℕ × Label)) → IsReady own records
-    → (l : Label) (b : Binding) → bound_to (started own records imports).bindings l ≡ Some b → IsForeign own l.0
-started-foreign own records imports h l b e = told-foreign own (flat_map defined records) l b (started-told own records imports h l b e)
+pub started-foreign : (own : LibName) (records : List LibRecord) (imports : List (List ℕ × Label)) (codes : Codes) → IsReady own records
+    → (l : Label) (b : Binding) → bound_to (started own records imports codes).bindings l ≡ Some b → IsForeign own l.0
+started-foreign own records imports codes h l b e = told-foreign own (flat_map defined records) l b (started-told own records imports codes h l b e)
 
-pub started-sound : (own : LibName) (records : List LibRecord) (imports : List (List ℕ × Label)) → IsReady own records → Sound own (flat_map defined records) (started own records imports)
+pub started-sound : (own : LibName) (records : List LibRecord) (imports : List (List ℕ × Label)) (codes : Codes) → IsReady own records → Sound own (flat_map defined records) (started own records imports codes)
 unfolding started
-started-sound own records imports h = record {
+started-sound own records imports codes h = record {
   here = refl;
   next = refl;
-  defined = λ l v o e. (started-told own records imports h l (binding.Variable v) e).1;
-  primitives = λ l o e. absurd (started-told own records imports h l (binding.Primitive o) e);
+  defined = λ l v o e. (started-told own records imports codes h l (binding.Variable v) e).1;
+  primitives = λ l o e. absurd (started-told own records imports codes h l (binding.Primitive o) e);
+  in_scope = tt;
+  numbered = λ l b o e. absurd (started-foreign own records imports codes h l b e o);
 }
 
-pub started-scope : (own : LibName) (records : List LibRecord) (imports : List (List ℕ × Label)) → (started own records imports).scope ≡ []
+pub started-scope : (own : LibName) (records : List LibRecord) (imports : List (List ℕ × Label)) (codes : Codes) → (started own records imports codes).scope ≡ []
 unfolding started
-started-scope own records imports = refl
+started-scope own records imports codes = refl
 
 -- there is no variable of the library yet
-pub started-indices : (own : LibName) (records : List LibRecord) (imports : List (List ℕ × Label)) → IsReady own records → IndicesApart own (started own records imports)
-started-indices own records imports h = record {
-  below = λ l v i o e k. absurd (started-foreign own records imports h l (binding.Variable v) e o);
-  apart = λ l m v w i o q e d k r. absurd (started-foreign own records imports h l (binding.Variable v) e o);
+pub started-indices : (own : LibName) (records : List LibRecord) (imports : List (List ℕ × Label)) (codes : Codes) → IsReady own records → IndicesApart own (started own records imports codes)
+started-indices own records imports codes h = record {
+  below = λ l v i o e k. absurd (started-foreign own records imports codes h l (binding.Variable v) e o);
+  apart = λ l m v w i o q e d k r. absurd (started-foreign own records imports codes h l (binding.Variable v) e o);
 }
 
 -- Where what it imports is there.
@@ -150,10 +153,10 @@ imports-there : (records : List LibRecord) (f : FrameNo) (es : List (List ℕ ×
 imports-there records f [] h = tt
 imports-there records f (e ∷ es) h = (h.0, imports-there records f es h.1)
 
-pub started-there : (own : LibName) (records : List LibRecord) (imports : List (List ℕ × Label)) → AllServe [] records → Each (λ (e : List ℕ × Label). IsThere records e.1.0.library) imports
-    → (f : FrameNo) → Each (λ (r : Row). IsThere records r.label.0.library) (rows_at f (started own records imports).frames)
+pub started-there : (own : LibName) (records : List LibRecord) (imports : List (List ℕ × Label)) (codes : Codes) → AllServe [] records → Each (λ (e : List ℕ × Label). IsThere records e.1.0.library) imports
+    → (f : FrameNo) → Each (λ (r : Row). IsThere records r.label.0.library) (rows_at f (started own records imports codes).frames)
 unfolding started
-started-there own records imports h there f =
+started-there own records imports codes h there f =
     let rows = rows_of records ++ map (import_row (first_frame own)) imports in
     subst (Each (λ (r : Row). IsThere records r.label.0.library)) (sym (rows_at-adopted [] f rows))
     (rows-hold (λ l. IsThere records l.0.library) f rows (each-append (λ (r : FrameRow). IsThere records r.label.0.library) (rows_of records) (map (import_row (first_frame own)) imports)

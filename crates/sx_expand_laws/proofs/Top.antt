@@ -23,8 +23,9 @@ use Rattle.sx_expand.specs.Top.{stands_for, export, all_exports, exports}
 use Rattle.sx_expand.specs.declared.top.TopAt.{TopAt}
 use Rattle.sx_expand_laws.proofs.Acts.{Gave, gave-after, gave-each}
 use Rattle.sx_expand_laws.proofs.Fresh.{Made, FreshLabels, FreshCodes, code_name, each-at, each-append, each-map, among-parts, once-append, fresh-none, fresh-append}
-use Rattle.sx_expand_laws.proofs.Good.{InTurn, IsFrom, Before}
-use Rattle.sx_expand_laws.proofs.Lines.{GoodLine, kinds, kind_labels}
+use Rattle.sx_expand_laws.proofs.Good.{Bindings, InTurn, IsFrom, Before}
+use Rattle.sx_expand_laws.proofs.LineLabels.{kind_labels}
+use Rattle.sx_expand_laws.proofs.Lines.{GoodLine, kinds}
 use Rattle.sx_expand_laws.proofs.Shown.{IsShown, leaf-shown}
 use Rattle.sx_expand_laws.proofs.WellMade.{good-well-made}
 
@@ -35,24 +36,24 @@ kinds-defined [] = refl
 kinds-defined (line.Define l c ∷ xs) = ap (λ ls. l ∷ ls) (kinds-defined xs)
 kinds-defined (line.Expr c ∷ xs) = kinds-defined xs
 
-pub record GoodRun (own : LibName) (ls : List Label) (a m b : ℕ) (xs : List Line) : Type 0 where
+pub record GoodRun (own : LibName) (bs : Bindings) (ls : List Label) (a m b : ℕ) (xs : List Line) : Type 0 where
   pub labels : FreshLabels own a m (flat_map line_labels xs)
-  pub lines : InTurn (GoodLine own ls) m b xs
+  pub lines : InTurn (GoodLine own bs [] ls) m b xs
 
-module _ (own : LibName) (ls : List Label) where
-  pub lines-closed : (a b : ℕ) (xs : List Line) → InTurn (GoodLine own ls) a b xs → Each (λ x. Closed ls (line_core x)) xs
+module _ (own : LibName) (bs : Bindings) (ls : List Label) where
+  pub lines-closed : (a b : ℕ) (xs : List Line) → InTurn (GoodLine own bs [] ls) a b xs → Each (λ x. Closed ls (line_core x)) xs
   lines-closed a b [] h = tt
   lines-closed a b (x ∷ xs) (m, (h, k)) = (h.closed, lines-closed m b xs k)
 
-  pub lines-well-made : (a b : ℕ) (xs : List Line) → InTurn (GoodLine own ls) a b xs → Each (IsWellMade []) (map line_core xs)
+  pub lines-well-made : (a b : ℕ) (xs : List Line) → InTurn (GoodLine own bs [] ls) a b xs → Each (IsWellMade []) (map line_core xs)
   lines-well-made a b [] h = tt
-  lines-well-made a b (x ∷ xs) (m, (h, k)) = (good-well-made own ls a m (line_core x) h, lines-well-made m b xs k)
+  lines-well-made a b (x ∷ xs) (m, (h, k)) = (good-well-made own bs [] ls a m (line_core x) tt h, lines-well-made m b xs k)
 
-  lines-up : (a b : ℕ) (xs : List Line) → InTurn (GoodLine own ls) a b xs → a ≤ b
+  lines-up : (a b : ℕ) (xs : List Line) → InTurn (GoodLine own bs [] ls) a b xs → a ≤ b
   lines-up a b [] h = h
   lines-up a b (x ∷ xs) (m, (h, k)) = let u = h.inner.up in let v = lines-up m b xs k in omega (arith, u, v)
 
-  pub lines-codes : (a b : ℕ) (xs : List Line) → InTurn (GoodLine own ls) a b xs → FreshCodes own a b (flat_map code_numbers (map line_core xs))
+  pub lines-codes : (a b : ℕ) (xs : List Line) → InTurn (GoodLine own bs [] ls) a b xs → FreshCodes own a b (flat_map code_numbers (map line_core xs))
   lines-codes a b [] h = fresh-none code_name own a b
   lines-codes a b (x ∷ xs) (m, (h, k)) =
       fresh-append code_name own a m b (code_numbers (line_core x)) (flat_map code_numbers (map line_core xs)) h.inner.up (lines-up m b xs k) h.inner.codes (lines-codes m b xs k)
@@ -70,7 +71,7 @@ module _ (own : LibName) (ls : List Label) where
   between labels first a m b l le before (inl x) y = let z = each-at (Before first) labels l before x in omega (arith, z, le, y.low)
   between labels first a m b l le before (inr x) y = omega (arith, x.low, y.high)
 
-  lines-binders : (first a b : ℕ) (xs : List Line) → first ≤ a → Each (Before first) (flat_map line_labels xs) → Once (flat_map line_labels xs) → InTurn (GoodLine own ls) a b xs → Binders (flat_map line_labels xs) a b xs
+  lines-binders : (first a b : ℕ) (xs : List Line) → first ≤ a → Each (Before first) (flat_map line_labels xs) → Once (flat_map line_labels xs) → InTurn (GoodLine own bs [] ls) a b xs → Binders (flat_map line_labels xs) a b xs
   lines-binders first a b [] le before once h = record { from = tt; once = tt }
   lines-binders first a b (line.Expr c ∷ xs) le before once (m, (h, k)) =
       let rest = lines-binders first m b xs (let u = h.inner.up in omega (arith, le, u)) before once k in
@@ -109,7 +110,7 @@ module _ (own : LibName) (ls : List Label) where
       new at (inl d) = let x = each-at (λ (n : Label). Made own a m n.0) (binders c) v h.binders.made d in omega (arith, x.low, before.0, le)
       new at (inr d) = again (at d)
 
-  pub run-binders : (a m b : ℕ) (xs : List Line) → GoodRun own ls a m b xs → (Once (flat_map line_binders xs)) × (Each (λ l. l.0.library ≡ own) (flat_map line_binders xs))
+  pub run-binders : (a m b : ℕ) (xs : List Line) → GoodRun own bs ls a m b xs → (Once (flat_map line_binders xs)) × (Each (λ l. l.0.library ≡ own) (flat_map line_binders xs))
   run-binders a m b xs h =
       let before = each-map (λ l. Made own a m l.0) (Before m) (flat_map line_labels xs) h.labels.made (λ l x. x.high) in
       let all = lines-binders m m b xs (omega arith) before h.labels.once h.lines in
@@ -127,13 +128,14 @@ pub record SameScope (s t : State) : Type 0 where
   pub frames : t.frames ≡ s.frames
   pub bindings : t.bindings ≡ s.bindings
   pub index : t.index ≡ s.index
+  pub keywords : t.keywords ≡ s.keywords
   pub scope : t.scope ≡ s.scope
 
 same-self : (s : State) → SameScope s s
-same-self s = record { library = refl; names = refl; frames = refl; bindings = refl; index = refl; scope = refl }
+same-self s = record { library = refl; names = refl; frames = refl; bindings = refl; index = refl; keywords = refl; scope = refl }
 
 same-then : (s t u : State) → SameScope s t → SameScope t u → SameScope s u
-same-then s t u h k = record { library = k.library ∙ h.library; names = k.names ∙ h.names; frames = k.frames ∙ h.frames; bindings = k.bindings ∙ h.bindings; index = k.index ∙ h.index; scope = k.scope ∙ h.scope }
+same-then s t u h k = record { library = k.library ∙ h.library; names = k.names ∙ h.names; frames = k.frames ∙ h.frames; bindings = k.bindings ∙ h.bindings; index = k.index ∙ h.index; keywords = k.keywords ∙ h.keywords; scope = k.scope ∙ h.scope }
 
 -- the labels are shown
 abbrev pub AreShown : Scope → List (List ℕ × Label) → Type 0
@@ -154,4 +156,4 @@ same-exports at es s =
     (gave-each (export at) (λ e t x u. SameScope t u × IsShown t.frames x.1) (λ ys t xs u. SameScope t u × AreShown t.frames xs) (λ t. Unit {0})
     (λ t k. (same-self t, tt)) (λ e t k. same-export at e t) (λ e t u x k j. tt)
     (λ e ys t u v x xs k j a. (same-then t u v j.0 a.0, (j.1, subst (λ fs. AreShown fs xs) j.0.frames a.1))) es s tt)
-    (λ xs t k. (record { library = k.0.library; names = k.0.names; frames = k.0.frames; bindings = k.0.bindings; index = k.0.index; scope = k.0.scope }, k.1))
+    (λ xs t k. (record { library = k.0.library; names = k.0.names; frames = k.0.frames; bindings = k.0.bindings; index = k.0.index; keywords = k.0.keywords; scope = k.0.scope }, k.1))

@@ -1,96 +1,136 @@
 -- Good core code is well made.
-use Rattle.std.proofs.Common.{◌≡◌, ℕ, ◌<◌, true, false, List, [], ◌∷◌, ◌++◌, refl, sym, subst}
+use Rattle.std.proofs.Common.{ℕ, ◌<◌, true, false, List, [], ◌∷◌, ◌++◌, sym, ◌∙◌, inl, inr}
+use Rattle.std.specs.Prelude.{◌⊎◌}
 use Rattle.std.specs.List.{flat_map}
 use Rattle.sx_base.specs.declared.library.LibName.{LibName}
 use Rattle.sx_base.specs.declared.name.Label.{Label}
 use Rattle.sx_core.specs.Core.{PlainCore, quoted, variable, primitive, one_armed, two_armed, assignment, sequence, procedure, letrec, call, instance, matching}
-use Rattle.sx_core.specs.Core.{PlainCores, none, more, PlainInits, no_init, init, PlainCases, no_case, case}
-use Rattle.sx_core.specs.References.{mentions, variables}
+use Rattle.sx_core.specs.Core.{PlainCores, none, more, PlainInits, no_init, init, PlainCases, no_case, case, PlainClauses, no_clause, clause, fended}
+use Rattle.sx_core.specs.Pattern.{PlainPattern}
+use Rattle.sx_core.specs.References.{mentions, all_mentions, init_mentions, case_mentions, clause_mentions, variables}
 use Rattle.sx_core_laws.specs.Words.{Each, Among}
-use Rattle.sx_core_laws.specs.Parts.{parts, all_parts, init_parts, case_parts, literals, own_op, own_patterns, patterns, pattern_variables}
-use Rattle.sx_core_laws.specs.Templates.{TemplatesSuit, AllSuit, InitsSuit, CasesSuit}
-use Rattle.sx_core_laws.specs.WellMade.{IsLeaf, HasForm, IsWellMade}
-use Rattle.sx_expand_laws.proofs.Fresh.{each-append, each-map, each-of}
-use Rattle.sx_expand_laws.proofs.Good.{IsBasic, Good}
+use Rattle.sx_core_laws.specs.Parts.{parts, all_parts, init_parts, case_parts, clause_parts, literals, own_op, own_patterns, patterns, pattern_variables}
+use Rattle.sx_core_laws.specs.Templates.{Depths}
+use Rattle.sx_core_laws.specs.WellMade.{IsLeaf, HasForm, IsWellMade, given_labels}
+use Rattle.sx_expand_laws.proofs.Fresh.{each-append, each-map, each-at, among-parts}
+use Rattle.sx_expand_laws.proofs.Good.{Bindings, IsVariableIn, IsPatternIn, PatternFits, IsBasic, Good}
 
-basic-form : (c : PlainCore) → IsBasic c → HasForm c
-basic-form (quoted d) h = tt
-basic-form (variable l) h = tt
-basic-form (primitive o) h = tt
-basic-form (one_armed c d) h = tt
-basic-form (two_armed c d e) h = tt
-basic-form (assignment l c) h = tt
-basic-form (sequence cs) h = h
-basic-form (procedure n cs true) h = h
-basic-form (procedure n cs false) h = tt
-basic-form (letrec o is c) h = tt
-basic-form (call c cs) h = tt
-basic-form (instance t s) h = elim h [ ]
-basic-form (matching c cs s) h = elim h [ ]
+module _ (bs : Bindings) where
+  basic-form : (c : PlainCore) → IsBasic bs c → HasForm c
+  basic-form (quoted d) h = tt
+  basic-form (variable l) h = tt
+  basic-form (primitive o) h = tt
+  basic-form (one_armed c d) h = tt
+  basic-form (two_armed c d e) h = tt
+  basic-form (assignment l c) h = tt
+  basic-form (sequence cs) h = h
+  basic-form (procedure n cs true) h = h
+  basic-form (procedure n cs false) h = tt
+  basic-form (letrec o is c) h = tt
+  basic-form (call c cs) h = tt
+  basic-form (instance t s) h = tt
+  basic-form (matching c cs s) h = tt
 
-basic-ops : (ps : List PlainCore) → Each IsBasic ps → Each (λ o. o < 301) (flat_map own_op ps)
-basic-ops [] h = tt
-basic-ops (p ∷ ps) h = each-append (λ o. o < 301) (own_op p) (flat_map own_op ps) (one p h.0) (basic-ops ps h.1)
-  where
-    one : (c : PlainCore) → IsBasic c → Each (λ o. o < 301) (own_op c)
-    one (primitive o) k = (k, tt)
-    one _ k = tt
+  basic-ops : (ps : List PlainCore) → Each (IsBasic bs) ps → Each (λ o. o < 301) (flat_map own_op ps)
+  basic-ops [] h = tt
+  basic-ops (p ∷ ps) h = each-append (λ o. o < 301) (own_op p) (flat_map own_op ps) (one p h.0) (basic-ops ps h.1)
+    where
+      one : (c : PlainCore) → IsBasic bs c → Each (λ o. o < 301) (own_op c)
+      one (primitive o) k = (k, tt)
+      one _ k = tt
 
-basic-patterns : (ps : List PlainCore) → Each IsBasic ps → flat_map own_patterns ps ≡ []
-basic-patterns [] h = refl
-basic-patterns (p ∷ ps) h = one p h.0 (basic-patterns ps h.1)
-  where
-    one : (c : PlainCore) → IsBasic c → flat_map own_patterns ps ≡ [] → own_patterns c ++ flat_map own_patterns ps ≡ []
-    one (matching c cs s) k e = elim k [ ]
-    one _ k e = e
+  basic-patterns : (ps : List PlainCore) → Each (IsBasic bs) ps → Each (PatternFits bs) (flat_map own_patterns ps)
+  basic-patterns [] h = tt
+  basic-patterns (p ∷ ps) h = each-append (PatternFits bs) (own_patterns p) (flat_map own_patterns ps) (one p h.0) (basic-patterns ps h.1)
+    where
+      one : (c : PlainCore) → IsBasic bs c → Each (PatternFits bs) (own_patterns c)
+      one (matching c cs s) k = k
+      one _ k = tt
 
-first-parts : (P : PlainCore → Type 0) (xs ys : List PlainCore) → Each P (xs ++ ys) → Each P xs
-first-parts P [] ys h = tt
-first-parts P (x ∷ xs) ys h = (h.0, first-parts P xs ys h.1)
+  all-leaves : (ps : List PlainPattern) → Each (PatternFits bs) ps → Each IsLeaf (flat_map literals ps)
+  all-leaves [] h = tt
+  all-leaves (p ∷ ps) h = each-append IsLeaf (literals p) (flat_map literals ps) h.0.leaves (all-leaves ps h.1)
 
-second-parts : (P : PlainCore → Type 0) (xs ys : List PlainCore) → Each P (xs ++ ys) → Each P ys
-second-parts P [] ys h = h
-second-parts P (x ∷ xs) ys h = second-parts P xs ys h.1
+  all-bound : (ps : List PlainPattern) → Each (PatternFits bs) ps → Each (IsPatternIn bs) (flat_map variables ps)
+  all-bound [] h = tt
+  all-bound (p ∷ ps) h = each-append (IsPatternIn bs) (variables p) (flat_map variables ps) h.0.bound (all-bound ps h.1)
 
-mutual
-  no-templates : (c : PlainCore) → Each IsBasic (parts c) → TemplatesSuit [] c
-  no-templates (quoted d) h = tt
-  no-templates (variable l) h = tt
-  no-templates (primitive o) h = tt
-  no-templates (one_armed c d) h = (no-templates c (first-parts IsBasic (parts c) (parts d) h.1), no-templates d (second-parts IsBasic (parts c) (parts d) h.1))
-  no-templates (two_armed c d e) h =
-      let k = second-parts IsBasic (parts c) (parts d ++ parts e) h.1 in
-      (no-templates c (first-parts IsBasic (parts c) (parts d ++ parts e) h.1), (no-templates d (first-parts IsBasic (parts d) (parts e) k), no-templates e (second-parts IsBasic (parts d) (parts e) k)))
-  no-templates (assignment l c) h = no-templates c h.1
-  no-templates (sequence cs) h = no-all cs h.1
-  no-templates (procedure n cs p) h = no-cases cs h.1
-  no-templates (letrec o is c) h = (no-inits is (first-parts IsBasic (init_parts is) (parts c) h.1), no-templates c (second-parts IsBasic (init_parts is) (parts c) h.1))
-  no-templates (call c cs) h = (no-templates c (first-parts IsBasic (parts c) (all_parts cs) h.1), no-all cs (second-parts IsBasic (parts c) (all_parts cs) h.1))
-  no-templates (instance t s) h = elim h.0 [ ]
-  no-templates (matching c cs s) h = elim h.0 [ ]
+  first-parts : (xs ys : List PlainCore) → Each (IsBasic bs) (xs ++ ys) → Each (IsBasic bs) xs
+  first-parts [] ys h = tt
+  first-parts (x ∷ xs) ys h = (h.0, first-parts xs ys h.1)
 
-  no-all : (cs : PlainCores) → Each IsBasic (all_parts cs) → AllSuit [] cs
-  no-all none h = tt
-  no-all (more c cs) h = (no-templates c (first-parts IsBasic (parts c) (all_parts cs) h), no-all cs (second-parts IsBasic (parts c) (all_parts cs) h))
+  second-parts : (xs ys : List PlainCore) → Each (IsBasic bs) (xs ++ ys) → Each (IsBasic bs) ys
+  second-parts [] ys h = h
+  second-parts (x ∷ xs) ys h = second-parts xs ys h.1
 
-  no-inits : (is : PlainInits) → Each IsBasic (init_parts is) → InitsSuit [] is
-  no-inits no_init h = tt
-  no-inits (init l c is) h = (no-templates c (first-parts IsBasic (parts c) (init_parts is) h), no-inits is (second-parts IsBasic (parts c) (init_parts is) h))
+  -- what is mentioned is a variable
+  abbrev Mentioned : List Label → Type 0
+  Mentioned ls = Each (IsVariableIn bs) ls
 
-  no-cases : (cs : PlainCases) → Each IsBasic (case_parts cs) → CasesSuit [] cs
-  no-cases no_case h = tt
-  no-cases (case f c cs) h = (no-templates c (first-parts IsBasic (parts c) (case_parts cs) h), no-cases cs (second-parts IsBasic (parts c) (case_parts cs) h))
+  join : (ls ms : List Label) → Mentioned ls → Mentioned ms → Mentioned (ls ++ ms)
+  join ls ms h k = each-append (IsVariableIn bs) ls ms h k
 
-pub good-well-made : (own : LibName) (ls : List Label) (a b : ℕ) (c : PlainCore) → Good own ls a b c → IsWellMade [] c
-good-well-made own ls a b c h =
+  mutual
+    mentioned : (c : PlainCore) → Each (IsBasic bs) (parts c) → Mentioned (mentions c)
+    mentioned (quoted d) h = tt
+    mentioned (variable l) h = (h.0, tt)
+    mentioned (primitive o) h = tt
+    mentioned (one_armed c d) h = join (mentions c) (mentions d) (mentioned c (first-parts (parts c) (parts d) h.1)) (mentioned d (second-parts (parts c) (parts d) h.1))
+    mentioned (two_armed c d e) h =
+        let k = second-parts (parts c) (parts d ++ parts e) h.1 in
+        join (mentions c) (mentions d ++ mentions e) (mentioned c (first-parts (parts c) (parts d ++ parts e) h.1))
+        (join (mentions d) (mentions e) (mentioned d (first-parts (parts d) (parts e) k)) (mentioned e (second-parts (parts d) (parts e) k)))
+    mentioned (assignment l c) h = (h.0, mentioned c h.1)
+    mentioned (sequence cs) h = mentioned-all cs h.1
+    mentioned (procedure n cs p) h = mentioned-cases cs h.1
+    mentioned (letrec o is c) h = join (init_mentions is) (mentions c) (mentioned-inits is (first-parts (init_parts is) (parts c) h.1)) (mentioned c (second-parts (init_parts is) (parts c) h.1))
+    mentioned (call c cs) h = join (mentions c) (all_mentions cs) (mentioned c (first-parts (parts c) (all_parts cs) h.1)) (mentioned-all cs (second-parts (parts c) (all_parts cs) h.1))
+    mentioned (instance t s) h = tt
+    mentioned (matching c cs s) h = join (mentions c) (clause_mentions cs) (mentioned c (first-parts (parts c) (clause_parts cs) h.1)) (mentioned-clauses cs (second-parts (parts c) (clause_parts cs) h.1))
+
+    mentioned-all : (cs : PlainCores) → Each (IsBasic bs) (all_parts cs) → Mentioned (all_mentions cs)
+    mentioned-all none h = tt
+    mentioned-all (more c cs) h = join (mentions c) (all_mentions cs) (mentioned c (first-parts (parts c) (all_parts cs) h)) (mentioned-all cs (second-parts (parts c) (all_parts cs) h))
+
+    mentioned-inits : (is : PlainInits) → Each (IsBasic bs) (init_parts is) → Mentioned (init_mentions is)
+    mentioned-inits no_init h = tt
+    mentioned-inits (init l c is) h = join (mentions c) (init_mentions is) (mentioned c (first-parts (parts c) (init_parts is) h)) (mentioned-inits is (second-parts (parts c) (init_parts is) h))
+
+    mentioned-cases : (cs : PlainCases) → Each (IsBasic bs) (case_parts cs) → Mentioned (case_mentions cs)
+    mentioned-cases no_case h = tt
+    mentioned-cases (case f c cs) h = join (mentions c) (case_mentions cs) (mentioned c (first-parts (parts c) (case_parts cs) h)) (mentioned-cases cs (second-parts (parts c) (case_parts cs) h))
+
+    mentioned-clauses : (cs : PlainClauses) → Each (IsBasic bs) (clause_parts cs) → Mentioned (clause_mentions cs)
+    mentioned-clauses no_clause h = tt
+    mentioned-clauses (clause p c cs) h = join (mentions c) (clause_mentions cs) (mentioned c (first-parts (parts c) (clause_parts cs) h)) (mentioned-clauses cs (second-parts (parts c) (clause_parts cs) h))
+    mentioned-clauses (fended p f c cs) h =
+        let k = second-parts (parts f) (parts c ++ clause_parts cs) h in
+        join (mentions f) (mentions c ++ clause_mentions cs) (mentioned f (first-parts (parts f) (parts c ++ clause_parts cs) h))
+        (join (mentions c) (clause_mentions cs) (mentioned c (first-parts (parts c) (clause_parts cs) k)) (mentioned-clauses cs (second-parts (parts c) (clause_parts cs) k)))
+
+  -- no label is bound both ways
+  not-both : (l : Label) → IsVariableIn bs l → IsPatternIn bs l → ⊥
+  not-both l (v, e) (level, (depth, d)) = let bad = sym e ∙ d in absurd (cc)
+
+-- under pattern variables that are bound
+pub good-well-made : (own : LibName) (bs : Bindings) (vs : Depths) (ls : List Label) (a b : ℕ) (c : PlainCore) → Each (λ (v : Label × ℕ). IsPatternIn bs v.0) vs → Good own bs vs ls a b c → IsWellMade vs c
+good-well-made own bs vs ls a b c given h =
     let basic = h.inner.basic in
-    let none : patterns c ≡ [] = basic-patterns (parts c) basic in
+    let fit = basic-patterns bs (parts c) basic in
     record {
-      forms = each-map IsBasic HasForm (parts c) basic basic-form;
-      leaves = subst (λ ps. Each IsLeaf (flat_map literals ps)) (sym none) tt;
-      named_ops = basic-ops (parts c) basic;
+      forms = each-map (IsBasic bs) HasForm (parts c) basic (basic-form bs);
+      leaves = all-leaves bs (patterns c) fit;
+      named_ops = basic-ops bs (parts c) basic;
       bound_once = h.binders.once;
       numbered_once = h.inner.codes.once;
-      unmentioned = each-of (λ l. Among (pattern_variables c ++ []) l → ⊥) (mentions c) (λ l m. subst (λ ps. Among (flat_map variables ps ++ []) l → ⊥) (sym none) (λ a. elim a [ ]));
-      templates = no-templates c basic;
+      unmentioned = each-map (IsVariableIn bs) (λ l. Among (pattern_variables c ++ given_labels vs) l → ⊥) (mentions c) (mentioned bs c basic) (λ l x a. not-both bs l x (by l (among-parts (pattern_variables c) (given_labels vs) l a)));
+      templates = h.suits;
     }
+  where
+    labels : (ws : Depths) → Each (λ (v : Label × ℕ). IsPatternIn bs v.0) ws → Each (IsPatternIn bs) (given_labels ws)
+    labels [] k = tt
+    labels (w ∷ ws) k = (k.0, labels ws k.1)
+
+    by : (l : Label) → Among (pattern_variables c) l ⊎ Among (given_labels vs) l → IsPatternIn bs l
+    by l (inl a) = each-at (IsPatternIn bs) (pattern_variables c) l (all-bound bs (patterns c) (basic-patterns bs (parts c) h.inner.basic)) a
+    by l (inr a) = each-at (IsPatternIn bs) (given_labels vs) l (labels vs given) a

@@ -11,6 +11,7 @@ use Rattle.sx_core_laws.specs.Parts.{code_numbers}
 use Rattle.sx_core_laws.specs.WellMade.{IsWellMade}
 use Rattle.sx_core_laws.specs.Records.{defined, run_binders, LinesClosed}
 use Rattle.sx_core_laws.specs.Follows.{line_cores, IsOwn}
+use Rattle.sx_eval.specs.Codes.{Codes}
 use Rattle.sx_expand.specs.Expanding.{ready, library_record}
 use Rattle.sx_expand.specs.Top.{refs_of}
 use Rattle.sx_expand_laws.specs.Indices.{bound_index}
@@ -32,5 +33,5 @@ pub record IsGood (records : List LibRecord) (r : LibRecord) : Type 0 where
 -- and it has the name of the library
 abbrev pub RecordsAreGood : Type 0
 RecordsAreGood = (own : LibName) (path : List ℕ) (records : List LibRecord) (imports : List (List ℕ × Label)) (version : List ℕ) (place : Span)
-    (exports : List (List ℕ × Tree)) (forms : List Tree) (r : LibRecord)
-    → IsReady own records → library_record (ready own path records imports) version place exports forms ≡ Ok r → IsGood records r × (r.name ≡ own)
+    (exports : List (List ℕ × Tree)) (forms : List Tree) (codes : Codes) (r : LibRecord)
+    → IsReady own records → library_record (ready own path records imports codes) records version place exports forms ≡ Ok r → IsGood records r × (r.name ≡ own)

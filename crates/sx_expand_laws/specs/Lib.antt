@@ -2,8 +2,11 @@ pub mod Trees
 pub mod Serves
 pub mod Ready
 pub mod States
+pub mod Stages
 pub mod Indices
 pub mod Good
+pub mod Keywords
 pub mod Serving
 pub mod Named
 pub mod InScope
+pub mod Uses

@@ -1,5 +1,5 @@
 -- Each reference names the binder that its leaf stands for.
-use Rattle.std.specs.Prelude.{◌≡◌, ℕ, ◌⊎◌, Bool, true, Option, None, Some, Ok}
+use Rattle.std.specs.Prelude.{◌≡◌, ℕ, ◌⊎◌, Bool, true, List, Option, None, Some, Ok}
 use Rattle.sx_base.specs.declared.name.FrameNo.{FrameNo}
 use Rattle.sx_base.specs.declared.name.Label.{Label}
 use Rattle.sx_base.specs.declared.op.Op.{Op}
@@ -8,12 +8,13 @@ use Rattle.sx_tree.specs.Changes.{stamp}
 use Rattle.sx_tree.specs.Tree.{Tree}
 use Rattle.sx_scope.specs.Stands.{stands}
 use Rattle.sx_core.specs.Core.{PlainCore, variable, primitive}
+use Rattle.sx_core.specs.declared.record.LibRecord.{LibRecord}
 use Rattle.sx_shapes.specs.Lists.{is_leaf}
 use Rattle.sx_standing.specs.Binders.{bind_variable}
-use Rattle.sx_standing.specs.Standing.{label_standing}
+use Rattle.sx_standing.specs.Standing.{label_standing, standing_of}
 use Rattle.sx_standing.specs.State.{State}
 use Rattle.sx_standing.specs.declared.standing.Standing.TheVariants as standing
-use Rattle.sx_heads.specs.Plan.{target}
+use Rattle.sx_heads.specs.Plan.{target_by}
 use Rattle.sx_expand.specs.Expression.{inside}
 use Rattle.sx_expand_laws.specs.States.{IsOld}
 use Rattle.sx_expand_laws.specs.Trees.{LeavesAre}
@@ -23,14 +24,18 @@ abbrev pub RefersTo : State → Option Label → PlainCore → Type 0
 RefersTo s None c = ⊥
 RefersTo s (Some l) c = (c ≡ variable l) ⊎ ((o : Op) × ((label_standing s l ≡ standing.Primitive o) × (c ≡ primitive o)))
 
--- The core code of a leaf refers to what the leaf stands for, and the state stays.
+-- a leaf that stands for a keyword is a use of it
+abbrev pub IsUse : State → Tree → Type 0
+IsUse s t = (l : Label) × (standing_of s t ≡ standing.Keyword l)
+
+-- The core code of a leaf refers to what the leaf stands for, and the state stays, unless the leaf is a use of a keyword.
 abbrev pub ReferencesNameBinders : Type 0
-ReferencesNameBinders = (room : ℕ) (place : Span) (level depth : ℕ) (t : Tree) (s u : State) (c : PlainCore) → is_leaf t ≡ true
-    → (inside room).form place level depth t s ≡ Ok (c, u) → RefersTo s (stands s.frames t) c × (u ≡ s)
+ReferencesNameBinders = (records : List LibRecord) (room : ℕ) (place : Span) (level depth : ℕ) (t : Tree) (s u : State) (c : PlainCore) → is_leaf t ≡ true
+    → (inside records room).form place level depth t s ≡ Ok (c, u) → (RefersTo s (stands s.frames t) c × (u ≡ s)) ⊎ IsUse s t
 
 -- An assignment assigns what its target stands for.
 abbrev pub AssignmentsNameBinders : Type 0
-AssignmentsNameBinders = (place : Span) (level : ℕ) (t id : Tree) (s u : State) (l : Label) → target place level t id s ≡ Ok (l, u) → stands s.frames id ≡ Some l
+AssignmentsNameBinders = (place : Span) (level : ℕ) (t id : Tree) (s u : State) (l : Label) → target_by place level t id (standing_of s id) s ≡ Ok (l, u) → stands s.frames id ≡ Some l
 
 -- Where a binder's frame is stamped on its identifier, that stands for the label of the binder.
 abbrev pub BindersAreFound : Type 0
@@ -39,5 +44,5 @@ BindersAreFound = (frame : FrameNo) (place : Span) (level : ℕ) (top : Bool) (i
 
 -- What an identifier stands for, whose stamps name frames that were made, stays as it is while a form is expanded.
 abbrev pub BindersStay : Type 0
-BindersStay = (room : ℕ) (place : Span) (level depth : ℕ) (t : Tree) (s u : State) (c : PlainCore) → (inside room).form place level depth t s ≡ Ok (c, u)
+BindersStay = (records : List LibRecord) (room : ℕ) (place : Span) (level depth : ℕ) (t : Tree) (s u : State) (c : PlainCore) → (inside records room).form place level depth t s ≡ Ok (c, u)
     → (id : Tree) → LeavesAre (IsOld s.names.library s) id → stands u.frames id ≡ stands s.frames id

@@ -2,12 +2,20 @@
 
 ghost use Rattle.sx_expand_laws.specs.Good.{RecordsAreGood};
 ghost use Rattle.sx_expand_laws.specs.InScope.{ScopeStays};
+ghost use Rattle.sx_expand_laws.specs.Keywords.{KeywordsAreGood};
 ghost use Rattle.sx_expand_laws.specs.Serving.{FollowersServe, RecordsServe};
+ghost use Rattle.sx_expand_laws.specs.Uses.{UsesAreReplaced, BodyUsesAreReplaced};
 ghost use Rattle.sx_expand_laws.specs.Named.{ReferencesNameBinders, AssignmentsNameBinders, BindersAreFound, BindersStay};
 
 /// Every record that expansion gives is closed, bound once and well made.
 pub fn records_are_good()
     ensures { RecordsAreGood }
+{}
+
+/// So are its keywords: each has its expression, which is well made and closed under what the records before it define, and no two of
+/// its lines and keywords bind one label or number two codes alike.
+pub fn keywords_are_good()
+    ensures { KeywordsAreGood }
 {}
 
 /// What a record leaves to those behind it: records that follow one another serve, and so does every record
@@ -18,14 +26,20 @@ pub fn records_serve()
     ensures records { RecordsServe }
 {}
 
-/// Each reference names the binder that its leaf stands for: a leaf becomes a reference to the label
-/// that it stands for, an assignment has the label of its target, the identifier of a binder stands for
+/// Each reference names the binder that its leaf stands for: a leaf that is no use of a keyword becomes a
+/// reference to the label that it stands for, an assignment has the label of its target, the identifier of a binder stands for
 /// the binder's label, and no form that is expanded meanwhile changes what an identifier stands for.
 pub fn references_name_binders()
     ensures references { ReferencesNameBinders }
     ensures assignments { AssignmentsNameBinders }
     ensures binders { BindersAreFound }
     ensures stay { BindersStay }
+{}
+
+/// A use of a keyword expands to what the form expands to that its transformer gives, and in a body it is taken as that form.
+pub fn uses_are_replaced()
+    ensures expressions { UsesAreReplaced }
+    ensures bodies { BodyUsesAreReplaced }
 {}
 
 /// What comes into scope in an expression is out of scope after it.

@@ -18,11 +18,17 @@
 //! the law applies to one after another. Of forms nothing is asked: their stamps and marks may be any.
 //!
 //! For what is in scope is part of the state, and expansion itself asks it of each reference. So the proof has
-//! two halves, each an induction on how deep forms may nest. The first tells how a form changes a state,
-//! whatever the state and the form: it adds frames and names, and leaves the scope as it was (`Later` in
-//! `specs/States`). The second tells what a form gives: where a state is `Sound`, its core code is closed under
-//! the labels that the state reaches (`Reach`). Names are made from one counter, so what was made between two
-//! states is disjoint from what was made before and after.
+//! two halves, each an induction on how deep forms may nest, and inside it on the uses of keywords that are left.
+//! The first tells how a form changes a state, whatever the state and the form: it adds frames and names, and
+//! leaves the scope as it was (`Later` in `specs/States`). A use of a keyword takes names and changes nothing
+//! else that matters here (`specs/Stages`): what a transformer answers is a form like any other. The second tells
+//! what a form gives: where a state is `Sound`, its core code is closed under the labels that the state reaches,
+//! and its templates suit the pattern variables in scope (`Reach`). Names are made from one counter, so what was
+//! made between two states is disjoint from what was made before and after.
+//!
+//! Keywords are finished while the forms round them are expanded, so their expressions take names from among those
+//! that these forms take. A third induction tells that core code shares no name with the expression of a keyword
+//! (`specs/Keywords`): when a name is new, no keyword that is kept has it, and what is kept later has later names.
 #![tactic(auto)]
 
 pub mod laws;

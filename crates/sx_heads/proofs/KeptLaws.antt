@@ -123,7 +123,7 @@ bound_skip : (bs : List (Label × Binding)) (l m : Label) (b : Binding) → same
 bound_skip [] l m b h = rw h refl
 bound_skip (e ∷ bs) l m b h = ap (λ o. if same_label l e.0 then Some e.1 else o) (bound_skip bs l m b h)
 
-module _ (s : State) (f : FrameNo) (r : Row) (b : Binding) where
+module _ (keyword : Bool) (s : State) (f : FrameNo) (r : Row) (b : Binding) where
   keyword_stays : (o : Option Label) → o ≢ Some r.label → is_keyword_label (with_binder s f r b) o ≡ is_keyword_label s o
   unfolding label_standing
   keyword_stays None h = refl
@@ -133,24 +133,24 @@ module _ (s : State) (f : FrameNo) (r : Row) (b : Binding) where
       go true p = absurd (h (ap (λ (n : Named). let x : Label = record { 0 = n } in Some x) ((same_name_cases l.0 r.label.0).0 p)))
       go false p = rw (bound_skip s.bindings l r.label b p) refl
 
-  changed_stays : (k : KeptHead) → k.symbol ≡ symbol_of k.leaf → k.label ≢ Some r.label → same r.symbol k.symbol ≡ false → is_changed (with_binder s f r b) k ≡ is_changed s k
+  changed_stays : (k : KeptHead) → k.symbol ≡ symbol_of k.leaf → k.label ≢ Some r.label → same r.symbol k.symbol ≡ false → is_changed keyword (with_binder s f r b) k ≡ is_changed keyword s k
   unfolding is_changed
   changed_stays k named other h =
       let apart : same (symbol_of k.leaf) r.symbol ≡ false = ap (λ x. same x r.symbol) (sym named) ∙ same_equiv.symm k.symbol r.symbol ∙ h in
       rw (keyword_stays k.label other, stands_stays s.frames f r k.leaf apart) refl
 
-  asked : (ks : List KeptHead) → AreNamed ks → AreOthers r.label ks → any_changed s ks ≡ false
-      → any_changed (with_binder s f r b) (filter (λ k. same r.symbol k.symbol) ks) ≡ any_changed (with_binder s f r b) ks
+  asked : (ks : List KeptHead) → AreNamed ks → AreOthers r.label ks → any_changed keyword s ks ≡ false
+      → any_changed keyword (with_binder s f r b) (filter (λ k. same r.symbol k.symbol) ks) ≡ any_changed keyword (with_binder s f r b) ks
   asked [] named others h = refl
-  asked (k ∷ ks) named others h = go (same r.symbol k.symbol) (is_changed s k) refl refl (asked ks named.1 others.1)
+  asked (k ∷ ks) named others h = go (same r.symbol k.symbol) (is_changed keyword s k) refl refl (asked ks named.1 others.1)
     where
-      go : (c d : Bool) → same r.symbol k.symbol ≡ c → is_changed s k ≡ d
-          → (any_changed s ks ≡ false → any_changed (with_binder s f r b) (filter (λ q. same r.symbol q.symbol) ks) ≡ any_changed (with_binder s f r b) ks)
-          → any_changed (with_binder s f r b) (filter (λ q. same r.symbol q.symbol) (k ∷ ks)) ≡ any_changed (with_binder s f r b) (k ∷ ks)
-      go c true p q so = absurd (true≢false (sym (ap (λ v. if v then true else any_changed s ks) q) ∙ h))
-      go true false p q so = rw p (ap (λ v. if is_changed (with_binder s f r b) k then true else v) (so (sym (ap (λ v. if v then true else any_changed s ks) q) ∙ h)))
-      go false false p q so = rw (p, changed_stays k named.0 others.0 p, q) (so (sym (ap (λ v. if v then true else any_changed s ks) q) ∙ h))
+      go : (c d : Bool) → same r.symbol k.symbol ≡ c → is_changed keyword s k ≡ d
+          → (any_changed keyword s ks ≡ false → any_changed keyword (with_binder s f r b) (filter (λ q. same r.symbol q.symbol) ks) ≡ any_changed keyword (with_binder s f r b) ks)
+          → any_changed keyword (with_binder s f r b) (filter (λ q. same r.symbol q.symbol) (k ∷ ks)) ≡ any_changed keyword (with_binder s f r b) (k ∷ ks)
+      go c true p q so = absurd (true≢false (sym (ap (λ v. if v then true else any_changed keyword s ks) q) ∙ h))
+      go true false p q so = rw p (ap (λ v. if is_changed keyword (with_binder s f r b) k then true else v) (so (sym (ap (λ v. if v then true else any_changed keyword s ks) q) ∙ h)))
+      go false false p q so = rw (p, changed_stays k named.0 others.0 p, q) (so (sym (ap (λ v. if v then true else any_changed keyword s ks) q) ∙ h))
 
-pub none_lost : (s : State) (f : FrameNo) (r : Row) (b : Binding) (ks : List KeptHead) → AreNamed ks → AreOthers r.label ks → any_changed s ks ≡ false
-    → any_changed (with_binder s f r b) (heads_of r.symbol (kept_all [] ks)) ≡ any_changed (with_binder s f r b) ks
-none_lost s f r b ks named others h = ap (any_changed (with_binder s f r b)) (kept_found r.symbol ks) ∙ asked s f r b ks named others h
+pub none_lost : (keyword : Bool) (s : State) (f : FrameNo) (r : Row) (b : Binding) (ks : List KeptHead) → AreNamed ks → AreOthers r.label ks → any_changed keyword s ks ≡ false
+    → any_changed keyword (with_binder s f r b) (heads_of r.symbol (kept_all [] ks)) ≡ any_changed keyword (with_binder s f r b) ks
+none_lost keyword s f r b ks named others h = ap (any_changed keyword (with_binder s f r b)) (kept_found r.symbol ks) ∙ asked keyword s f r b ks named others h

@@ -38,7 +38,7 @@ plan_vector place level v (leaf r y c) s h = absurd h
 plan_vector place level v (pair r a d) s h = absurd h
 plan_vector place level v (vector r d) s h = refl
 
-pub item_leaf : (at : BodyAt) (depth : ℕ) (done : Taken) (x : List ℕ) (t : Tree) (s : State) → Opens (opened.Symbol x) t → item_plan at depth done t s ≡ alone (leaf_item at depth done t) s
+pub item_leaf : (at : BodyAt) (depth : ℕ) (done : Taken) (x : List ℕ) (t : Tree) (s : State) → Opens (opened.Symbol x) t → item_plan at depth done t s ≡ leaf_item at depth done t s
 item_leaf at depth done x (atom r b) s h = absurd h
 item_leaf at depth done x (leaf r y c) s h = refl
 item_leaf at depth done x (pair r a d) s h = absurd h

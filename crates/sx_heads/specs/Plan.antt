@@ -7,17 +7,20 @@ use Rattle.sx_base.specs.declared.name.Label.{Label}
 use Rattle.sx_base.specs.declared.span.Span.{Span}
 use Rattle.sx_tree.specs.Tree.{Tree, atom, leaf, pair, vector}
 use Rattle.sx_tree.specs.Leaves.{strip}
-use Rattle.sx_core.specs.Core.{PlainCore, quoted, variable, primitive}
+use Rattle.sx_core.specs.Core.{PlainCore, quoted, variable, primitive, instance}
 use Rattle.sx_core.specs.Labels.{has_label}
 use Rattle.sx_core.specs.declared.core_form.CoreForm.{CoreForm}
 use Rattle.sx_core.specs.declared.core_form.CoreForm.TheVariants as core_forms
+use Rattle.sx_shapes.specs.At.{place_of}
 use Rattle.sx_shapes.specs.Lists.{is_leaf, is_nil_atom, proper_elements}
 use Rattle.sx_shapes.specs.Forms.{shape}
+use Rattle.sx_shapes.specs.declared.shape.BindingSpec.{BindingSpec}
 use Rattle.sx_shapes.specs.declared.shape.Shape.{Shape}
 use Rattle.sx_shapes.specs.declared.shape.Shape.TheVariants as shapes
 use Rattle.sx_standing.specs.State.{Does, fault_form, fault_word}
 use Rattle.sx_standing.specs.InScope.{is_in_scope}
 use Rattle.sx_standing.specs.Own.{mark_assigned}
+use Rattle.sx_standing.specs.Patterns.{template_of}
 use Rattle.sx_standing.specs.Standing.{standing_of, role_of}
 use Rattle.sx_standing.specs.declared.standing.Standing.{Standing}
 use Rattle.sx_standing.specs.declared.standing.Standing.TheVariants as standing
@@ -46,7 +49,8 @@ refer place level id (standing.Variable v) = variable_at place level id v
 refer place level id standing.PatternVariable = fault_word kind.KeywordMisuse id id place
 refer place level id (standing.Primitive op) = done (primitive op)
 refer place level id (standing.Core f) = fault_word kind.KeywordMisuse id id place
-refer place level id (standing.Keyword l) = fault_form kind.NotBuilt id place
+refer place level id (standing.Keyword l) = give (plans.Use l)
+refer place level id standing.Unbuilt = fault_form kind.NotBuilt id place
 
 unfoldable pub reference : Span → ℕ → Tree → Does Plan
 reference place level id s = refer place level id (standing_of s id) s
@@ -72,15 +76,18 @@ target_by place level t id standing.PatternVariable = fault_word kind.KeywordMis
 target_by place level t id (standing.Primitive op) = fault_word kind.AssignedImport id t place
 target_by place level t id (standing.Core f) = fault_word kind.KeywordMisuse id t place
 target_by place level t id (standing.Keyword l) = fault_word kind.KeywordMisuse id t place
-
-unfoldable pub target : Span → ℕ → Tree → Tree → Does Label
-target place level t id s = target_by place level t id (standing_of s id) s
+target_by place level t id standing.Unbuilt = fault_word kind.KeywordMisuse id t place
 
 abbrev pub assign_to : Tree → Label → Does Plan
 assign_to value l = give (plans.Assignment l value)
 
+-- an assignment to a variable; one to a keyword may be a use of it
+abbrev pub assign_by : Span → ℕ → Tree → Tree → Tree → Standing → Does Plan
+assign_by place level t id value (standing.Keyword l) s = give (plans.SetUse l id) s
+assign_by place level t id value x s = after (target_by place level t id x s) (assign_to value)
+
 unfoldable pub assign : Span → ℕ → Tree → Tree → Tree → Does Plan
-assign place level t id value s = after (target place level t id s) (assign_to value)
+assign place level t id value s = assign_by place level t id value (standing_of s id) s
 
 abbrev pub call_of : Span → Tree → Tree → Option (List Tree) → Does Plan
 call_of place t operator None = fault_form kind.BadForm t place
@@ -98,6 +105,20 @@ abbrev pub is_star : CoreForm → Bool
 is_star core_forms.LetrecStar = true
 is_star _ = false
 
+-- the expressions of a `letrec-syntax` see its keywords
+abbrev pub is_letrec_syntax : CoreForm → Bool
+is_letrec_syntax core_forms.LetrecSyntax = true
+is_letrec_syntax _ = false
+
+abbrev pub keywords_plan : Span → Tree → CoreForm → List BindingSpec → List Tree → Does Plan
+keywords_plan place t f bs [] = fault_form kind.NoExpression t place
+keywords_plan place t f bs (x ∷ xs) = give (plans.Keywords (is_letrec_syntax f) bs (x ∷ xs))
+
+-- `syntax`; the quasi forms aren't built yet
+abbrev pub operand_plan : Span → ℕ → Tree → CoreForm → Tree → Does Plan
+operand_plan place level t core_forms.Syntax operand s = after (template_of place level operand s) (λ x. done (instance x (place_of t place)))
+operand_plan place level t _ operand s = fault_form kind.NotBuilt t place s
+
 -- by the shape of a core form
 unfoldable pub shape_plan : Span → ℕ → Tree → CoreForm → Shape → Does Plan
 shape_plan place level t f (shapes.Quote datum) = done (quoted (strip datum))
@@ -109,10 +130,10 @@ shape_plan place level t f (shapes.Begin forms) = in_sequence place t forms
 shape_plan place level t f (shapes.Letrec bs forms) = give (plans.Letrec (is_star f) bs forms)
 shape_plan place level t f (shapes.Define id value) = fault_form kind.DefinitionPlace t place
 shape_plan place level t f (shapes.DefineProcedure id ids forms) = fault_form kind.DefinitionPlace t place
-shape_plan place level t f (shapes.DefineSyntax id value) = fault_form kind.NotBuilt t place
-shape_plan place level t f (shapes.LetSyntax bs forms) = fault_form kind.NotBuilt t place
-shape_plan place level t f (shapes.Operand operand) = fault_form kind.NotBuilt t place
-shape_plan place level t f (shapes.SyntaxCase subject literals clauses) = fault_form kind.NotBuilt t place
+shape_plan place level t f (shapes.DefineSyntax id value) = fault_form kind.DefinitionPlace t place
+shape_plan place level t f (shapes.LetSyntax bs forms) = keywords_plan place t f bs forms
+shape_plan place level t f (shapes.Operand operand) = operand_plan place level t f operand
+shape_plan place level t f (shapes.SyntaxCase subject literals clauses) = give (plans.Matching subject literals clauses (place_of t place))
 
 abbrev pub with_shape : Span → ℕ → Tree → CoreForm → Result Shape Fault → Does Plan
 with_shape place level t f (Err e) s = Err e
@@ -137,7 +158,8 @@ by_head place level t head rest (standing.Variable v) = application place t head
 by_head place level t head rest standing.PatternVariable = application place t head rest
 by_head place level t head rest (standing.Primitive op) = application place t head rest
 by_head place level t head rest (standing.Core f) = keyword_plan place level t head f
-by_head place level t head rest (standing.Keyword l) = fault_form kind.NotBuilt t place
+by_head place level t head rest (standing.Keyword l) = give (plans.Use l)
+by_head place level t head rest standing.Unbuilt = fault_form kind.NotBuilt t place
 
 -- a list with one or more elements
 unfoldable pub list_plan : Span → ℕ → Tree → Tree → Tree → Does Plan

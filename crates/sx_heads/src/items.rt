@@ -4,9 +4,11 @@ ghost use Rattle.std.specs.Prelude.{◌≡◌, IfOk};
 ghost use Rattle.sx_base.specs.Act.{GivesAfter, give};
 ghost use Rattle.sx_shapes.specs.Forms.{shape};
 ghost use Rattle.sx_heads.specs.Kept.{heads_of};
-ghost use Rattle.sx_heads.specs.Items.{wait, keep, leaf_item, settle, define, with_waiting, define_item, set_item, alone, item_plan, list_item, headed_item, core_item, begin_item, is_mixed, is_top, is_changed, any_changed, same_standing, is_keyword_label};
+ghost use Rattle.sx_heads.specs.Items.{wait, keep, leaf_item, leaf_by, in_time, keyword_in_time, define, define_keyword, with_waiting, define_item, set_item, target_item, alone, item_plan, list_item, headed_item, core_item, begin_item, keywords_item, is_mixed, is_top, is_changed, any_changed, same_standing, is_keyword_label};
 
+use crate::item::Item;
 use crate::kept::KeptHeads;
+use crate::plan::is_letrec_syntax;
 use crate::taken::{BodyAt, BodyKind, KeptHead, Taken, Waiting, Waits};
 use sx_base::fault::{FaultKind, Stop};
 use sx_base::items::Items;
@@ -16,7 +18,8 @@ use sx_base::symbol::Symbol;
 use sx_core::core_form::CoreForm;
 use sx_shapes::forms::shape;
 use sx_shapes::lists::is_id;
-use sx_shapes::shape::Shape;
+use sx_shapes::shape::{BindingSpec, Shape};
+use sx_standing::binders::BoundSpec;
 use sx_standing::expansion::{Expansion, symbol_in};
 use sx_standing::standing::{Role, Standing, is_keyword, role_of};
 use sx_syntax::syn::{Opened, Syn};
@@ -66,25 +69,26 @@ fn is_keyword_label(state: &Expansion, label: &Option<Label>) -> Result<bool, Me
     }
 }
 
-/// Whether a head stood for a keyword and stands for another label now.
+/// Whether a head stands for another label now, where it stood for a keyword or the definition is one of a
+/// keyword.
 #[tactic(auto, unfolding(crate::specs::Items::is_changed))]
-fn is_changed(state: &mut Expansion, kept: &KeptHead) -> Result<bool, Memory>
-    ensures changed { IfOk result (λ b. b ≡ is_changed state.old kept.now) }
+fn is_changed(state: &mut Expansion, keyword: bool, kept: &KeptHead) -> Result<bool, Memory>
+    ensures changed { IfOk result (λ b. b ≡ is_changed keyword state.old kept.now) }
     ensures unchanged { state.new ≡ state.old }
 {
-    if !is_keyword_label(state, &kept.label)? {
+    if !keyword && !is_keyword_label(state, &kept.label)? {
         return Ok(false);
     }
     let now = state.stands(&kept.leaf)?;
     Ok(!same_standing(&now, &kept.label))
 }
 
-fn any_changed(state: &mut Expansion, kept: &[KeptHead]) -> Result<bool, Memory>
-    ensures changed { IfOk result (λ b. b ≡ any_changed state.old kept.now) }
+fn any_changed(state: &mut Expansion, keyword: bool, kept: &[KeptHead]) -> Result<bool, Memory>
+    ensures changed { IfOk result (λ b. b ≡ any_changed keyword state.old kept.now) }
     ensures unchanged { state.new ≡ state.old }
 {
     for one in kept {
-        if is_changed(state, one)? {
+        if is_changed(state, keyword, one)? {
             return Ok(true);
         }
     }
@@ -92,17 +96,22 @@ fn any_changed(state: &mut Expansion, kept: &[KeptHead]) -> Result<bool, Memory>
 }
 
 /// Whether a head of this symbol is changed.
-fn is_late(state: &mut Expansion, symbol: &Symbol, kept: &KeptHeads) -> Result<bool, Memory>
-    ensures changed { IfOk result (λ b. b ≡ any_changed state.old (heads_of symbol.now kept.now)) }
+fn is_late(
+    state: &mut Expansion,
+    keyword: bool,
+    symbol: &Symbol,
+    kept: &KeptHeads,
+) -> Result<bool, Memory>
+    ensures changed { IfOk result (λ b. b ≡ any_changed keyword state.old (heads_of symbol.now kept.now)) }
     ensures unchanged { state.new ≡ state.old }
 {
     match kept.of(symbol) {
         None => Ok(false),
-        Some(heads) => any_changed(state, heads.as_slice()),
+        Some(heads) => any_changed(state, keyword, heads.as_slice()),
     }
 }
 
-fn wait(
+pub fn wait(
     state: &mut Expansion,
     at: &BodyAt,
     depth: u16,
@@ -136,59 +145,70 @@ fn keep(state: &mut Expansion, taken: &mut Taken, id: &Syn) -> Result<(), Stop>
     Ok(())
 }
 
-#[tactic(auto, unfolding(crate::specs::Items::leaf_item))]
-fn leaf_item(
-    state: &mut Expansion,
-    at: &BodyAt,
-    depth: u16,
-    taken: &mut Taken,
-    form: &Syn,
-) -> Result<(), Stop>
-    ensures { GivesAfter (λ _. taken.new) result state.new (leaf_item at.now depth taken.old form.now state.old) }
-{
-    keep(state, taken, form)?;
-    match state.standing(form)? {
-        Standing::Nothing => wait(state, at, depth, taken, form),
-        Standing::Variable(_) => wait(state, at, depth, taken, form),
-        Standing::PatternVariable => wait(state, at, depth, taken, form),
-        Standing::Primitive(_) => wait(state, at, depth, taken, form),
-        Standing::Core(_) => wait(state, at, depth, taken, form),
-        Standing::Keyword(_) => Err(state.fault_form(FaultKind::NotBuilt, form, &at.place)),
-    }
-}
-
-#[tactic(auto, unfolding(crate::specs::Items::settle))]
-fn settle(
-    state: &mut Expansion,
-    at: &BodyAt,
-    taken: &Taken,
-    id: &Syn,
-    label: Label,
-) -> Result<Label, Stop>
-    ensures { GivesAfter (λ l. l) result state.new (settle at.now taken.now id.now label state.old) }
+/// The definition of a variable must not change what a head before it stands for, if that was a keyword.
+#[tactic(auto, unfolding(crate::specs::Items::in_time))]
+fn in_time(state: &mut Expansion, at: &BodyAt, taken: &mut Taken, id: &Syn) -> Result<(), Stop>
+    ensures { GivesAfter (λ _. taken.new) result state.new (in_time at.now taken.old id.now state.old) }
 {
     let symbol = symbol_in(state.alloc(), id)?;
-    if is_late(state, &symbol, &taken.kept)? {
+    if is_late(state, false, &symbol, &taken.kept)? {
         return Err(state.fault_word(FaultKind::LateDefinition, id, id, &at.place));
     }
-    Ok(label)
+    let moved = is_late(state, true, &symbol, &taken.kept)?;
+    taken.moved = taken.moved || moved;
+    Ok(())
+}
+
+/// The definition of a keyword must not stand behind any head that stands for another label now.
+#[tactic(auto, unfolding(crate::specs::Items::keyword_in_time))]
+fn keyword_in_time(state: &mut Expansion, at: &BodyAt, taken: &Taken, id: &Syn) -> Result<(), Stop>
+    ensures { GivesAfter (λ _. tt) result state.new (keyword_in_time at.now taken.now id.now state.old) }
+{
+    if taken.moved {
+        return Err(state.fault_word(FaultKind::LateDefinition, id, id, &at.place));
+    }
+    let symbol = symbol_in(state.alloc(), id)?;
+    if is_late(state, true, &symbol, &taken.kept)? {
+        return Err(state.fault_word(FaultKind::LateDefinition, id, id, &at.place));
+    }
+    Ok(())
 }
 
 #[tactic(auto, unfolding(crate::specs::Items::define))]
 fn define(
     state: &mut Expansion,
     at: &BodyAt,
-    taken: &Taken,
+    taken: &mut Taken,
     form: &Syn,
     id: &Syn,
 ) -> Result<Label, Stop>
-    ensures { GivesAfter (λ l. l) result state.new (define at.now taken.now form.now id.now state.old) }
+    ensures { GivesAfter (λ l. (taken.new, l)) result state.new (define at.now taken.old form.now id.now state.old) }
 {
     if taken.has_expression && !is_mixed(at.kind) {
         return Err(state.fault_form(FaultKind::DefinitionPlace, form, &at.place));
     }
     let label = state.bind_variable(&at.frame, &at.place, at.level, is_top(at.kind), id)?;
-    settle(state, at, taken, id, label)
+    in_time(state, at, taken, id)?;
+    Ok(label)
+}
+
+/// Binds a keyword that a form of a body defines. It waits for its expression.
+#[tactic(auto, unfolding(crate::specs::Items::define_keyword))]
+pub fn define_keyword(
+    state: &mut Expansion,
+    at: &BodyAt,
+    taken: &Taken,
+    form: &Syn,
+    spec: &BindingSpec,
+) -> Result<BoundSpec, Stop>
+    ensures { GivesAfter (λ b. b) result state.new (define_keyword at.now taken.now form.now spec.now state.old) }
+{
+    if taken.has_expression && !is_mixed(at.kind) {
+        return Err(state.fault_form(FaultKind::DefinitionPlace, form, &at.place));
+    }
+    let bound = state.bind_keyword(&at.frame, &at.place, at.level, spec)?;
+    keyword_in_time(state, at, taken, &spec.id)?;
+    Ok(bound)
 }
 
 fn defined(
@@ -236,6 +256,36 @@ fn define_item(
     }
 }
 
+/// A form that waits as an expression.
+fn alone(
+    state: &mut Expansion,
+    at: &BodyAt,
+    depth: u16,
+    taken: &mut Taken,
+    form: &Syn,
+) -> Result<Item, Stop>
+    ensures { GivesAfter (λ i. (taken.new, i)) result state.new (alone (wait at.now depth taken.old form.now) state.old) }
+{
+    wait(state, at, depth, taken, form)?;
+    Ok(Item::Nothing)
+}
+
+fn target_item(
+    state: &mut Expansion,
+    at: &BodyAt,
+    depth: u16,
+    taken: &mut Taken,
+    form: &Syn,
+    standing: &Standing,
+) -> Result<Item, Stop>
+    ensures { GivesAfter (λ i. (taken.new, i)) result state.new (target_item at.now depth taken.old form.now standing.now state.old) }
+{
+    match standing {
+        Standing::Keyword(label) => Ok(Item::SetUse(label.share()?)),
+        _ => alone(state, at, depth, taken, form),
+    }
+}
+
 fn set_item(
     state: &mut Expansion,
     at: &BodyAt,
@@ -243,17 +293,52 @@ fn set_item(
     taken: &mut Taken,
     form: &Syn,
     which: CoreForm,
-) -> Result<(), Stop>
-    ensures { GivesAfter (λ _. taken.new) result state.new (set_item at.now depth taken.old form.now (shape which form.now at.now.place) state.old) }
+) -> Result<Item, Stop>
+    ensures { GivesAfter (λ i. (taken.new, i)) result state.new (set_item at.now depth taken.old form.now (shape which form.now at.now.place) state.old) }
 {
     match shape(state.alloc(), form, which, &at.place) {
         Ok(Shape::Set(id, _)) => {
             keep(state, taken, &id)?;
-            wait(state, at, depth, taken, form)
+            let standing = state.standing(&id)?;
+            target_item(state, at, depth, taken, form, &standing)
         }
-        Ok(_) => wait(state, at, depth, taken, form),
-        Err(Stop::Fault(_)) => wait(state, at, depth, taken, form),
+        Ok(_) => alone(state, at, depth, taken, form),
+        Err(Stop::Fault(_)) => alone(state, at, depth, taken, form),
         Err(Stop::Memory) => Err(Stop::Memory),
+    }
+}
+
+#[tactic(auto, unfolding(crate::specs::Items::begin_item))]
+fn begin_item(
+    state: &mut Expansion,
+    at: &BodyAt,
+    taken: &Taken,
+    form: &Syn,
+    shape: Shape,
+) -> Result<Item, Stop>
+    ensures { GivesAfter (λ i. (taken.now, i)) result state.new (begin_item at.now taken.now form.now shape state.old) }
+{
+    match shape {
+        Shape::Begin(forms) => Ok(Item::Forms(forms)),
+        _ => Err(state.fault_form(FaultKind::BadForm, form, &at.place)),
+    }
+}
+
+#[tactic(auto, unfolding(crate::specs::Items::keywords_item))]
+fn keywords_item(
+    state: &mut Expansion,
+    at: &BodyAt,
+    taken: &Taken,
+    form: &Syn,
+    which: CoreForm,
+    shape: Shape,
+) -> Result<Item, Stop>
+    ensures { GivesAfter (λ i. (taken.now, i)) result state.new (keywords_item at.now taken.now form.now which shape state.old) }
+{
+    match shape {
+        Shape::DefineSyntax(id, init) => Ok(Item::Keyword(BindingSpec { id, init })),
+        Shape::LetSyntax(specs, forms) => Ok(Item::Keywords(is_letrec_syntax(which), specs, forms)),
+        _ => Err(state.fault_form(FaultKind::BadForm, form, &at.place)),
     }
 }
 
@@ -265,15 +350,12 @@ fn core_item(
     taken: &mut Taken,
     form: &Syn,
     which: CoreForm,
-) -> Result<Option<Items<Syn>>, Stop>
-    ensures { GivesAfter (λ forms. (taken.new, forms)) result state.new (core_item at.now depth taken.old form.now which state.old) }
+) -> Result<Item, Stop>
+    ensures { GivesAfter (λ i. (taken.new, i)) result state.new (core_item at.now depth taken.old form.now which state.old) }
 {
     match role_of(which) {
         Role::Expression => alone(state, at, depth, taken, form),
-        Role::Assignment => {
-            set_item(state, at, depth, taken, form, which)?;
-            Ok(None)
-        }
+        Role::Assignment => set_item(state, at, depth, taken, form, which),
         Role::Sequence => {
             let shape = shape(state.alloc(), form, which, &at.place)?;
             begin_item(state, at, taken, form, shape)
@@ -281,42 +363,16 @@ fn core_item(
         Role::Definition => {
             let shape = shape(state.alloc(), form, which, &at.place)?;
             define_item(state, at, depth, taken, form, shape)?;
-            Ok(None)
+            Ok(Item::Nothing)
         }
-        Role::Keywords => Err(state.fault_form(FaultKind::NotBuilt, form, &at.place)),
+        Role::Keywords => {
+            let shape = shape(state.alloc(), form, which, &at.place)?;
+            keywords_item(state, at, taken, form, which, shape)
+        }
         Role::Record => Err(state.fault_form(FaultKind::NotBuilt, form, &at.place)),
         Role::RecordValue => Err(state.fault_form(FaultKind::NotBuilt, form, &at.place)),
         Role::Auxiliary => alone(state, at, depth, taken, form),
     }
-}
-
-#[tactic(auto, unfolding(crate::specs::Items::begin_item))]
-fn begin_item(
-    state: &mut Expansion,
-    at: &BodyAt,
-    taken: &Taken,
-    form: &Syn,
-    shape: Shape,
-) -> Result<Option<Items<Syn>>, Stop>
-    ensures { GivesAfter (λ forms. (taken.now, forms)) result state.new (begin_item at.now taken.now form.now shape state.old) }
-{
-    match shape {
-        Shape::Begin(forms) => Ok(Some(forms)),
-        _ => Err(state.fault_form(FaultKind::BadForm, form, &at.place)),
-    }
-}
-
-fn alone(
-    state: &mut Expansion,
-    at: &BodyAt,
-    depth: u16,
-    taken: &mut Taken,
-    form: &Syn,
-) -> Result<Option<Items<Syn>>, Stop>
-    ensures { GivesAfter (λ forms. (taken.new, forms)) result state.new (alone (wait at.now depth taken.old form.now) state.old) }
-{
-    wait(state, at, depth, taken, form)?;
-    Ok(None)
 }
 
 fn headed_item(
@@ -326,8 +382,8 @@ fn headed_item(
     taken: &mut Taken,
     form: &Syn,
     standing: &Standing,
-) -> Result<Option<Items<Syn>>, Stop>
-    ensures { GivesAfter (λ forms. (taken.new, forms)) result state.new (headed_item at.now depth taken.old form.now standing.now state.old) }
+) -> Result<Item, Stop>
+    ensures { GivesAfter (λ i. (taken.new, i)) result state.new (headed_item at.now depth taken.old form.now standing.now state.old) }
 {
     match standing {
         Standing::Nothing => alone(state, at, depth, taken, form),
@@ -335,7 +391,8 @@ fn headed_item(
         Standing::PatternVariable => alone(state, at, depth, taken, form),
         Standing::Primitive(_) => alone(state, at, depth, taken, form),
         Standing::Core(which) => core_item(state, at, depth, taken, form, *which),
-        Standing::Keyword(_) => Err(state.fault_form(FaultKind::NotBuilt, form, &at.place)),
+        Standing::Keyword(label) => Ok(Item::Use(label.share()?)),
+        Standing::Unbuilt => Err(state.fault_form(FaultKind::NotBuilt, form, &at.place)),
     }
 }
 
@@ -347,8 +404,8 @@ fn list_item(
     taken: &mut Taken,
     form: &Syn,
     head: &Syn,
-) -> Result<Option<Items<Syn>>, Stop>
-    ensures { GivesAfter (λ forms. (taken.new, forms)) result state.new (list_item at.now depth taken.old form.now head.now state.old) }
+) -> Result<Item, Stop>
+    ensures { GivesAfter (λ i. (taken.new, i)) result state.new (list_item at.now depth taken.old form.now head.now state.old) }
 {
     if !is_id(state.alloc(), head)? {
         return alone(state, at, depth, taken, form);
@@ -358,7 +415,43 @@ fn list_item(
     headed_item(state, at, depth, taken, form, &standing)
 }
 
-/// What comes of a form of a body: for a `begin` its forms, which are forms of the body.
+fn leaf_by(
+    state: &mut Expansion,
+    at: &BodyAt,
+    depth: u16,
+    taken: &mut Taken,
+    form: &Syn,
+    standing: &Standing,
+) -> Result<Item, Stop>
+    ensures { GivesAfter (λ i. (taken.new, i)) result state.new (leaf_by at.now depth taken.old form.now standing.now state.old) }
+{
+    match standing {
+        Standing::Nothing => alone(state, at, depth, taken, form),
+        Standing::Variable(_) => alone(state, at, depth, taken, form),
+        Standing::PatternVariable => alone(state, at, depth, taken, form),
+        Standing::Primitive(_) => alone(state, at, depth, taken, form),
+        Standing::Core(_) => alone(state, at, depth, taken, form),
+        Standing::Keyword(label) => Ok(Item::Use(label.share()?)),
+        Standing::Unbuilt => Err(state.fault_form(FaultKind::NotBuilt, form, &at.place)),
+    }
+}
+
+#[tactic(auto, unfolding(crate::specs::Items::leaf_item))]
+fn leaf_item(
+    state: &mut Expansion,
+    at: &BodyAt,
+    depth: u16,
+    taken: &mut Taken,
+    form: &Syn,
+) -> Result<Item, Stop>
+    ensures { GivesAfter (λ i. (taken.new, i)) result state.new (leaf_item at.now depth taken.old form.now state.old) }
+{
+    keep(state, taken, form)?;
+    let standing = state.standing(form)?;
+    leaf_by(state, at, depth, taken, form, &standing)
+}
+
+/// What comes of a form of a body: what else is to be done with it. A use of a keyword isn't made here.
 #[tactic(auto, using(crate::proofs::Levels::item_leaf, crate::proofs::Levels::item_atom, crate::proofs::Levels::item_pair, crate::proofs::Levels::item_vector))]
 pub fn item_plan(
     state: &mut Expansion,
@@ -366,14 +459,11 @@ pub fn item_plan(
     depth: u16,
     taken: &mut Taken,
     form: &Syn,
-) -> Result<Option<Items<Syn>>, Stop>
-    ensures { GivesAfter (λ forms. (taken.new, forms)) result state.new (item_plan at.now depth taken.old form.now state.old) }
+) -> Result<Item, Stop>
+    ensures { GivesAfter (λ i. (taken.new, i)) result state.new (item_plan at.now depth taken.old form.now state.old) }
 {
     match form.open(state.alloc())? {
-        Opened::Symbol(_) => {
-            leaf_item(state, at, depth, taken, form)?;
-            Ok(None)
-        }
+        Opened::Symbol(_) => leaf_item(state, at, depth, taken, form),
         Opened::Atom(_) => alone(state, at, depth, taken, form),
         Opened::Pair(head, _) => list_item(state, at, depth, taken, form, &head),
         Opened::Vector(_) => alone(state, at, depth, taken, form),

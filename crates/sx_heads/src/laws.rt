@@ -1,6 +1,6 @@
 //! Laws of what was kept. Each function here computes nothing: what it promises is the law.
 
-ghost use Rattle.std.specs.Prelude.{◌≡◌, ◌≢◌, ℕ, List, [], ◌∷◌, ◌++◌, filter, false, nat_eq, Some};
+ghost use Rattle.std.specs.Prelude.{◌≡◌, ◌≢◌, ℕ, Bool, List, [], ◌∷◌, ◌++◌, filter, false, nat_eq, Some};
 ghost use Rattle.std.specs.Cmp.Lexicographic.{pointwise};
 ghost use Rattle.sx_base.specs.declared.name.FrameNo.{FrameNo};
 ghost use Rattle.sx_base.specs.declared.name.Label.{Label};
@@ -27,8 +27,8 @@ pub fn a_bind_changes_its_symbol_alone()
 
 /// To ask the heads of a binder's symbol is to ask them all: where none was changed before the binder, it
 /// has changed one of its symbol or none. A head is kept with its own symbol, and with a label that was
-/// there before the binder's.
+/// there before the binder's. This holds for heads that stood for keywords, and for all heads.
 pub fn no_changed_head_is_lost()
-    ensures { (s : State) (f : FrameNo) (r : Row) (b : Binding) (ks : List KeptHead) → AreNamed ks → AreOthers r.label ks →
-        any_changed s ks ≡ false → any_changed (with_binder s f r b) (heads_of r.symbol (kept_all [] ks)) ≡ any_changed (with_binder s f r b) ks }
+    ensures { (keyword : Bool) (s : State) (f : FrameNo) (r : Row) (b : Binding) (ks : List KeptHead) → AreNamed ks → AreOthers r.label ks →
+        any_changed keyword s ks ≡ false → any_changed keyword (with_binder s f r b) (heads_of r.symbol (kept_all [] ks)) ≡ any_changed keyword (with_binder s f r b) ks }
 {}

@@ -3,12 +3,14 @@
 ghost use Rattle.std.specs.Prelude.{◌≡◌, ◌∷◌, []};
 ghost use Rattle.sx_base.specs.Act.{GivesAfter, give};
 ghost use Rattle.sx_core.specs.Core.{variable, quoted};
+ghost use Rattle.sx_core.specs.declared.core_form.CoreForm.TheVariants as core_forms;
+ghost use Rattle.sx_shapes.specs.At.{place_of};
 ghost use Rattle.sx_core.specs.CoreView.{seen};
 ghost use Rattle.sx_shapes.specs.Forms.{shape};
 ghost use Rattle.sx_shapes.specs.Lists.{is_nil_atom};
 ghost use Rattle.sx_tree.specs.Leaves.{strip};
 ghost use Rattle.sx_heads.specs.declared.plan.Plan.TheVariants as plans;
-ghost use Rattle.sx_heads.specs.Plan.{done, plan_of, list_plan, by_head, keyword_plan, with_shape, shape_plan, application, in_sequence, assign, is_star, reference, refer, variable_at, constant, target, target_by, target_variable};
+ghost use Rattle.sx_heads.specs.Plan.{done, plan_of, list_plan, by_head, keyword_plan, with_shape, shape_plan, application, in_sequence, assign, is_star, is_letrec_syntax, keywords_plan, operand_plan, reference, refer, variable_at, constant, target_by, target_variable};
 
 use sx_base::atom::Atom;
 use sx_base::fault::{FaultKind, Stop};
@@ -17,9 +19,10 @@ use sx_base::name::Label;
 use sx_base::span::Span;
 use sx_core::code::{Core, CoreNode};
 use sx_core::core_form::CoreForm;
+use sx_shapes::at::place_of;
 use sx_shapes::forms::shape;
 use sx_shapes::lists::{is_id, is_nil_atom, proper};
-use sx_shapes::shape::{BindingSpec, FormalIds, LambdaCase, Shape};
+use sx_shapes::shape::{BindingSpec, FormalIds, LambdaCase, PatternCase, Shape};
 use sx_standing::expansion::Expansion;
 use sx_standing::standing::{Role, Standing, Variable, role_of};
 use sx_syntax::syn::{Opened, Syn};
@@ -40,6 +43,14 @@ pub enum Plan {
     CaseLambda(Items<LambdaCase>),
     /// Of `letrec*` where the flag is true.
     Letrec(bool, Items<BindingSpec>, Items<Syn>),
+    /// `syntax-case`: the subject, the literals, the clauses, and where the form stands.
+    Matching(Syn, Items<Syn>, Items<PatternCase>, Span),
+    /// `let-syntax`, or `letrec-syntax` where the flag is true: keywords, and expressions.
+    Keywords(bool, Items<BindingSpec>, Items<Syn>),
+    /// A use of a keyword: the form is to be replaced by what its transformer gives.
+    Use(Label),
+    /// An assignment to a keyword, and its target: a use if the keyword is a variable transformer.
+    SetUse(Label, Syn),
 }
 
 /// Whether it is `letrec*`.
@@ -47,6 +58,13 @@ fn is_star(form: CoreForm) -> bool
     ensures { result ≡ is_star form }
 {
     matches!(form, CoreForm::LetrecStar)
+}
+
+/// Whether it is `letrec-syntax`.
+pub(crate) fn is_letrec_syntax(form: CoreForm) -> bool
+    ensures { result ≡ is_letrec_syntax form }
+{
+    matches!(form, CoreForm::LetrecSyntax)
 }
 
 fn done(state: &Expansion, node: CoreNode) -> Result<Plan, Stop>
@@ -121,7 +139,8 @@ fn refer(
         Standing::PatternVariable => Err(state.fault_word(FaultKind::KeywordMisuse, id, id, place)),
         Standing::Primitive(op) => done(state, CoreNode::Prim(*op)),
         Standing::Core(_) => Err(state.fault_word(FaultKind::KeywordMisuse, id, id, place)),
-        Standing::Keyword(_) => Err(state.fault_form(FaultKind::NotBuilt, id, place)),
+        Standing::Keyword(label) => Ok(Plan::Use(label.share()?)),
+        Standing::Unbuilt => Err(state.fault_form(FaultKind::NotBuilt, id, place)),
     }
 }
 
@@ -182,21 +201,8 @@ fn target_by(
         Standing::Primitive(_) => Err(state.fault_word(FaultKind::AssignedImport, id, form, place)),
         Standing::Core(_) => Err(state.fault_word(FaultKind::KeywordMisuse, id, form, place)),
         Standing::Keyword(_) => Err(state.fault_word(FaultKind::KeywordMisuse, id, form, place)),
+        Standing::Unbuilt => Err(state.fault_word(FaultKind::KeywordMisuse, id, form, place)),
     }
-}
-
-#[tactic(auto, unfolding(crate::specs::Plan::target))]
-fn target(
-    state: &mut Expansion,
-    form: &Syn,
-    id: &Syn,
-    place: &Span,
-    level: u32,
-) -> Result<Label, Stop>
-    ensures { GivesAfter (λ l. l) result state.new (target place.now level form.now id.now state.old) }
-{
-    let standing = state.standing(id)?;
-    target_by(state, form, id, &standing, place, level)
 }
 
 #[tactic(auto, unfolding(crate::specs::Plan::assign))]
@@ -210,7 +216,11 @@ fn assign(
 ) -> Result<Plan, Stop>
     ensures { GivesAfter (λ p. p) result state.new (assign place.now level form.now id.now value state.old) }
 {
-    let label = target(state, form, id, place, level)?;
+    let standing = state.standing(id)?;
+    if let Standing::Keyword(label) = &standing {
+        return Ok(Plan::SetUse(label.share()?, id.share()?));
+    }
+    let label = target_by(state, form, id, &standing, place, level)?;
     Ok(Plan::Assignment(label, value))
 }
 
@@ -239,6 +249,68 @@ fn in_sequence(state: &Expansion, form: &Syn, forms: Items<Syn>, place: &Span) -
     Ok(Plan::Sequence(forms))
 }
 
+fn keywords_plan(
+    state: &Expansion,
+    form: &Syn,
+    which: CoreForm,
+    specs: Items<BindingSpec>,
+    forms: Items<Syn>,
+    place: &Span,
+) -> Result<Plan, Stop>
+    ensures { GivesAfter (λ p. p) result state.now (keywords_plan place.now form.now which specs forms state.now) }
+{
+    if forms.as_slice().is_empty() {
+        return Err(state.fault_form(FaultKind::NoExpression, form, place));
+    }
+    Ok(Plan::Keywords(is_letrec_syntax(which), specs, forms))
+}
+
+/// The instance of a template.
+fn syntax_plan(
+    state: &mut Expansion,
+    form: &Syn,
+    operand: &Syn,
+    place: &Span,
+    level: u32,
+) -> Result<Plan, Stop>
+    ensures { GivesAfter (λ p. p) result state.new (operand_plan place.now level form.now core_forms.Syntax operand.now state.old) }
+{
+    let template = state.template(operand, place, level)?;
+    let span = place_of(form, place)?;
+    done(state, CoreNode::Syntax(template, span))
+}
+
+fn operand_plan(
+    state: &mut Expansion,
+    form: &Syn,
+    which: CoreForm,
+    operand: &Syn,
+    place: &Span,
+    level: u32,
+) -> Result<Plan, Stop>
+    ensures { GivesAfter (λ p. p) result state.new (operand_plan place.now level form.now which operand.now state.old) }
+{
+    match which {
+        CoreForm::Syntax => syntax_plan(state, form, operand, place, level),
+        _ => Err(state.fault_form(FaultKind::NotBuilt, form, place)),
+    }
+}
+
+/// `syntax-case`.
+fn matching(
+    state: &Expansion,
+    form: &Syn,
+    subject: Syn,
+    literals: Items<Syn>,
+    clauses: Items<PatternCase>,
+    place: &Span,
+) -> Result<Plan, Stop>
+    ensures { GivesAfter (λ p. p) result state.now (give (plans.Matching subject literals clauses (place_of form.now place.now)) state.now) }
+{
+    let span = place_of(form, place)?;
+    Ok(Plan::Matching(subject, literals, clauses, span))
+}
+
 #[tactic(auto, unfolding(crate::specs::Plan::shape_plan))]
 fn shape_plan(
     state: &mut Expansion,
@@ -264,10 +336,12 @@ fn shape_plan(
             form,
             place,
         )),
-        Shape::DefineSyntax(_, _) => Err(state.fault_form(FaultKind::NotBuilt, form, place)),
-        Shape::LetSyntax(_, _) => Err(state.fault_form(FaultKind::NotBuilt, form, place)),
-        Shape::Operand(_) => Err(state.fault_form(FaultKind::NotBuilt, form, place)),
-        Shape::SyntaxCase(_, _, _) => Err(state.fault_form(FaultKind::NotBuilt, form, place)),
+        Shape::DefineSyntax(_, _) => Err(state.fault_form(FaultKind::DefinitionPlace, form, place)),
+        Shape::LetSyntax(specs, forms) => keywords_plan(state, form, which, specs, forms, place),
+        Shape::Operand(operand) => operand_plan(state, form, which, &operand, place, level),
+        Shape::SyntaxCase(subject, literals, clauses) => matching(
+            state, form, subject, literals, clauses, place,
+        ),
     }
 }
 
@@ -324,7 +398,8 @@ fn by_head(
         Standing::PatternVariable => application(state, form, head, rest, place),
         Standing::Primitive(_) => application(state, form, head, rest, place),
         Standing::Core(which) => keyword_plan(state, form, head, *which, place, level),
-        Standing::Keyword(_) => Err(state.fault_form(FaultKind::NotBuilt, form, place)),
+        Standing::Keyword(label) => Ok(Plan::Use(label.share()?)),
+        Standing::Unbuilt => Err(state.fault_form(FaultKind::NotBuilt, form, place)),
     }
 }
 

@@ -61,4 +61,6 @@ pub struct Taken {
     pub waiting: Items<Waiting>,
     pub kept: KeptHeads,
     pub has_expression: bool,
+    /// Whether a head stands for another label than when it was kept.
+    pub moved: bool,
 }

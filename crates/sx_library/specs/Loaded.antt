@@ -5,6 +5,7 @@ use Rattle.sx_base.specs.Gives.{◌>>=◌}
 use Rattle.sx_base.specs.declared.fault.Fault.{Fault}
 use Rattle.sx_core.specs.declared.record.LibRecord.{LibRecord}
 use Rattle.sx_core_text.specs.Whole.{core_text}
+use Rattle.sx_eval.specs.Codes.{Codes}
 use Rattle.sx_forms.specs.Form.{library_body, program_body}
 use Rattle.sx_import.specs.Turns.{turns}
 use Rattle.sx_standing.specs.Start.{records_at}
@@ -16,21 +17,21 @@ use Rattle.sx_library.specs.Library.{expand_library}
 use Rattle.sx_planned.specs.Plan.{plan_of}
 
 -- the record of a library or program behind those that it needs
-abbrev pub expand_found : List LibRecord → Found → List PlainDatum → Result LibRecord Fault
-expand_found records found body = expand_library (records_at records (needed found)) found.opened.path found.opened.form body
+abbrev pub expand_found : Result Codes Fault → List LibRecord → Found → List PlainDatum → Result LibRecord Fault
+expand_found prelude records found body = expand_library prelude (records_at records (needed found)) found.opened.path found.opened.form body
 
-abbrev pub expand_next : List LibRecord → List ℕ × Found → Result (List LibRecord) Fault
-expand_next records row = expand_found records row.1 (library_body row.1.opened.«data») >>= (λ r. Ok (records ++ r ∷ []))
+abbrev pub expand_next : Result Codes Fault → List LibRecord → List ℕ × Found → Result (List LibRecord) Fault
+expand_next prelude records row = expand_found prelude records row.1 (library_body row.1.opened.«data») >>= (λ r. Ok (records ++ r ∷ []))
 
 -- the records of libraries, in the order of loading
-abbrev pub all_records : List (List ℕ × Found) → Result (List LibRecord) Fault
-all_records rows = turns expand_next [] rows
+abbrev pub all_records : Result Codes Fault → List (List ℕ × Found) → Result (List LibRecord) Fault
+all_records prelude rows = turns (expand_next prelude) [] rows
 
 abbrev pub planned_text : List LibRecord → LibRecord → Result (List ℕ) Fault
 planned_text records program = core_text records (plan_of records program) program
 
 -- the core text of a program that was loaded, or the first fault: each library is expanded before any further file is
 -- looked for
-unfoldable pub text_of : Loads (Found × Loading) → Result (List ℕ) Fault
-text_of (Ok l) = all_records l.1.done >>= (λ records. expand_found records l.0 (program_body l.0.opened.«data») >>= (λ program. planned_text records program))
-text_of (Err e) = all_records e.0.done >>= (λ records. Err e.1)
+unfoldable pub text_of : Result Codes Fault → Loads (Found × Loading) → Result (List ℕ) Fault
+text_of prelude (Ok l) = all_records prelude l.1.done >>= (λ records. expand_found prelude records l.0 (program_body l.0.opened.«data») >>= (λ program. planned_text records program))
+text_of prelude (Err e) = all_records prelude e.0.done >>= (λ records. Err e.1)

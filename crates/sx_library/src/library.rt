@@ -1,30 +1,38 @@
 //! The record of a library or a program.
 
-ghost use Rattle.std.specs.Prelude.{◌≡◌, [], IfOk, Ok, map};
+ghost use Rattle.std.specs.Prelude.{◌≡◌, [], false, IfOk, Ok, map};
 ghost use Rattle.sx_base.specs.Gives.{Gives, StopsWith};
-ghost use Rattle.sx_expand.specs.Expanding.{ready};
+ghost use Rattle.sx_eval.specs.Codes as table;
+ghost use Rattle.sx_expand.specs.Expanding.{ready, library_record};
+ghost use Rattle.sx_prelude.specs.Prelude.{kept};
 ghost use Rattle.sx_library.specs.Records.{needed_records};
-ghost use Rattle.sx_library.specs.Library.{at_datum, tree_at, trees_at, export_tree, expand_library};
+ghost use Rattle.sx_library.specs.Library.{at_datum, tree_at, trees_at, export_tree, expander_of, expand_library};
 
 use crate::imports::form_names;
 use crate::records::Records;
+use indexmap::IndexMap;
 use std::alloc::Global;
+use std::rc::Rc;
 use std::sync::ledger::Ledger;
 use sx_base::datum::Datum;
 use sx_base::fault::{Bare, BareStop, Fault, Stop};
 use sx_base::items::Items;
 use sx_base::library::LibName;
 use sx_base::memory::Memory;
-use sx_base::name::Label;
+use sx_base::name::{CodeNo, Label};
 use sx_base::span::Span;
-use sx_base::steps::Steps;
 use sx_base::symbol::Symbol;
+use sx_core::code::Code;
 use sx_core::record::LibRecord;
 use sx_expand::expander::Expander;
 use sx_forms::form::LibraryForm;
 use sx_import::names::rows;
 use sx_import::set::NameAt;
 use sx_import::table::Table;
+use sx_prelude::prelude::Prelude;
+use sx_prims::table::PrimTable;
+use sx_stage::earlier::Earlier;
+use sx_standing::means::{Counts, Means};
 use sx_standing::share::share_library;
 use sx_syntax::syn::Syn;
 use sx_tree::marks::Marks;
@@ -33,27 +41,77 @@ use sx_tree::marks::Marks;
 /// are those of `records` that `needs` marks. First each library that it imports must fit, then each
 /// name, and then the body is expanded.
 #[tactic(auto, unfolding(crate::specs::Library::expand_library))]
-pub fn expand_library<N: Ledger>(
+pub fn expand_library<N: Ledger, L: Ledger>(
     alloc: Global,
+    prelude: &Prelude,
     records: &Records,
     needs: &[bool],
     path: &Symbol,
     form: &LibraryForm,
     body: &[Datum],
-    nodes: &mut Steps<N>,
+    prims: &PrimTable,
+    counts: &mut Counts<N, L>,
 ) -> Result<LibRecord, Stop>
-    ensures { Gives (λ r. r) result (expand_library (needed_records records.now needs.now) path.now form.now body.now) }
+    ensures { Gives (λ r. r) result (expand_library (kept prelude.now) (needed_records records.now needs.now) path.now form.now body.now) }
 {
-    let place = &form.name_span;
     let names = form_names(alloc, records, needs, form.imports.as_slice())?;
-    let forms = trees_at(alloc, place, body)?;
     let names = rows(alloc, &names)?;
+    let forms = trees_at(alloc, &form.name_span, body)?;
     let exports = export_trees(alloc, &form.exports)?;
-    let name = share_library(alloc, &form.name)?;
     let version = share_version(alloc, form.version.as_slice())?;
+    let begun = expander_of(alloc, prelude, form, path, records, needs, names.as_slice())?;
+    record_behind(
+        begun,
+        records,
+        needs,
+        forms.as_slice(),
+        &form.name_span,
+        exports.as_slice(),
+        version,
+        prims,
+        counts,
+    )
+}
+
+// An expander behind the records that are marked, which knows what the procedures mean that are texts.
+fn expander_of(
+    alloc: Global,
+    prelude: &Prelude,
+    form: &LibraryForm,
+    path: &Symbol,
+    records: &Records,
+    needs: &[bool],
+    names: &[(Symbol, Label)],
+) -> Result<Expander, Stop>
+    ensures { Gives (λ e. e) result (expander_of (kept prelude.now) form.now.name path.now (needed_records records.now needs.now) names.now) }
+{
+    let name = share_library(alloc, &form.name)?;
     let path = path.share()?;
-    let expander = expander_behind(alloc, name, path, records, needs, names.as_slice())?;
-    expander.top(forms.as_slice(), place, exports.as_slice(), version, nodes)
+    let codes = prelude.codes(alloc)?;
+    expander_behind(alloc, name, path, records, needs, names, codes)
+}
+
+// The record of a library, from its exports, its version and the forms of its body.
+fn record_behind<N: Ledger, L: Ledger>(
+    begun: Expander,
+    records: &Records,
+    needs: &[bool],
+    forms: &[Syn],
+    place: &Span,
+    exports: &[(Symbol, Syn)],
+    version: Items<u64>,
+    prims: &PrimTable,
+    counts: &mut Counts<N, L>,
+) -> Result<LibRecord, Stop>
+    requires { begun.failed ≡ false }
+    ensures { Gives (λ r. r) result (library_record begun (needed_records records.now needs.now) version place.now exports.now forms.now) }
+{
+    let earlier = Earlier {
+        records: records.ready().as_slice(),
+        needs,
+    };
+    let means = Means { earlier, prims };
+    begun.top(forms, place, exports, version, &means, counts)
 }
 
 // An expander behind the records that are marked.
@@ -64,10 +122,11 @@ fn expander_behind(
     records: &Records,
     needs: &[bool],
     names: &[(Symbol, Label)],
+    codes: IndexMap<CodeNo, Rc<Code>>,
 ) -> Result<Expander, Stop>
-    ensures { Gives (λ e. e) result (Ok (ready name path (needed_records records.now needs.now) names.now)) }
+    ensures { Gives (λ e. e) result (Ok (ready name path (needed_records records.now needs.now) names.now (table.seen codes.entries))) }
 {
-    Expander::new(alloc, name, path, records.ready(), needs, names)
+    Expander::new(alloc, name, path, records.ready(), needs, names, codes)
 }
 
 fn share_version(alloc: Global, version: &[u64]) -> Result<Items<u64>, Memory>

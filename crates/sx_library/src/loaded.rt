@@ -3,6 +3,7 @@
 ghost use Rattle.std.specs.Prelude.{◌≡◌, ◌∷◌, ◌++◌, [], IfOk, Ok, Err};
 ghost use Rattle.std.specs.String.{string_bytes};
 ghost use Rattle.sx_base.specs.Gives.{Gives, Stops};
+ghost use Rattle.sx_prelude.specs.Prelude.{kept};
 ghost use Rattle.sx_library.specs.Loaded.{expand_found, expand_next, all_records, planned_text, text_of};
 
 use crate::library::expand_library;
@@ -11,64 +12,74 @@ use std::alloc::Global;
 use std::sync::ledger::Ledger;
 use sx_base::datum::Datum;
 use sx_base::fault::{Fault, Stop};
-use sx_base::steps::Steps;
 use sx_core::record::LibRecord;
 use sx_core_text::whole::core_text;
 use sx_forms::form::{library_body, program_body};
 use sx_import::table::Table;
 use sx_load::found::{Found, Loading};
 use sx_planned::planned;
+use sx_prelude::prelude::Prelude;
+use sx_prims::table::PrimTable;
+use sx_standing::means::Counts;
 
 // The record of a library or program behind those that it needs.
-fn expand_found<N: Ledger>(
+fn expand_found<N: Ledger, L: Ledger>(
     alloc: Global,
+    prelude: &Prelude,
     records: &Records,
     found: &Found,
     body: &[Datum],
-    nodes: &mut Steps<N>,
+    prims: &PrimTable,
+    counts: &mut Counts<N, L>,
 ) -> Result<LibRecord, Stop>
-    ensures { Gives (λ r. r) result (expand_found records.now found.now body.now) }
+    ensures { Gives (λ r. r) result (expand_found (kept prelude.now) records.now found.now body.now) }
 {
     let opened = &found.opened;
     expand_library(
         alloc,
+        prelude,
         records,
         found.needs.as_slice(),
         &opened.path,
         &opened.form,
         body,
-        nodes,
+        prims,
+        counts,
     )
 }
 
-fn expand_next<N: Ledger>(
+fn expand_next<N: Ledger, L: Ledger>(
     alloc: Global,
+    prelude: &Prelude,
     records: &mut Records,
     found: &Found,
-    nodes: &mut Steps<N>,
+    prims: &PrimTable,
+    counts: &mut Counts<N, L>,
 ) -> Result<(), Stop>
-    ensures { Gives (λ _. records.new) result (expand_next records.old ([], found.now)) }
+    ensures { Gives (λ _. records.new) result (expand_next (kept prelude.now) records.old ([], found.now)) }
 {
     let body = library_body(found.opened.data.as_slice());
-    let record = expand_found(alloc, records, found, body, nodes)?;
+    let record = expand_found(alloc, prelude, records, found, body, prims, counts)?;
     records.push(alloc, record)?;
     Ok(())
 }
 
 // The records of libraries, in the order of loading.
-fn all_records<N: Ledger>(
+fn all_records<N: Ledger, L: Ledger>(
     alloc: Global,
+    prelude: &Prelude,
     libraries: &Table<Found>,
-    nodes: &mut Steps<N>,
+    prims: &PrimTable,
+    counts: &mut Counts<N, L>,
 ) -> Result<Records, Stop>
-    ensures { Gives (λ rs. rs) result (all_records libraries.now) }
+    ensures { Gives (λ rs. rs) result (all_records (kept prelude.now) libraries.now) }
 {
     let mut records = Records::new(alloc)?;
     for place in 0..libraries.size() {
         let Some((_, found)) = libraries.at(place) else {
             return Err(Stop::Memory);
         };
-        expand_next(alloc, &mut records, found, nodes)?;
+        expand_next(alloc, prelude, &mut records, found, prims, counts)?;
     }
     Ok(records)
 }
@@ -83,32 +94,36 @@ fn planned_text(alloc: Global, records: &[LibRecord], program: &LibRecord) -> Re
 
 /// The core text of a program that was loaded, or the first fault of a library or of the program.
 #[tactic(auto, unfolding(crate::specs::Loaded::text_of))]
-pub fn program_text<N: Ledger>(
+pub fn program_text<N: Ledger, L: Ledger>(
     alloc: Global,
+    prelude: &Prelude,
     found: &Found,
     loading: &Loading,
-    nodes: &mut Steps<N>,
+    prims: &PrimTable,
+    counts: &mut Counts<N, L>,
 ) -> Result<String, Stop>
-    ensures { Gives string_bytes result (text_of (Ok (found.now, loading.now))) }
+    ensures { Gives string_bytes result (text_of (kept prelude.now) (Ok (found.now, loading.now))) }
 {
-    let records = all_records(alloc, &loading.done, nodes)?;
+    let records = all_records(alloc, prelude, &loading.done, prims, counts)?;
     let body = program_body(found.opened.data.as_slice());
-    let program = expand_found(alloc, &records, found, body, nodes)?;
+    let program = expand_found(alloc, prelude, &records, found, body, prims, counts)?;
     let records = records.into_records();
     planned_text(alloc, &records, &program)
 }
 
 /// The first fault where loading stopped: that of a library before, or this one.
 #[tactic(auto, unfolding(crate::specs::Loaded::text_of))]
-pub fn first_fault<N: Ledger>(
+pub fn first_fault<N: Ledger, L: Ledger>(
     alloc: Global,
+    prelude: &Prelude,
     loading: &Loading,
     fault: Fault,
-    nodes: &mut Steps<N>,
+    prims: &PrimTable,
+    counts: &mut Counts<N, L>,
 ) -> Stop
-    ensures { Stops result (text_of (Err (loading.now, fault))) }
+    ensures { Stops result (text_of (kept prelude.now) (Err (loading.now, fault))) }
 {
-    match all_records(alloc, &loading.done, nodes) {
+    match all_records(alloc, prelude, &loading.done, prims, counts) {
         Ok(_) => Stop::Fault(fault),
         Err(stop) => stop,
     }

@@ -1,3 +1,5 @@
 pub mod Rows
 pub mod Adopted
 pub mod Starts
+pub mod Staged
+pub mod Outside

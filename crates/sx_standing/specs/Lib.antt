@@ -4,4 +4,6 @@ pub mod InScope
 pub mod Ready
 pub mod Binders
 pub mod Start
+pub mod Patterns
+pub mod Uses
 pub mod Own

@@ -5,7 +5,9 @@ use Rattle.sx_core.specs.Bindings.{bound_to}
 use Rattle.sx_core.specs.Labels.{has_label, with_label}
 use Rattle.sx_core.specs.declared.binding.Binding.{Binding}
 use Rattle.sx_core.specs.declared.binding.Binding.TheVariants as binding
-use Rattle.sx_standing.specs.State.{State, Does}
+use Rattle.sx_core.specs.Core.{PlainCore}
+use Rattle.sx_stage.specs.Stage.{expression_of}
+use Rattle.sx_standing.specs.State.{State, Does, stage_of}
 
 abbrev pub labels_with : List Label → List (List ℕ × Label) → List Label
 labels_with done [] = done
@@ -27,16 +29,27 @@ with_assigned a (binding.Macro level expression) = binding.Macro level expressio
 with_assigned a (binding.Core f) = binding.Core f
 with_assigned a (binding.Primitive op) = binding.Primitive op
 
-abbrev pub row_at : Bool → Label → Option Binding → List (Label × Binding)
-row_at a l None = []
-row_at a l (Some b) = (l, with_assigned a b) ∷ []
+-- a keyword of the library has its expression
+abbrev pub with_expression : Option PlainCore → Binding → Binding
+with_expression e (binding.Variable v) = binding.Variable v
+with_expression e (binding.PatternVariable level depth) = binding.PatternVariable level depth
+with_expression e (binding.Macro level expression) = binding.Macro level e
+with_expression e (binding.Core f) = binding.Core f
+with_expression e (binding.Primitive op) = binding.Primitive op
+
+abbrev pub completed : State → Label → Binding → Binding
+completed s l b = with_expression (expression_of l (stage_of s)) (with_assigned (has_label s.assigned l) b)
+
+abbrev pub row_at : State → Label → Option Binding → List (Label × Binding)
+row_at s l None = []
+row_at s l (Some b) = (l, completed s l b) ∷ []
 
 abbrev pub own_label : State → ℕ → Label
 own_label s n = record { 0 = record { library = s.names.library; number = n } }
 
 -- what the library's name of this number is bound to, if it is a label
 abbrev pub own_row : State → ℕ → List (Label × Binding)
-own_row s n = row_at (has_label s.assigned (own_label s n)) (own_label s n) (bound_to s.bindings (own_label s n))
+own_row s n = row_at s (own_label s n) (bound_to s.bindings (own_label s n))
 
 -- what the library's names below this number are bound to, rising by number
 abbrev pub own_below : State → ℕ → List (Label × Binding)

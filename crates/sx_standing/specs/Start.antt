@@ -8,6 +8,7 @@ use Rattle.sx_tree.specs.declared.frame_row.FrameRow.{FrameRow}
 use Rattle.sx_frames.specs.Scope.{adopted}
 use Rattle.sx_core.specs.declared.binding.Binding.{Binding}
 use Rattle.sx_core.specs.declared.record.LibRecord.{LibRecord}
+use Rattle.sx_eval.specs.Codes.{Codes}
 use Rattle.sx_standing.specs.State.{State}
 
 abbrev pub or_skip : Option LibRecord → List LibRecord → List LibRecord
@@ -41,9 +42,10 @@ first_frame library = record { 0 = first_name library }
 abbrev pub import_row : FrameNo → List ℕ × Label → FrameRow
 import_row frame n = record { frame = frame; symbol = n.0; marks = []; label = n.1 }
 
--- what the records before it bind, and the names that it imports; at most 1,000,000 keywords are used
-unfoldable pub started : LibName → List LibRecord → List (List ℕ × Label) → State
-started library records imports = record {
+-- what the records before it bind, and the names that it imports; at most 1,000,000 keywords are used. The codes are those of the
+-- procedures that are texts.
+unfoldable pub started : LibName → List LibRecord → List (List ℕ × Label) → Codes → State
+started library records imports codes = record {
   library = library;
   names = second_name library;
   frames = adopted [] (rows_of records ++ map (import_row (first_frame library)) imports);
@@ -53,4 +55,10 @@ started library records imports = record {
   uses_left = 1000000;
   index = 0;
   scope = [];
+  cells = [];
+  codes = codes;
+  globals = [];
+  evaluated = [];
+  keywords = [];
+  spent = 0;
 }

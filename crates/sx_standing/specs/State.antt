@@ -1,25 +1,32 @@
 -- The state of a library's expansion.
-use Rattle.std.specs.Prelude.{ℕ, ◌+◌, ◌<◌, ◌≡◌, List, [], ◌∷◌, Ok, refl}
+use Rattle.std.specs.Prelude.{ℕ, ◌+◌, List, [], ◌∷◌, Result, Ok, Err, refl}
 use Rattle.std.specs.Coded.{Coded, code_by, coded×, coded_ℕ, coded_list}
 use Rattle.sx_base.specs.Act.{Act, fail}
-use Rattle.sx_base.specs.Named.{Named, named_code}
+use Rattle.sx_base.specs.Named.{Named}
 use Rattle.sx_base.specs.contracts.library.LibName as libraries
 use Rattle.sx_base.specs.contracts.name.Label as labels
 use Rattle.sx_base.specs.declared.library.LibName.{LibName}
+use Rattle.sx_base.specs.declared.fault.Fault.{Fault}
 use Rattle.sx_base.specs.declared.fault.FaultKind.TheVariants as kind
 use Rattle.sx_base.specs.declared.name.Label.{Label}
 use Rattle.sx_base.specs.declared.name.FrameNo.{FrameNo}
 use Rattle.sx_base.specs.declared.span.Span.{Span}
 use Rattle.sx_tree.specs.Tree.{Tree}
-use Rattle.sx_frames.specs.Scope.{Scope, scope_code}
+use Rattle.sx_frames.specs.Scope.{Scope}
 use Rattle.sx_scope.specs.Stands.{symbol_of}
 use Rattle.sx_core.specs.Bindings.{bindings_code}
 use Rattle.sx_core.specs.declared.binding.Binding.{Binding}
+use Rattle.sx_value.specs.declared.cell.Cell.{Cell}
+use Rattle.sx_value.specs.declared.value.Value.{Value}
+use Rattle.sx_eval.specs.Codes.{Codes}
+use Rattle.sx_stage.specs.Stage.{PlainStage, stage_code}
+use Rattle.sx_stage.specs.declared.keyword.Keyword.{Keyword}
 use Rattle.sx_shapes.specs.At.{fault_at}
 
 -- the library; the next name; what symbols stand for in each frame; what labels are bound to; the labels that the library exports and
--- the variables that it assigns; how many uses of keywords are left; how many variables were bound at level 0; and the labels in scope
--- that aren't of the top
+-- the variables that it assigns; how many uses of keywords are left; how many variables were bound at level 0; the labels in scope that
+-- aren't of the top. Then what else the stage has on which transformers run: cells, codes, the values of the variables of libraries, the
+-- libraries that were evaluated, the keywords, and the fuel that was spent.
 pub record State : Type 0 where
   pub library : LibName
   pub names : Named
@@ -30,25 +37,63 @@ pub record State : Type 0 where
   pub uses_left : ℕ
   pub index : ℕ
   pub scope : List Label
+  pub cells : List Cell
+  pub codes : Codes
+  pub globals : List (Label × Value)
+  pub evaluated : List LibName
+  pub keywords : List (Label × Keyword)
+  pub spent : ℕ
+
+-- The stage of an expansion.
+
+abbrev pub stage_of : State → PlainStage
+stage_of s = record {
+  names = s.names;
+  frames = s.frames;
+  cells = s.cells;
+  codes = s.codes;
+  globals = s.globals;
+  evaluated = s.evaluated;
+  keywords = s.keywords;
+  spent = s.spent;
+}
+
+abbrev pub with_stage : PlainStage → State → State
+with_stage g s = record s {
+  names = g.names;
+  frames = g.frames;
+  cells = g.cells;
+  codes = g.codes;
+  globals = g.globals;
+  evaluated = g.evaluated;
+  keywords = g.keywords;
+  spent = g.spent;
+}
 
 -- a code of states, by that of their fields
 abbrev pub Fields : Type 0
-Fields = LibName × (Named × (Scope × (List (Label × Binding) × (List Label × (List Label × (ℕ × (ℕ × List Label)))))))
+Fields = LibName × (PlainStage × (List (Label × Binding) × (List Label × (List Label × (ℕ × (ℕ × List Label))))))
 
 abbrev pub fields_of : State → Fields
-fields_of s = (s.library, (s.names, (s.frames, (s.bindings, (s.exports, (s.assigned, (s.uses_left, (s.index, s.scope))))))))
+fields_of s = (s.library, (stage_of s, (s.bindings, (s.exports, (s.assigned, (s.uses_left, (s.index, s.scope)))))))
 
 abbrev pub of_fields : Fields → State
 of_fields f = record {
   library = f.0;
-  names = f.1.0;
-  frames = f.1.1.0;
-  bindings = f.1.1.1.0;
-  exports = f.1.1.1.1.0;
-  assigned = f.1.1.1.1.1.0;
-  uses_left = f.1.1.1.1.1.1.0;
-  index = f.1.1.1.1.1.1.1.0;
-  scope = f.1.1.1.1.1.1.1.1;
+  names = f.1.0.names;
+  frames = f.1.0.frames;
+  bindings = f.1.1.0;
+  exports = f.1.1.1.0;
+  assigned = f.1.1.1.1.0;
+  uses_left = f.1.1.1.1.1.0;
+  index = f.1.1.1.1.1.1.0;
+  scope = f.1.1.1.1.1.1.1;
+  cells = f.1.0.cells;
+  codes = f.1.0.codes;
+  globals = f.1.0.globals;
+  evaluated = f.1.0.evaluated;
+  keywords = f.1.0.keywords;
+  spent = f.1.0.spent;
 }
 
 abbrev pub labels_code : Coded (List Label)
@@ -56,11 +101,19 @@ labels_code = coded_list labels.the_row.coded
 
 abbrev pub state_code : Coded State
 state_code = code_by Fields
-    (coded× libraries.the_row.coded (coded× named_code (coded× scope_code (coded× bindings_code (coded× labels_code (coded× labels_code (coded× coded_ℕ (coded× coded_ℕ labels_code))))))))
+    (coded× libraries.the_row.coded (coded× stage_code (coded× bindings_code (coded× labels_code (coded× labels_code (coded× coded_ℕ (coded× coded_ℕ labels_code)))))))
     fields_of of_fields (λ _. refl)
 
 abbrev pub Does : Type 0 → Type 0
 Does A = Act State A
+
+-- what is done on the stage
+abbrev pub staged : {A : Type 0} → State → Result (A × PlainStage) Fault → Result (A × State) Fault
+staged s (Ok p) = Ok (p.0, with_stage p.1 s)
+staged s (Err f) = Err f
+
+abbrev pub on_stage : {A : Type 0} → Act PlainStage A → Does A
+on_stage m s = staged s (m (stage_of s))
 
 -- the next name of the library, which never comes again
 unfoldable pub fresh : Does Named

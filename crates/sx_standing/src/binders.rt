@@ -59,7 +59,7 @@ impl Expansion {
     }
 
     #[tactic(auto, using(crate::proofs::Rows::stops_at_row))]
-    fn bind_row(
+    pub(crate) fn bind_row(
         &mut self,
         frame: &FrameNo,
         id: &Syn,
@@ -68,14 +68,14 @@ impl Expansion {
     ) -> Result<(), Stop>
         ensures { GivesAfter (λ _. tt) result self.new (put_row id.now place.now frame.now label.now self.old) }
     {
-        match self.frames.bind(frame.share()?, id, label.share()?) {
+        match self.stage.bind(frame.share()?, id, label.share()?) {
             Ok(()) => Ok(()),
             Err(stop) => Err(stopped_at(stop, id, place)),
         }
     }
 
     /// Adds a row to the bindings. A label that has one is refused as want of memory is; no label of a new name has.
-    fn add_row(&mut self, label: Label, binding: Binding) -> Result<(), Memory>
+    pub(crate) fn add_row(&mut self, label: Label, binding: Binding) -> Result<(), Memory>
         ensures { OnOk result (self.new ≡ record self.old { bindings = self.old.bindings ++ (label, binding) ∷ [] }) }
     {
         if self.bindings.get(&label).is_some() {

@@ -14,7 +14,7 @@ use sx_base::name::Label;
 
 /// The labels that are in scope, each once, in the order of coming: what came last goes first.
 #[derive(Drop)]
-pub(crate) struct InScope {
+pub struct InScope {
     set: IndexSet<Label>,
 }
 
@@ -37,7 +37,7 @@ impl InScope {
         }
     }
 
-    fn has(&self, label: &Label) -> bool
+    pub(crate) fn has(&self, label: &Label) -> bool
         ensures { result ≡ has_label self.now label.now }
     {
         self.set.contains(label)
@@ -83,6 +83,21 @@ impl Expansion {
         ensures { self.new ≡ cut len self.old }
     {
         self.scope.truncate(len)
+    }
+
+    /// Nothing is in scope until `restore_scope` puts back what this gives. It takes no memory.
+    pub fn take_scope(&mut self) -> InScope
+        ensures taken { result ≡ self.old.scope }
+        ensures left { self.new ≡ record self.old { scope = [] } }
+    {
+        std::mem::replace(&mut self.scope, InScope::new(self.alloc))
+    }
+
+    /// What was in scope is so again. It takes no memory.
+    pub fn restore_scope(&mut self, scope: InScope)
+        ensures { self.new ≡ record self.old { scope = scope } }
+    {
+        self.scope = scope;
     }
 
     /// Whether a variable of the library is in scope. It takes no memory.

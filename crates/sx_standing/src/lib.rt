@@ -21,8 +21,11 @@
 pub mod binders;
 pub mod expansion;
 pub mod in_scope;
+pub mod means;
 pub mod own;
+pub mod patterns;
 pub mod ready;
 pub mod share;
 pub mod standing;
 pub mod start;
+pub mod uses;

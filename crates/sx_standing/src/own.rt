@@ -4,7 +4,7 @@ ghost use Rattle.std.specs.Prelude.{◌≡◌, ◌++◌, IfOk, OnOk};
 ghost use Rattle.sx_base.specs.Act.{GivesAfter};
 ghost use Rattle.sx_frames.specs.Listed.{rows_in};
 ghost use Rattle.sx_core.specs.Labels.{has_label};
-ghost use Rattle.sx_standing.specs.Own.{export_labels, mark_assigned, labels_with, with_assigned, own_row, own_bindings};
+ghost use Rattle.sx_standing.specs.Own.{export_labels, mark_assigned, labels_with, with_assigned, with_expression, completed, own_row, own_bindings};
 
 use crate::expansion::Expansion;
 use std::rc::Rc;
@@ -14,7 +14,7 @@ use sx_base::library::LibName;
 use sx_base::memory::Memory;
 use sx_base::name::{Label, Name};
 use sx_base::symbol::Symbol;
-use sx_core::binding::{Binding, VarInfo};
+use sx_core::binding::{Binding, Expression, VarInfo};
 use sx_core::labels::Labels;
 use sx_tree::frame_row::FrameRow;
 
@@ -48,7 +48,28 @@ fn with_assigned(assigned: bool, binding: &Binding) -> Result<Binding, Memory>
     }
 }
 
+fn with_expression(expression: Option<Expression>, binding: Binding) -> Binding
+    ensures { result ≡ with_expression expression binding }
+{
+    match binding {
+        Binding::Macro {
+            level,
+            expression: _,
+        } => Binding::Macro { level, expression },
+        other => other,
+    }
+}
+
 impl Expansion {
+    /// What a label of the library is bound to in its record.
+    fn completed(&self, label: &Label, binding: &Binding) -> Result<Binding, Memory>
+        ensures { IfOk result (λ b. b ≡ completed self.now label.now binding.now) }
+    {
+        let binding = with_assigned(self.assigned.has(label), binding)?;
+        let expression = self.stage.expression(label)?;
+        Ok(with_expression(expression, binding))
+    }
+
     /// The library that is expanded.
     pub fn library(&self) -> &LibName
         ensures { result.now ≡ self.now.library }
@@ -98,7 +119,7 @@ impl Expansion {
         match self.bindings.get(&label) {
             None => Ok(()),
             Some(binding) => {
-                let binding = with_assigned(self.assigned.has(&label), binding)?;
+                let binding = self.completed(&label, binding)?;
                 rows.push((label, binding))
             }
         }
@@ -109,7 +130,9 @@ impl Expansion {
     pub fn own_bindings(&mut self) -> Result<Items<(Label, Binding)>, Memory>
         ensures { IfOk result (λ rows. rows ≡ own_bindings self.old) }
     {
-        let next = self.names.next()?;
+        let Ok(next) = self.stage.fresh() else {
+            return Err(Memory);
+        };
         let mut rows = Items::new(self.alloc);
         for number in 0..next.number {
             self.add_own_row(&next.library, number, &mut rows)?;
@@ -121,7 +144,7 @@ impl Expansion {
     pub fn own_rows(&self) -> Result<Items<FrameRow>, Memory>
         ensures { IfOk result (λ rows. rows ≡ rows_in self.now.library self.now.frames) }
     {
-        let rows = self.frames.rows(&self.library)?;
+        let rows = self.stage.frames().rows(&self.library)?;
         Ok(Items::from_vec(rows))
     }
 }

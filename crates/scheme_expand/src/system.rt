@@ -1,0 +1,109 @@
+//! A run over the system, with all primitives.
+
+ghost use Rattle.std.specs.Prelude.{◌≡◌, ◌<◌};
+
+use crate::status::Status;
+use crate::top;
+use std::alloc::Global;
+use std::marker::Brand;
+use std::sync::ledger::{Blank, Ledger};
+use sx_base::memory::Memory;
+use sx_base::steps::Steps;
+use sx_ops::basics::basics;
+use sx_ops::characters::characters;
+use sx_ops::data::{data, trees};
+use sx_ops::equality::equality;
+use sx_ops::lists::{appended, gathered, indexed, lists};
+use sx_ops::numbers::numbers;
+use sx_ops::parts::{parts, unpacked};
+use sx_ops::raised::raising;
+use sx_ops::strings::{number_strings, string_comparisons, strings};
+use sx_ops::syntax::{identifiers, temporaries};
+use sx_outside::{HostFiles, HostSink};
+use sx_prims::table::{PrimRow, PrimTable};
+use sx_standing::means::Counts;
+
+// The rows with one more.
+fn with_row(rows: Vec<PrimRow>, row: PrimRow) -> Result<Vec<PrimRow>, Memory> {
+    let mut rows = rows;
+    rows.push(row)?;
+    Ok(rows)
+}
+
+// Both counters are borrowed for one time, as `Counts` has them.
+fn run_both<'a, N: Ledger, L: Ledger>(
+    rt: &HostRuntime,
+    words: &[String],
+    prims: &PrimTable,
+    nodes: &'a mut Steps<N>,
+    steps: &'a mut Steps<L>,
+) -> Result<Status, Memory> {
+    let alloc = rt.alloc();
+    let mut files = HostFiles::new(alloc, rt.clone()?);
+    let mut out = HostSink::new(rt.stdout());
+    let mut err = HostSink::new(rt.stderr());
+    let mut counts = Counts { nodes, steps };
+    Ok(top::run(
+        alloc,
+        words,
+        &mut files,
+        &mut out,
+        &mut err,
+        prims,
+        &mut counts,
+    ))
+}
+
+fn run_counted<N: Ledger, L: Ledger>(
+    rt: &HostRuntime,
+    words: &[String],
+    prims: &PrimTable,
+    nodes: Blank,
+    steps: Blank,
+) -> Result<Status, Memory>
+    requires name { nodes.name ≡ N.name }
+    requires parts { (nodes.parts ≡ N.parts) × (0 < N.parts) }
+    requires step_name { steps.name ≡ L.name }
+    requires step_parts { (steps.parts ≡ L.parts) × (0 < L.parts) }
+{
+    let mut nodes = Steps::<N>::open(nodes);
+    let mut steps = Steps::<L>::open(steps);
+    run_both(rt, words, prims, &mut nodes, &mut steps)
+}
+
+// A run whose nodes and fuel nobody counts. Rows in order always fill the table.
+fn run_with(rt: &HostRuntime, words: &[String], rows: Vec<PrimRow>) -> Result<Status, Memory> {
+    let Ok(prims) = PrimTable::fill(rows) else {
+        return Ok(Status::Memory);
+    };
+    run_counted::<Brand, Brand>(rt, words, &prims, Blank::new(1), Blank::new(1))
+}
+
+// The primitives are boxed here, since a call that handed boxes back would hide what they hold.
+fn run_boxed(rt: &HostRuntime, alloc: Global, words: &[String]) -> Result<Status, Memory> {
+    let rows = Vec::new(alloc);
+    let rows = with_row(rows, PrimRow::new(0, Box::new(alloc, basics)?))?;
+    let rows = with_row(rows, PrimRow::new(1, Box::new(alloc, numbers)?))?;
+    let rows = with_row(rows, PrimRow::new(2, Box::new(alloc, characters)?))?;
+    let rows = with_row(rows, PrimRow::new(3, Box::new(alloc, parts)?))?;
+    let rows = with_row(rows, PrimRow::new(4, Box::new(alloc, gathered)?))?;
+    let rows = with_row(rows, PrimRow::new(5, Box::new(alloc, lists)?))?;
+    let rows = with_row(rows, PrimRow::new(6, Box::new(alloc, appended)?))?;
+    let rows = with_row(rows, PrimRow::new(7, Box::new(alloc, indexed)?))?;
+    let rows = with_row(rows, PrimRow::new(8, Box::new(alloc, unpacked)?))?;
+    let rows = with_row(rows, PrimRow::new(9, Box::new(alloc, strings)?))?;
+    let rows = with_row(rows, PrimRow::new(10, Box::new(alloc, number_strings)?))?;
+    let rows = with_row(rows, PrimRow::new(11, Box::new(alloc, string_comparisons)?))?;
+    let rows = with_row(rows, PrimRow::new(12, Box::new(alloc, equality)?))?;
+    let rows = with_row(rows, PrimRow::new(13, Box::new(alloc, identifiers)?))?;
+    let rows = with_row(rows, PrimRow::new(14, Box::new(alloc, data)?))?;
+    let rows = with_row(rows, PrimRow::new(15, Box::new(alloc, trees)?))?;
+    let rows = with_row(rows, PrimRow::new(16, Box::new(alloc, temporaries)?))?;
+    let rows = with_row(rows, PrimRow::new(17, Box::new(alloc, raising)?))?;
+    run_with(rt, words, rows)
+}
+
+/// Runs the program over the system's files and streams.
+pub fn run_over_system(rt: &HostRuntime, words: &[String]) -> Result<Status, Memory> {
+    run_boxed(rt, rt.alloc(), words)
+}

@@ -1,0 +1,125 @@
+-- How states change where keywords are used and defined, and where patterns are compiled.
+use Rattle.std.proofs.Common.{◌≡◌, ℕ, List, [], Option, Result, Ok, Err, refl, sym, ◌∙◌, ap, arith, inl}
+use Rattle.sx_base.specs.Named.{Named}
+use Rattle.sx_base.specs.declared.fault.Fault.{Fault}
+use Rattle.sx_base.specs.declared.library.LibName.{LibName}
+use Rattle.sx_base.specs.declared.name.FrameNo.{FrameNo}
+use Rattle.sx_base.specs.declared.name.Label.{Label}
+use Rattle.sx_base.specs.declared.span.Span.{Span}
+use Rattle.sx_tree.specs.Tree.{Tree}
+use Rattle.sx_frames.specs.Scope.{rows_at}
+use Rattle.sx_core.specs.Bindings.{bound_to}
+use Rattle.sx_core.specs.Core.{PlainCore}
+use Rattle.sx_core.specs.declared.record.LibRecord.{LibRecord}
+use Rattle.sx_pattern.specs.Compile as patterns
+use Rattle.sx_pattern.specs.declared.compile.Compiled.{Compiled}
+use Rattle.sx_shapes.specs.At.{place_of}
+use Rattle.sx_stage.specs.Patterns as stage_patterns
+use Rattle.sx_stage.specs.Stage.{PlainStage}
+use Rattle.sx_stage.specs.Transformers as stage
+use Rattle.sx_stage.specs.Uses.{used}
+use Rattle.sx_standing.specs.InScope.{apart, restoring}
+use Rattle.sx_standing.specs.Patterns.{pattern_of, check_literals}
+use Rattle.sx_standing.specs.State.{State, Does, stage_of, with_stage, staged}
+use Rattle.sx_standing.specs.Uses.{use_keyword, asks_variable, macro_expression, finish_keyword}
+use Rattle.sx_expand.specs.Settle.{next_form}
+use Rattle.sx_expand_laws.specs.Stages.{StageLater, EndsLater, EndsKept}
+use Rattle.sx_expand_laws.specs.States.{IsKept, IndicesApart, Later}
+use Rattle.sx_expand_laws.proofs.Acts.{Gave, gave-after, gave-less}
+use Rattle.sx_expand_laws.proofs.Compiled.{Compiles, GaveBy, compiles}
+use Rattle.sx_expand_laws.proofs.Grows.{grows-same}
+use Rattle.sx_expand_laws.proofs.Later.{keeps-same, later-then}
+use Rattle.sx_expand_laws.proofs.Moved.{Names, Moved}
+use Rattle.sx_expand_laws.proofs.Stage.{stage-grows}
+
+module _ (own : LibName) where
+  pub stage-later : (s : State) (g : PlainStage) → Names own s → StageLater (stage_of s) g → Later own s (with_stage g s)
+  stage-later s g n h = record {
+    here = refl;
+    next = h.library ∙ n;
+    up = h.up;
+    same = λ f o. ap (rows_at f) h.frames;
+    grows = grows-same own s (with_stage g s) h.frames refl refl h.up;
+    scope = refl;
+    tops = λ l v o b. b;
+    keeps = record { kept = λ l lt k. h.kept l k; keywords = λ l level e o k. inl k };
+  }
+
+  pub staged-later : {A : Type 0} (s : State) (r : Result (A × PlainStage) Fault) → Names own s → EndsLater (stage_of s) r → Gave (Moved own s) (staged s r)
+  staged-later s (Ok p) n h = stage-later s p.1 n h
+  staged-later s (Err f) n h = tt
+
+  pub use-later : (rs : List LibRecord) (place : Span) (t : Tree) (l : Label) (frame : Option FrameNo) (s : State) → Names own s → Gave (Moved own s) (use_keyword rs place t l frame s)
+  unfolding use_keyword
+  use-later rs place t l frame s n = staged-later s (used place rs t l (macro_expression (bound_to s.bindings l)) frame (stage_of s)) n (stage-grows.uses place rs t l (macro_expression (bound_to s.bindings l)) frame (stage_of s))
+
+  pub asks-later : (rs : List LibRecord) (place : Span) (l : Label) (s : State) → Names own s → Gave (Moved own s) (asks_variable rs place l s)
+  unfolding asks_variable
+  asks-later rs place l s n = staged-later s (stage.is_variable_transformer place rs l (macro_expression (bound_to s.bindings l)) (stage_of s)) n (stage-grows.asks place rs l (macro_expression (bound_to s.bindings l)) (stage_of s))
+
+  pub finish-later : (rs : List LibRecord) (place : Span) (l : Label) (c : PlainCore) (s : State) → Names own s → Gave (Moved own s) (finish_keyword rs place l c s)
+  unfolding finish_keyword
+  finish-later rs place l c s n = staged-later s (stage.finish_keyword place rs l c (stage_of s)) n (stage-grows.finishes place rs l c (stage_of s))
+
+  -- the expression of a keyword is kept then
+  pub finish-kept : (rs : List LibRecord) (place : Span) (l : Label) (c : PlainCore) (s : State) → Gave (λ x u. IsKept u l) (finish_keyword rs place l c s)
+  unfolding finish_keyword
+  finish-kept rs place l c s = by (stage.finish_keyword place rs l c (stage_of s)) (stage-grows.keeps place rs l c (stage_of s))
+    where
+      by : (r : Result (Unit {0} × PlainStage) Fault) → EndsKept l r → Gave (λ x u. IsKept u l) (staged s r)
+      by (Ok p) h = h
+      by (Err f) h = tt
+
+  -- with fewer uses left
+  pub left-later : (left : ℕ) (s : State) → Names own s → Later own s (record s { uses_left = left })
+  left-later left s n = record { here = refl; next = n; up = omega arith; same = λ f o. refl; grows = grows-same own s (record s { uses_left = left }) refl refl refl (omega arith); scope = refl; tops = λ l v o b. b; keeps = keeps-same own s (record s { uses_left = left }) refl refl }
+
+  pub next-later : (rs : List LibRecord) (left : ℕ) (place : Span) (t : Tree) (l : Label) (frame : Option FrameNo) (s : State) → Names own s → Gave (Moved own s) (next_form rs left place t l frame s)
+  unfolding next_form
+  next-later rs left place t l frame s n =
+      let u : State = record s { uses_left = left } in
+      gave-less (Moved own u) (Moved own s) (use_keyword rs (place_of t place) t l frame u) (use-later rs (place_of t place) t l frame u n) (λ x v h. later-then own s u v (left-later left s n) h)
+
+  -- Patterns.
+
+  -- a pattern that was compiled: only names were taken
+  pub record Patterned (s : State) (c : Compiled) (u : State) : Type 0 where
+    pub later : Later own s u
+    pub bindings : u.bindings ≡ s.bindings
+    pub compiles : Compiles own s.names c u.names
+
+  pub pattern-later : (literals : List Tree) (place : Span) (t : Tree) (s : State) → Names own s → Gave (Patterned s) (pattern_of literals place t s)
+  unfolding stage_patterns.pattern_of
+  pattern-later literals place t s n = by (patterns.compiled s.frames literals place t s.names) (compiles own s.frames literals place t s.names n)
+    where
+      by : (r : Result (Compiled × Named) Fault) → GaveBy (Compiles own s.names) r → Gave (Patterned s) (staged s (stage_patterns.named (stage_of s) r))
+      by (Err e) h = tt
+      by (Ok p) h = record { later = stage-later s (record (stage_of s) { names = p.1 }) n (record { frames = refl; library = h.library ∙ sym n; up = h.up; kept = λ l k. k }); bindings = refl; compiles = h }
+
+  pub literals-later : (literals : List Tree) (place : Span) (s : State) → Names own s → Gave (Moved own s) (check_literals place literals s)
+  unfolding stage_patterns.check_literals
+  literals-later literals place s n = by (patterns.literals_checked s.frames place literals)
+    where
+      by : (r : Result (Unit {0}) Fault) → Gave (Moved own s) (staged s (stage_patterns.unchanged (stage_of s) r))
+      by (Err e) = tt
+      by (Ok x) = stage-later s (stage_of s) n (record { frames = refl; library = refl; up = omega arith; kept = λ l k. k })
+
+  -- Apart from what is in scope.
+
+  pub later-apart : (s t : State) → Later own (record s { scope = [] }) t → Later own s (record t { scope = s.scope })
+  later-apart s t h = record {
+    here = h.here;
+    next = h.next;
+    up = h.up;
+    same = h.same;
+    grows = record { kept = h.grows.kept; rows = h.grows.rows; bindings = h.grows.bindings; bound = h.grows.bound; indices = indices; numbered = h.grows.numbered };
+    scope = refl;
+    tops = h.tops;
+    keeps = record { kept = h.keeps.kept; keywords = h.keeps.keywords };
+  }
+    where
+      indices : IndicesApart own s → IndicesApart own (record t { scope = s.scope })
+      indices a = let b = h.grows.indices (record { below = a.below; apart = a.apart }) in record { below = b.below; apart = b.apart }
+
+  pub moved-apart : {A : Type 0} (m : Does A) (s : State) → Gave (Moved own (record s { scope = [] })) (m (record s { scope = [] })) → Gave (Moved own s) (apart m s)
+  moved-apart m s h = gave-after (Moved own (record s { scope = [] })) (Moved own s) (m (record s { scope = [] })) (restoring s.scope) h (λ a t k. later-apart s t k)

@@ -1,0 +1,106 @@
+-- The codes of the procedures that are given as texts in Scheme: what a call of one means during expansion.
+use Rattle.std.specs.Prelude.{ℕ, List, [], ◌∷◌, ◌++◌, filter, map, codes, Bool, true, Option, None, Some, Result, Ok, Err}
+use Rattle.sx_base.specs.Act.{after, give, each}
+use Rattle.sx_base.specs.Datum.{PlainDatum}
+use Rattle.sx_base.specs.Gives.{◌>>=◌}
+use Rattle.sx_base.specs.Op.{op_text}
+use Rattle.sx_base.specs.Same.{same_library}
+use Rattle.sx_base.specs.declared.fault.Bare.{Bare}
+use Rattle.sx_base.specs.declared.fault.Fault.{Fault}
+use Rattle.sx_base.specs.declared.fault.FaultKind.TheVariants as kind
+use Rattle.sx_base.specs.declared.library.LibName.{LibName}
+use Rattle.sx_base.specs.declared.library.LibName.TheVariants as library
+use Rattle.sx_base.specs.declared.name.CodeNo.{CodeNo}
+use Rattle.sx_base.specs.declared.name.Label.{Label}
+use Rattle.sx_base.specs.declared.span.Span.{Span}
+use Rattle.sx_builtin.specs.Exports.{exports}
+use Rattle.sx_builtin.specs.Prelude.{prelude_text}
+use Rattle.sx_core.specs.Core.{PlainCore, PlainCode, no_case, case}
+use Rattle.sx_core.specs.declared.formals.Formals.{Formals}
+use Rattle.sx_eval.specs.Codes.{Codes, with_procedure}
+use Rattle.sx_expand.specs.Expanding.{expression, ready}
+use Rattle.sx_prelude.specs.declared.prelude.Prelude.{Prelude}
+use Rattle.sx_prelude.specs.declared.prelude.Prelude.TheVariants as preludes
+use Rattle.sx_reader.specs.Read.{data_of}
+use Rattle.sx_standing.specs.Start.{first_frame}
+use Rattle.sx_standing.specs.State.{State, Does}
+use Rattle.sx_tree.specs.Changes.{stamp}
+use Rattle.sx_tree.specs.Context.{blank}
+use Rattle.sx_tree.specs.Leaves.{tree_of}
+use Rattle.sx_tree.specs.Measures.{within}
+use Rattle.sx_tree.specs.Tree.{Tree}
+
+-- these procedures: `map for-each for-all exists filter remp find memp fold-left fold-right`
+abbrev pub procedures : List ℕ
+procedures = 133 ∷ 110 ∷ 192 ∷ 193 ∷ 194 ∷ 198 ∷ 191 ∷ 202 ∷ 196 ∷ 197 ∷ []
+
+-- The names of `(rnrs)`, but those that the derived library defines.
+
+abbrev pub is_core : List ℕ × Label → Bool
+is_core e = same_library e.1.0.library library.Core
+
+abbrev pub core_names : Option (List (List ℕ × Label)) → List (List ℕ × Label)
+core_names None = []
+core_names (Some es) = filter is_core es
+
+unfoldable pub names_of : LibName → List (List ℕ × Label)
+names_of l = core_names (exports l)
+
+abbrev pub names : List (List ℕ × Label)
+names = names_of (library.User (codes "rnrs" ∷ []))
+
+-- One text.
+
+abbrev pub path_of : ℕ → List ℕ
+path_of n = codes "(prelude " ++ op_text n ++ codes ")"
+
+abbrev pub place_of : ℕ → Span
+place_of n = record { file = path_of n; from = 0; to = 0 }
+
+abbrev pub text_of : Option (List ℕ) → List ℕ
+text_of None = []
+text_of (Some text) = text
+
+abbrev pub at_place : Span → Result Tree Bare → Result Tree Fault
+at_place place (Ok t) = Ok t
+at_place place (Err b) = Err (record { kind = b.kind; span = place; words = b.words })
+
+abbrev pub first_tree : Span → List PlainDatum → Result Tree Fault
+first_tree place [] = Err (record { kind = kind.NoExpression; span = place; words = [] })
+first_tree place (d ∷ ds) = at_place place (within (tree_of blank d))
+
+abbrev pub tree_in : ℕ → Result Tree Fault
+tree_in n = data_of (path_of n) (text_of (prelude_text n)) 500 >>= first_tree (place_of n)
+
+-- a procedure without arguments, whose body is the text
+abbrev pub procedure_of : ℕ → PlainCore → PlainCode
+procedure_of n c = record { number = record { 0 = record { library = library.Core; number = n } }; cases = case (record { required = []; rest = None }) c no_case; plain = true }
+
+abbrev pub expanded : ℕ → Result Tree Fault → Does PlainCode
+expanded n (Err f) s = Err f
+expanded n (Ok t) s = after (expression [] (place_of n) 0 (stamp (first_frame library.Prelude) t) s) (λ c. give (procedure_of n c))
+
+unfoldable pub text_code : ℕ → Does PlainCode
+text_code n s = expanded n (tree_in n) s
+
+abbrev pub without_state : Result (List PlainCode × State) Fault → Result (List PlainCode) Fault
+without_state (Ok p) = Ok p.0
+without_state (Err f) = Err f
+
+-- all of them, expanded one after the other in a library of their own
+unfoldable pub prelude_codes : Result (List PlainCode) Fault
+prelude_codes = without_state (each text_code [] procedures (ready library.Prelude (codes "(prelude)") [] names []).state)
+
+-- The table that they make, with the codes inside them.
+abbrev pub filled : Codes → List PlainCode → Codes
+filled table [] = table
+filled table (c ∷ cs) = filled (with_procedure c table) cs
+
+-- what a run keeps of them: the table, or the fault of a text
+abbrev pub kept : Prelude → Result Codes Fault
+kept (preludes.Codes cs) = Ok (filled [] (map (λ c. c.value) cs))
+kept (preludes.Fault f) = Err f
+
+-- the table of all texts
+abbrev pub prelude_table : Result Codes Fault
+prelude_table = prelude_codes >>= λ cs. Ok (filled [] cs)

@@ -1,0 +1,81 @@
+//! What a run keeps of the texts.
+
+ghost use Rattle.std.specs.Prelude.{◌≡◌, [], map, IfOk, OnOk};
+ghost use Rattle.sx_base.specs.Gives.{Gives};
+ghost use Rattle.sx_eval.specs.Codes as table;
+ghost use Rattle.sx_stage.specs.Libraries.{earlier_in};
+ghost use Rattle.sx_prelude.specs.Prelude.{filled, kept, prelude_table};
+
+use crate::codes::prelude_codes;
+use indexmap::IndexMap;
+use std::alloc::Global;
+use std::rc::Rc;
+use std::sync::ledger::Ledger;
+use sx_base::fault::{Fault, Stop};
+use sx_base::items::Items;
+use sx_base::memory::Memory;
+use sx_base::name::CodeNo;
+use sx_core::code::Code;
+use sx_eval::codes::add_procedure;
+use sx_standing::means::{Counts, Means};
+
+/// The codes of the texts, or the first fault in one. No text has a fault.
+#[derive(Drop)]
+pub enum Prelude {
+    Codes(Items<Rc<Code>>),
+    Fault(Fault),
+}
+
+// The table that the codes make.
+fn filled(alloc: Global, codes: &[Rc<Code>]) -> Result<IndexMap<CodeNo, Rc<Code>>, Memory>
+    ensures { IfOk result (λ cs. table.seen cs.entries ≡ filled [] (map (λ c. c.value) codes.now)) }
+{
+    let mut table = IndexMap::new(alloc);
+    for code in codes {
+        add_procedure(&mut table, code)?;
+    }
+    Ok(table)
+}
+
+fn share_fault(fault: &Fault, alloc: Global) -> Result<Fault, Memory>
+    ensures { IfOk result (λ f. f ≡ fault.now) }
+{
+    let span = fault.span.share()?;
+    let mut words = Items::new(alloc);
+    for word in fault.words.as_slice() {
+        words.push(word.share()?)?;
+    }
+    Ok(Fault {
+        kind: fault.kind,
+        span,
+        words,
+    })
+}
+
+impl Prelude {
+    /// Expands the texts. `means` has no records.
+    pub fn new<N: Ledger, L: Ledger>(
+        alloc: Global,
+        means: &Means,
+        counts: &mut Counts<N, L>,
+    ) -> Result<Prelude, Memory>
+        requires { earlier_in means.now.earlier ≡ [] }
+        ensures { IfOk result (λ p. kept p ≡ prelude_table) }
+    {
+        match prelude_codes(alloc, means, counts) {
+            Ok(codes) => Ok(Prelude::Codes(codes)),
+            Err(Stop::Fault(fault)) => Ok(Prelude::Fault(fault)),
+            Err(Stop::Memory) => Err(Memory),
+        }
+    }
+
+    /// The table of the codes, in which an expansion puts others behind them.
+    pub fn codes(&self, alloc: Global) -> Result<IndexMap<CodeNo, Rc<Code>>, Stop>
+        ensures { Gives (λ cs. table.seen cs.entries) result (kept self.now) }
+    {
+        match self {
+            Prelude::Codes(codes) => Ok(filled(alloc, codes.as_slice())?),
+            Prelude::Fault(fault) => Err(Stop::Fault(share_fault(fault, alloc)?)),
+        }
+    }
+}

@@ -1,0 +1,198 @@
+//! Patterns and templates in an expansion (libraries report 12.4).
+
+ghost use Rattle.std.specs.Prelude.{◌≡◌, true, IfOk};
+ghost use Rattle.sx_base.specs.Act.{GivesAfter};
+ghost use Rattle.sx_standing.specs.Patterns.{pattern_of, check_literals, put_pattern_variable, bind_pattern_variable, bind_pattern, has_variables, has_item_variables, is_outside, if_outside, first_outside, all_outside, template_of};
+ghost use Rattle.sx_core.specs.TemplateView.{items};
+ghost use Rattle.sx_scope.specs.Stands.{stands};
+ghost use Rattle.sx_tree.specs.Tree.{is_pair};
+
+use crate::expansion::Expansion;
+use crate::in_scope::InScope;
+use sx_base::fault::{FaultKind, Stop};
+use sx_base::memory::Memory;
+use sx_base::name::{FrameNo, Label};
+use sx_base::span::Span;
+use sx_core::binding::Binding;
+use sx_core::template::{Item, Template, TemplateNode};
+use sx_pattern::compile::{Compiled, PatternVariable};
+use sx_shapes::lists::parts_of;
+use sx_syntax::syn::{Opened, Syn};
+use sx_template::compile::compile_template;
+
+/// Whether all pattern variables of a template are in scope.
+#[cycle(has)]
+fn has_variables(scope: &InScope, template: &Template) -> bool
+    ensures { result ≡ has_variables scope.now template.now }
+{
+    match &template.node {
+        TemplateNode::Variable(label, _) => scope.has(label),
+        TemplateNode::Constant(_) => true,
+        TemplateNode::List(list, tail) => {
+            if has_item_variables(scope, list) {
+                has_variables(scope, tail)
+            } else {
+                false
+            }
+        }
+        TemplateNode::Vector(list) => has_item_variables(scope, list),
+    }
+}
+
+#[cycle(has)]
+fn has_item_variables(scope: &InScope, list: &[Item]) -> bool
+    ensures { result ≡ has_item_variables scope.now (items list.now) }
+{
+    for item in list {
+        if !has_variables(scope, &item.template) {
+            return false;
+        }
+    }
+    true
+}
+
+impl Expansion {
+    /// The pattern of a form. The library's next names are the labels of its variables.
+    #[tactic(auto, using(crate::proofs::Staged::staged_gives))]
+    pub fn pattern(&mut self, form: &Syn, literals: &[Syn], place: &Span) -> Result<Compiled, Stop>
+        ensures { GivesAfter (λ c. c) result self.new (pattern_of literals.now place.now form.now self.old) }
+    {
+        self.stage.pattern(form, literals, place)
+    }
+
+    /// It is `BadPattern` at the first literal that can't be one.
+    #[tactic(auto, using(crate::proofs::Staged::staged_gives))]
+    pub fn check_literals(&self, literals: &[Syn], place: &Span) -> Result<(), Stop>
+        ensures { GivesAfter (λ _. tt) result self.now (check_literals place.now literals.now self.now) }
+    {
+        self.stage.check_literals(literals, place)
+    }
+
+    fn put_pattern_variable(&mut self, label: &Label, level: u32, depth: u32) -> Result<(), Stop>
+        ensures { GivesAfter (λ _. tt) result self.new (put_pattern_variable label.now level depth self.old) }
+    {
+        self.scope.add_local(label, false)?;
+        let label = label.share()?;
+        self.add_row(label, Binding::PatternVariable { level, depth })?;
+        Ok(())
+    }
+
+    #[tactic(auto, unfolding(crate::specs::Patterns::bind_pattern_variable))]
+    fn bind_pattern_variable(
+        &mut self,
+        frame: &FrameNo,
+        place: &Span,
+        level: u32,
+        variable: &PatternVariable,
+    ) -> Result<(), Stop>
+        ensures { GivesAfter (λ _. tt) result self.new (bind_pattern_variable frame.now place.now level variable.now self.old) }
+    {
+        self.bind_row(frame, &variable.id, &variable.label, place)?;
+        self.put_pattern_variable(&variable.label, level, variable.depth)
+    }
+
+    /// Binds the variables of a pattern in a frame.
+    pub fn bind_pattern(
+        &mut self,
+        frame: &FrameNo,
+        place: &Span,
+        level: u32,
+        variables: &[PatternVariable],
+    ) -> Result<(), Stop>
+        ensures { GivesAfter (λ _. tt) result self.new (bind_pattern frame.now place.now level variables.now self.old) }
+    {
+        for variable in variables {
+            self.bind_pattern_variable(frame, place, level, variable)?;
+        }
+        Ok(())
+    }
+
+    /// Whether what stands for a label is a pattern variable out of scope.
+    fn is_outside(&self, label: &Option<Label>) -> bool
+        ensures { result ≡ is_outside self.now label.now }
+    {
+        match label {
+            None => false,
+            Some(label) => match self.bindings.get(label) {
+                Some(Binding::PatternVariable { level: _, depth: _ }) => !self.scope.has(label),
+                _ => false,
+            },
+        }
+    }
+
+    #[cycle(outside)]
+    #[tactic(auto, using(crate::proofs::Outside::outside_atom, crate::proofs::Outside::outside_leaf, crate::proofs::Outside::outside_vector, sx_pattern::proofs::Levels::pair_opened))]
+    fn first_outside(&mut self, form: &Syn) -> Result<Option<Syn>, Memory>
+        ensures first { IfOk result (λ t. t ≡ first_outside self.old form.now) }
+        ensures unchanged { self.new ≡ self.old }
+    {
+        match form.open(self.alloc)? {
+            Opened::Atom(_) => Ok(None),
+            Opened::Symbol(_) => self.leaf_outside(form),
+            Opened::Pair(_, _) => self.list_outside(form),
+            Opened::Vector(forms) => self.all_outside(&forms),
+        }
+    }
+
+    fn leaf_outside(&mut self, leaf: &Syn) -> Result<Option<Syn>, Memory>
+        ensures first { IfOk result (λ t. t ≡ if_outside (is_outside self.old (stands self.old.frames leaf.now)) leaf.now) }
+        ensures unchanged { self.new ≡ self.old }
+    {
+        let label = self.stands(leaf)?;
+        if self.is_outside(&label) {
+            return Ok(Some(leaf.share()?));
+        }
+        Ok(None)
+    }
+
+    #[cycle(outside)]
+    #[tactic(auto, using(crate::proofs::Outside::outside_list, sx_pattern::proofs::Sizes::elements_within, sx_pattern::proofs::Sizes::tail_smaller))]
+    fn list_outside(&mut self, form: &Syn) -> Result<Option<Syn>, Memory>
+        requires { is_pair form.now ≡ true }
+        ensures first { IfOk result (λ t. t ≡ first_outside self.old form.now) }
+        ensures unchanged { self.new ≡ self.old }
+    {
+        let parts = parts_of(self.alloc, form)?;
+        match self.all_outside(parts.elements.as_slice())? {
+            Some(first) => Ok(Some(first)),
+            None => self.first_outside(&parts.tail),
+        }
+    }
+
+    #[cycle(outside)]
+    #[tactic(auto, using(crate::proofs::Outside::form_smaller))]
+    fn all_outside(&mut self, forms: &[Syn]) -> Result<Option<Syn>, Memory>
+        ensures first { IfOk result (λ t. t ≡ all_outside self.old forms.now) }
+        ensures unchanged { self.new ≡ self.old }
+    {
+        for form in forms {
+            if let Some(first) = self.first_outside(form)? {
+                return Ok(Some(first));
+            }
+        }
+        Ok(None)
+    }
+
+    /// The template of a form at a level (libraries report 12.4). Where it has no other fault, it is
+    /// `OutOfContext` at the first pattern variable that isn't in scope.
+    #[tactic(auto, unfolding(crate::specs::Patterns::template_of))]
+    pub fn template(&mut self, form: &Syn, place: &Span, level: u32) -> Result<Template, Stop>
+        ensures { GivesAfter (λ t. t) result self.new (template_of place.now level form.now self.old) }
+    {
+        let template = compile_template(
+            self.alloc,
+            form,
+            place,
+            self.stage.frames(),
+            &self.bindings,
+            level,
+        )?;
+        if has_variables(&self.scope, &template) {
+            return Ok(template);
+        }
+        match self.first_outside(form)? {
+            Some(id) => Err(self.fault_word(FaultKind::OutOfContext, &id, &id, place)),
+            None => Err(self.fault_form(FaultKind::OutOfContext, form, place)),
+        }
+    }
+}

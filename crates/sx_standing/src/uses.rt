@@ -1,0 +1,204 @@
+//! Keywords whose uses a transformer expands (R6RS 9 and libraries report 12).
+
+ghost use Rattle.std.specs.Prelude.{◌≡◌, ◌++◌, ◌∷◌, [], None, IfOk, OnOk};
+ghost use Rattle.sx_base.specs.Act.{GivesAfter};
+ghost use Rattle.sx_core.specs.Bindings.{bound_to};
+ghost use Rattle.sx_stage.specs.Libraries.{earlier_in};
+ghost use Rattle.sx_stage.specs.Transformers as stage;
+ghost use Rattle.sx_standing.specs.State.{on_stage};
+ghost use Rattle.sx_standing.specs.Uses.{macro_expression, use_keyword, asks_variable, put_keyword, bind_keyword_as, bind_keyword, bind_keywords, finish_keyword};
+
+use crate::binders::BoundSpec;
+use crate::expansion::Expansion;
+use crate::means::{Counts, Means};
+use std::sync::ledger::Ledger;
+use sx_base::fault::{FaultKind, Stop};
+use sx_base::items::Items;
+use sx_base::memory::Memory;
+use sx_base::name::{FrameNo, Label, Name};
+use sx_base::span::Span;
+use sx_core::binding::{Binding, Expression};
+use sx_core::code::Core;
+use sx_shapes::at::place_of;
+use sx_shapes::lists::is_id;
+use sx_shapes::shape::BindingSpec;
+use sx_syntax::syn::Syn;
+
+impl Expansion {
+    /// How many uses of keywords are left.
+    pub fn uses_left(&self) -> u32
+        ensures { result ≡ self.now.uses_left }
+    {
+        self.uses_left
+    }
+
+    /// From now on so many uses are left.
+    pub fn leave_uses(&mut self, left: u32)
+        ensures { self.new ≡ record self.old { uses_left = left } }
+    {
+        self.uses_left = left;
+    }
+
+    /// The expression of a keyword's record; an own keyword's stands on the stage.
+    fn macro_expression(&self, label: &Label) -> Result<Option<Expression>, Memory>
+        ensures { IfOk result (λ e. e ≡ macro_expression (bound_to self.now.bindings label.now)) }
+    {
+        match self.bindings.get(label) {
+            Some(
+                Binding::Macro {
+                    level: _,
+                    expression: Some(expression),
+                },
+            ) => Ok(Some(expression.share()?)),
+            _ => Ok(None),
+        }
+    }
+
+    /// What comes of a use of a keyword, with the frame of a body where it stands in one. Faults of evaluation
+    /// stand at the place.
+    #[tactic(auto, unfolding(crate::specs::Uses::use_keyword), using(crate::proofs::Staged::staged_gives))]
+    pub fn use_keyword<N: Ledger, L: Ledger>(
+        &mut self,
+        form: &Syn,
+        place: &Span,
+        label: &Label,
+        frame: Option<FrameNo>,
+        means: &Means,
+        counts: &mut Counts<N, L>,
+    ) -> Result<Syn, Stop>
+        ensures { GivesAfter (λ t. t) result self.new (use_keyword (earlier_in means.now.earlier) place.now form.now label.now frame self.old) }
+    {
+        let expression = self.macro_expression(label)?;
+        self.stage.used(
+            &means.earlier,
+            place,
+            form,
+            label,
+            &expression,
+            frame,
+            means.prims,
+            counts.nodes,
+            counts.steps,
+        )
+    }
+
+    /// Whether an assignment to a keyword is a use of it.
+    #[tactic(auto, unfolding(crate::specs::Uses::asks_variable), using(crate::proofs::Staged::staged_gives))]
+    pub fn asks_variable<N: Ledger, L: Ledger>(
+        &mut self,
+        place: &Span,
+        label: &Label,
+        means: &Means,
+        counts: &mut Counts<N, L>,
+    ) -> Result<bool, Stop>
+        ensures { GivesAfter (λ b. b) result self.new (asks_variable (earlier_in means.now.earlier) place.now label.now self.old) }
+    {
+        let expression = self.macro_expression(label)?;
+        self.stage.is_variable_transformer(
+            &means.earlier,
+            place,
+            label,
+            &expression,
+            means.prims,
+            counts.steps,
+        )
+    }
+
+    fn put_keyword(&mut self, label: &Label, level: u32) -> Result<(), Stop>
+        ensures { GivesAfter (λ _. tt) result self.new (put_keyword label.now level self.old) }
+    {
+        let label = label.share()?;
+        self.add_row(
+            label,
+            Binding::Macro {
+                level,
+                expression: None,
+            },
+        )?;
+        Ok(())
+    }
+
+    #[tactic(auto, using(crate::proofs::Staged::staged_gives))]
+    fn begin_keyword(&mut self, label: &Label, place: &Span) -> Result<(), Stop>
+        ensures { GivesAfter (λ _. tt) result self.new (on_stage (stage.begin_keyword label.now place.now) self.old) }
+    {
+        self.stage.begin_keyword(label, place)
+    }
+
+    fn bind_keyword_as(
+        &mut self,
+        frame: &FrameNo,
+        place: &Span,
+        level: u32,
+        spec: &BindingSpec,
+        name: Name,
+    ) -> Result<BoundSpec, Stop>
+        ensures { GivesAfter (λ b. b) result self.new (bind_keyword_as frame.now place.now level spec.now name self.old) }
+    {
+        let label = Label(name);
+        self.bind_row(frame, &spec.id, &label, place)?;
+        self.put_keyword(&label, level)?;
+        let at = place_of(&spec.init, place)?;
+        self.begin_keyword(&label, &at)?;
+        let init = spec.init.share()?;
+        Ok(BoundSpec { label, init })
+    }
+
+    /// Binds an identifier in a frame to a new keyword, which waits for its expression.
+    #[tactic(auto, unfolding(crate::specs::Uses::bind_keyword))]
+    pub fn bind_keyword(
+        &mut self,
+        frame: &FrameNo,
+        place: &Span,
+        level: u32,
+        spec: &BindingSpec,
+    ) -> Result<BoundSpec, Stop>
+        ensures { GivesAfter (λ b. b) result self.new (bind_keyword frame.now place.now level spec.now self.old) }
+    {
+        if !is_id(self.alloc, &spec.id)? {
+            return Err(self.fault_form(FaultKind::BadForm, &spec.id, place));
+        }
+        let name = self.fresh()?;
+        self.bind_keyword_as(frame, place, level, spec, name)
+    }
+
+    /// Binds the keywords of `let-syntax` or `letrec-syntax` in order.
+    pub fn bind_keywords(
+        &mut self,
+        frame: &FrameNo,
+        place: &Span,
+        level: u32,
+        specs: &[BindingSpec],
+    ) -> Result<Items<BoundSpec>, Stop>
+        ensures { GivesAfter (λ bs. bs) result self.new (bind_keywords frame.now place.now level specs.now self.old) }
+    {
+        let mut done = Items::new(self.alloc);
+        for spec in specs {
+            let one = self.bind_keyword(frame, place, level, spec)?;
+            done.push(one)?;
+        }
+        Ok(done)
+    }
+
+    /// Evaluates the expression of a keyword, which stands at the place, and keeps what it gives.
+    #[tactic(auto, unfolding(crate::specs::Uses::finish_keyword), using(crate::proofs::Staged::staged_gives))]
+    pub fn finish_keyword<N: Ledger, L: Ledger>(
+        &mut self,
+        place: &Span,
+        label: &Label,
+        code: Core,
+        means: &Means,
+        counts: &mut Counts<N, L>,
+    ) -> Result<(), Stop>
+        ensures { GivesAfter (λ _. tt) result self.new (finish_keyword (earlier_in means.now.earlier) place.now label.now code self.old) }
+    {
+        self.stage.finish_keyword(
+            &means.earlier,
+            place,
+            label,
+            code,
+            means.prims,
+            counts.steps,
+        )
+    }
+}
