@@ -23,9 +23,8 @@ use crate::tables::positions::POSITIONS;
 use crate::tables::realistic::REALISTIC;
 use crate::tables::transformer_faults::TRANSFORMER_FAULTS;
 use crate::tables::transformers::TRANSFORMERS;
-use std::alloc::{AllocError, Global};
+use std::alloc::Global;
 use std::marker::Brand;
-use std::process::Abort;
 use std::sync::ledger::{Blank, Ledger};
 use std::test::Fail;
 use sx_base::steps::Steps;
@@ -34,14 +33,14 @@ use sx_prims::table::PrimTable;
 use sx_stage::earlier::Earlier;
 use sx_standing::means::{Counts, Means};
 
-// What is wrong with a case, or nothing.
-fn failure<N: Ledger, L: Ledger>(
+// A case comes to what it should.
+fn check_case<N: Ledger, L: Ledger>(
     alloc: Global,
     prelude: &Prelude,
     prims: &PrimTable,
     text: &str,
     counts: &mut Counts<N, L>,
-) -> Result<String, Fail> {
+) -> Result<(), Fail> {
     let case = read_case(alloc, text)?;
     let given = outcome(
         alloc,
@@ -51,67 +50,75 @@ fn failure<N: Ledger, L: Ledger>(
         case.roots.as_slice(),
         counts,
     )?;
-    let given = given.as_str();
-    if given == case.wanted.as_str() {
-        return Ok(String::new(alloc));
+    if given.as_str() == case.wanted.as_str() {
+        return Ok(());
     }
-    Ok(format!(in alloc; "{text}\ngave {given}")?)
+    Err(Fail::new(format!(in alloc; "{given}of {text}")?))
 }
 
-// What is wrong with the first case that isn't as it should be.
-fn first_failure<N: Ledger, L: Ledger>(
+fn check_table<N: Ledger, L: Ledger>(
     alloc: Global,
     prelude: &Prelude,
     prims: &PrimTable,
-    cases: &[&str],
+    table: &str,
     counts: &mut Counts<N, L>,
-) -> Result<String, Fail> {
-    for text in cases {
-        let failed = failure(alloc, prelude, prims, text, counts)?;
-        if !failed.is_empty() {
-            return Ok(failed);
-        }
+) -> Result<(), Fail> {
+    for text in table.split("\n\n") {
+        check_case(alloc, prelude, prims, text, counts)?;
     }
-    Ok(String::new(alloc))
+    Ok(())
+}
+
+fn check_tables<N: Ledger, L: Ledger>(
+    alloc: Global,
+    prelude: &Prelude,
+    prims: &PrimTable,
+    tables: &[&str],
+    counts: &mut Counts<N, L>,
+) -> Result<(), Fail> {
+    for table in tables {
+        check_table(alloc, prelude, prims, table, counts)?;
+    }
+    Ok(())
 }
 
 // The codes of the procedures that are texts are made once.
-fn failure_over<N: Ledger, L: Ledger>(
+fn check_over<N: Ledger, L: Ledger>(
     alloc: Global,
     prims: &PrimTable,
-    cases: &[&str],
+    tables: &[&str],
     counts: &mut Counts<N, L>,
-) -> Result<String, Fail> {
+) -> Result<(), Fail> {
     let earlier = Earlier {
         records: &[],
         needs: &[],
     };
     let means = Means { earlier, prims };
     match Prelude::new(alloc, &means, counts) {
-        Ok(prelude) => first_failure(alloc, &prelude, prims, cases, counts),
+        Ok(prelude) => check_tables(alloc, &prelude, prims, tables, counts),
         Err(_) => Err("no memory".into()),
     }
 }
 
 // Both counters are borrowed for one time, as `Counts` has them.
-fn failure_both<'a, N: Ledger, L: Ledger>(
+fn check_both<'a, N: Ledger, L: Ledger>(
     alloc: Global,
     prims: &PrimTable,
-    cases: &[&str],
+    tables: &[&str],
     nodes: &'a mut Steps<N>,
     steps: &'a mut Steps<L>,
-) -> Result<String, Fail> {
+) -> Result<(), Fail> {
     let mut counts = Counts { nodes, steps };
-    failure_over(alloc, prims, cases, &mut counts)
+    check_over(alloc, prims, tables, &mut counts)
 }
 
-fn failure_counted<N: Ledger, L: Ledger>(
+fn check_counted<N: Ledger, L: Ledger>(
     alloc: Global,
     prims: &PrimTable,
-    cases: &[&str],
+    tables: &[&str],
     nodes: Blank,
     steps: Blank,
-) -> Result<String, Fail>
+) -> Result<(), Fail>
     requires name { nodes.name ≡ N.name }
     requires parts { (nodes.parts ≡ N.parts) × (0 < N.parts) }
     requires step_name { steps.name ≡ L.name }
@@ -119,228 +126,81 @@ fn failure_counted<N: Ledger, L: Ledger>(
 {
     let mut nodes = Steps::<N>::open(nodes);
     let mut steps = Steps::<L>::open(steps);
-    failure_both(alloc, prims, cases, &mut nodes, &mut steps)
+    check_both(alloc, prims, tables, &mut nodes, &mut steps)
 }
 
 // The same, counting for nobody.
-fn failure_in(alloc: Global, prims: &PrimTable, cases: &[&str]) -> Result<String, Fail> {
-    failure_counted::<Brand, Brand>(alloc, prims, cases, Blank::new(1), Blank::new(1))
+fn check_uncounted(alloc: Global, prims: &PrimTable, tables: &[&str]) -> Result<(), Fail> {
+    check_counted::<Brand, Brand>(alloc, prims, tables, Blank::new(1), Blank::new(1))
 }
 
-// The cases of a table.
-fn parted<'a>(alloc: Global, table: &'a str) -> Result<Vec<&'a str>, Fail> {
-    let table = table.strip_prefix("\n").unwrap_or(table);
-    let table = table.strip_suffix("\n").unwrap_or(table);
-    let mut cases = Vec::new(alloc);
-    for text in table.split("\n\n") {
-        cases.push(text)?;
-    }
-    Ok(cases)
-}
-
-fn check(rt: &impl Abort, alloc: Global, table: &str) -> Result<(), Fail> {
-    let cases = parted(alloc, table)?;
+fn check(alloc: Global, tables: &[&str]) -> Result<(), Fail> {
     match primitives(alloc)? {
-        Some(prims) => {
-            let failed = failure_in(alloc, &prims, cases.as_slice())?;
-            assert!(rt; failed.is_empty(), "{failed}");
-            Ok(())
-        }
+        Some(prims) => check_uncounted(alloc, &prims, tables),
         None => Err("rows in order are refused".into()),
     }
 }
 
-#[test]
-fn constants_applications_and_conditionals_expand(rt: HostRuntime) -> Result<(), Fail> {
-    check(&rt, rt.alloc(), EXPRESSIONS)
-}
+// Programs without libraries of their own and without macros.
+const CORE_FORMS: [&str; 8] = [
+    EXPRESSIONS,
+    PROCEDURES,
+    DEFINITIONS,
+    BAD_FORMS,
+    REFERENCES,
+    BINDERS,
+    BODIES,
+    KEYWORDS,
+];
+
+// Imports, and the libraries that are loaded for them.
+const LOADING: [&str; 8] = [
+    IMPORTS,
+    SETS,
+    ORDER,
+    FIRST_FAULTS,
+    VERSIONS,
+    NAMES,
+    BAD,
+    ROOTS,
+];
+
+// What macros expand to: binders and references, patterns and transformers.
+const MACROS: [&str; 6] = [HYGIENE, DEEP, DEFINING, IDENTIFIERS, PATTERNS, TRANSFORMERS];
+
+// Where macros are bound.
+const SCOPES: [&str; 5] = [LET_SYNTAX, LEVELS, LATE, LIBRARIES, REALISTIC];
+
+// Uses, transformers, patterns and templates at fault.
+const FAULTS: [&str; 5] = [
+    POSITIONS,
+    FORM_FAULTS,
+    TRANSFORMER_FAULTS,
+    FAULT_PAIRS,
+    ENDLESS,
+];
 
 #[test]
-fn procedures_and_their_bodies_expand(rt: HostRuntime) -> Result<(), Fail> {
-    check(&rt, rt.alloc(), PROCEDURES)
-}
-
-#[test]
-fn definitions_letrec_and_assignments_expand(rt: HostRuntime) -> Result<(), Fail> {
-    check(&rt, rt.alloc(), DEFINITIONS)
-}
-
-#[test]
-fn forms_of_no_shape_are_faults(rt: HostRuntime) -> Result<(), Fail> {
-    check(&rt, rt.alloc(), BAD_FORMS)
-}
-
-#[test]
-fn references_without_a_binding_are_faults(rt: HostRuntime) -> Result<(), Fail> {
-    check(&rt, rt.alloc(), REFERENCES)
-}
-
-#[test]
-fn binders_that_come_twice_or_late_are_faults(rt: HostRuntime) -> Result<(), Fail> {
-    check(&rt, rt.alloc(), BINDERS)
-}
-
-#[test]
-fn definitions_at_another_place_are_faults(rt: HostRuntime) -> Result<(), Fail> {
-    check(&rt, rt.alloc(), BODIES)
-}
-
-#[test]
-fn keywords_are_no_expressions(rt: HostRuntime) -> Result<(), Fail> {
-    check(&rt, rt.alloc(), KEYWORDS)
-}
-
-#[test]
-fn imports_of_rnrs_give_their_names(rt: HostRuntime) -> Result<(), Fail> {
-    check(&rt, rt.alloc(), IMPORTS)
-}
-
-#[test]
-fn import_sets_give_their_names(rt: HostRuntime) -> Result<(), Fail> {
-    check(&rt, rt.alloc(), SETS)
+fn core_forms_expand(rt: HostRuntime) -> Result<(), Fail> {
+    check(rt.alloc(), &CORE_FORMS)
 }
 
 #[test]
-fn libraries_are_loaded_once_after_what_they_import(rt: HostRuntime) -> Result<(), Fail> {
-    check(&rt, rt.alloc(), ORDER)
+fn imports_bind_what_loaded_libraries_export(rt: HostRuntime) -> Result<(), Fail> {
+    check(rt.alloc(), &LOADING)
 }
 
 #[test]
-fn the_first_fault_in_the_order_of_loading_is_told(rt: HostRuntime) -> Result<(), Fail> {
-    check(&rt, rt.alloc(), FIRST_FAULTS)
+fn macros_expand(rt: HostRuntime) -> Result<(), Fail> {
+    check(rt.alloc(), &MACROS)
 }
 
 #[test]
-fn versions_fit_or_are_refused(rt: HostRuntime) -> Result<(), Fail> {
-    check(&rt, rt.alloc(), VERSIONS)
+fn macros_are_bound_where_they_should_be(rt: HostRuntime) -> Result<(), Fail> {
+    check(rt.alloc(), &SCOPES)
 }
 
 #[test]
-fn names_of_libraries_are_names_of_files(rt: HostRuntime) -> Result<(), Fail> {
-    check(&rt, rt.alloc(), NAMES)
-}
-
-#[test]
-fn bad_library_forms_are_faults(rt: HostRuntime) -> Result<(), Fail> {
-    check(&rt, rt.alloc(), BAD)
-}
-
-#[test]
-fn the_first_directory_with_a_file_has_it(rt: HostRuntime) -> Result<(), Fail> {
-    check(&rt, rt.alloc(), ROOTS)
-}
-
-#[test]
-fn macros_are_hygienic(rt: HostRuntime) -> Result<(), Fail> {
-    check(&rt, rt.alloc(), HYGIENE)
-}
-
-#[test]
-fn macros_make_macros(rt: HostRuntime) -> Result<(), Fail> {
-    check(&rt, rt.alloc(), DEEP)
-}
-
-#[test]
-fn macros_define(rt: HostRuntime) -> Result<(), Fail> {
-    check(&rt, rt.alloc(), DEFINING)
-}
-
-#[test]
-fn identifiers_are_compared_by_their_bindings(rt: HostRuntime) -> Result<(), Fail> {
-    check(&rt, rt.alloc(), IDENTIFIERS)
-}
-
-#[test]
-fn patterns_take_apart_what_templates_build(rt: HostRuntime) -> Result<(), Fail> {
-    check(&rt, rt.alloc(), PATTERNS)
-}
-
-#[test]
-fn transformers_compute(rt: HostRuntime) -> Result<(), Fail> {
-    check(&rt, rt.alloc(), TRANSFORMERS)
-}
-
-#[test]
-fn keywords_are_bound_locally(rt: HostRuntime) -> Result<(), Fail> {
-    check(&rt, rt.alloc(), LET_SYNTAX)
-}
-
-#[test]
-fn levels_are_apart(rt: HostRuntime) -> Result<(), Fail> {
-    check(&rt, rt.alloc(), LEVELS)
-}
-
-#[test]
-fn late_definitions_are_faults(rt: HostRuntime) -> Result<(), Fail> {
-    check(&rt, rt.alloc(), LATE)
-}
-
-#[test]
-fn libraries_export_macros(rt: HostRuntime) -> Result<(), Fail> {
-    check(&rt, rt.alloc(), LIBRARIES)
-}
-
-#[test]
-fn faults_of_uses_have_their_places(rt: HostRuntime) -> Result<(), Fail> {
-    check(&rt, rt.alloc(), POSITIONS)
-}
-
-#[test]
-fn forms_of_macros_are_at_fault(rt: HostRuntime) -> Result<(), Fail> {
-    check(&rt, rt.alloc(), FORM_FAULTS)
-}
-
-#[test]
-fn transformers_are_at_fault(rt: HostRuntime) -> Result<(), Fail> {
-    check(&rt, rt.alloc(), TRANSFORMER_FAULTS)
-}
-
-#[test]
-fn operands_and_templates_are_at_fault(rt: HostRuntime) -> Result<(), Fail> {
-    check(&rt, rt.alloc(), FAULT_PAIRS)
-}
-
-#[test]
-fn macros_of_programs_expand(rt: HostRuntime) -> Result<(), Fail> {
-    check(&rt, rt.alloc(), REALISTIC)
-}
-
-#[test]
-fn endless_macros_are_stopped(rt: HostRuntime) -> Result<(), Fail> {
-    check(&rt, rt.alloc(), ENDLESS)
-}
-
-// A call of `h` makes a hundred calls of `list`.
-const HUNDRED: &str = "(import (rnrs))
-(define-syntax t (lambda (s) (syntax-case s () ((_ e) #'(list (list (list (list (list (list (list (list (list (list e))))))))))))))
-(define-syntax h (lambda (s) (syntax-case s () ((_ e) #'(t (t (t (t (t (t (t (t (t (t e))))))))))))))
-";
-
-// The case of 600 calls of `list` round a constant.
-fn nested(alloc: Global) -> Result<String, AllocError> {
-    let mut text = String::from_str(alloc, HUNDRED)?;
-    text.push_str("(h (h (h (h (h (h 1))))))\n=> ")?;
-    for _ in 0..600 {
-        text.push_str("(list ")?;
-    }
-    text.push_str("1")?;
-    for _ in 0..600 {
-        text.push_str(")")?;
-    }
-    Ok(text)
-}
-
-// One call more: the operator of the innermost call comes before its operand.
-fn nested_too_deep(alloc: Global) -> Result<String, AllocError> {
-    let mut text = String::from_str(alloc, HUNDRED)?;
-    text.push_str("(h (h (h (h (h (h (§list 1)))))))\n=> TooDeep")?;
-    Ok(text)
-}
-
-#[test]
-fn forms_nest_600_deep(rt: HostRuntime) -> Result<(), Fail> {
-    let deepest = nested(rt.alloc())?;
-    check(&rt, rt.alloc(), deepest.as_str())?;
-    let deeper = nested_too_deep(rt.alloc())?;
-    check(&rt, rt.alloc(), deeper.as_str())
+fn macros_at_fault_are_told_at_their_places(rt: HostRuntime) -> Result<(), Fail> {
+    check(rt.alloc(), &FAULTS)
 }

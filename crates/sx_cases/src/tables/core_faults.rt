@@ -1,530 +1,521 @@
 //! Core forms at fault.
 
 /// Forms without the shape that their keyword asks for.
-pub const BAD_FORMS: &str = r#"
-(import (rnrs))
+pub const BAD_FORMS: &str = r#"(import (rnrs))
 §()
-=> BadForm
+=> 20 BadForm
 
 (import (rnrs))
 §#(1 2)
-=> BadForm
+=> 20 BadForm
 
 (import (rnrs))
 §(car . 1)
-=> BadForm
+=> 20 BadForm
 
 (import (rnrs))
 §(lambda)
-=> BadForm
+=> 20 BadForm
 
 (import (rnrs))
 §(lambda (x 1) x)
-=> BadForm
+=> 20 BadForm
 
 (import (rnrs))
 §(if)
-=> BadForm
+=> 20 BadForm
 
 (import (rnrs))
 §(if 1)
-=> BadForm
+=> 20 BadForm
 
 (import (rnrs))
 §(if 1 2 3 4)
-=> BadForm
+=> 20 BadForm
 
 (import (rnrs))
 §(define)
-=> BadForm
+=> 20 BadForm
 
 (import (rnrs))
 §(define 1 2)
-=> BadForm
+=> 20 BadForm
 
 (import (rnrs))
 §(set! 1 2)
-=> BadForm
+=> 20 BadForm
 
 (import (rnrs))
 §(set! car)
-=> BadForm
+=> 20 BadForm
 
 (import (rnrs))
 (list §(quote))
-=> BadForm
+=> 20 BadForm
 
 (import (rnrs))
 (list §(quote 1 2))
-=> BadForm
+=> 20 BadForm
 
 (import (rnrs))
 §(letrec ((x)) 1)
-=> BadForm
+=> 20 BadForm
 
 (import (rnrs))
 §(letrec ((1 2)) 1)
-=> BadForm
+=> 20 BadForm
 
 (import (rnrs))
 §(letrec x 1)
-=> BadForm
+=> 20 BadForm
 
 (import (rnrs))
 §(case-lambda ((x 1) x))
-=> BadForm
+=> 20 BadForm
 
 (import (rnrs))
 §(case-lambda 1)
-=> BadForm
+=> 20 BadForm
 
 (import (rnrs))
 (list §(define))
-=> BadForm
+=> 20 BadForm
 
 (import (rnrs))
 (list §(begin . 1))
-=> BadForm
+=> 20 BadForm
 
 (import (rnrs))
 §(begin . 1)
-=> BadForm
+=> 20 BadForm
 
 (import (rnrs))
 (list §(quasiquote))
-=> BadForm
+=> 20 BadForm
 
 (import (rnrs))
 (list §#(1))
-=> BadForm
+=> 20 BadForm
 
 (import (rnrs))
 §(quote)
-=> BadForm
+=> 20 BadForm
 
 (import (rnrs))
 §(quote a b)
-=> BadForm
+=> 20 BadForm
 
 (import (rnrs))
 §(quote . a)
-=> BadForm
+=> 20 BadForm
 
 (import (rnrs))
 (list 1 §(if) zork)
-=> BadForm
+=> 20 BadForm
 
 (import (rnrs))
 §(list . 1)
-=> BadForm
+=> 20 BadForm
 
 (import (rnrs))
 §(zork . 1)
-=> BadForm
+=> 20 BadForm
 
 (import (rnrs))
 §(if 1 zork 2 3)
-=> BadForm
+=> 20 BadForm
 
 (import (rnrs))
 §(lambda (x . 1) x)
-=> BadForm
+=> 20 BadForm
 
 (import (rnrs))
 §(lambda 1 x)
-=> BadForm
+=> 20 BadForm
 
 (import (rnrs))
 §(lambda (x) . x)
-=> BadForm
+=> 20 BadForm
 
 (import (rnrs))
 (lambda () 1 §(define))
-=> BadForm
+=> 20 BadForm
 
 (import (rnrs))
 §(case-lambda (1 2))
-=> BadForm
+=> 20 BadForm
 
 (import (rnrs))
 §(case-lambda x)
-=> BadForm
+=> 20 BadForm
 
 (import (rnrs))
 §(letrec ((a)) 1)
-=> BadForm
+=> 20 BadForm
 
 (import (rnrs))
 §(letrec* a 1)
-=> BadForm
+=> 20 BadForm
 
 (import (rnrs))
 §(define x 1 2)
-=> BadForm
+=> 20 BadForm
 
 (import (rnrs))
 §(define (f 1) 2)
-=> BadForm
+=> 20 BadForm
 
 (import (rnrs))
 §(set! x)
-=> BadForm
+=> 20 BadForm
 
 (import (rnrs))
 §(set! x 1 2) (define x 1)
-=> BadForm
-"#;
+=> 20 BadForm"#;
 
 /// Identifiers without a binding, and assignments to imports.
-pub const REFERENCES: &str = r#"
-(import (rnrs))
+pub const REFERENCES: &str = r#"(import (rnrs))
 §zork
-=> Unbound zork
+=> 21 Unbound: zork
 
 (import (rnrs))
 (§zork 1)
-=> Unbound zork
+=> 21 Unbound: zork
 
 (import (rnrs))
 (list 1 §aa bb)
-=> Unbound aa
+=> 21 Unbound: aa
 
 (import (rnrs))
 (§aa bb)
-=> Unbound aa
+=> 21 Unbound: aa
 
 (import (rnrs))
 §(set! zork 1)
-=> Unbound zork
+=> 21 Unbound: zork
 
 (import (rnrs))
 (lambda (x) (set! x §zork))
-=> Unbound zork
+=> 21 Unbound: zork
 
 (import (rnrs))
 (if §aa bb cc)
-=> Unbound aa
+=> 21 Unbound: aa
 
 (import (rnrs))
 (define (f) §aa) (list bb)
-=> Unbound aa
+=> 21 Unbound: aa
 
 (import (rnrs))
 (letrec ((x §aa) (y bb)) cc)
-=> Unbound aa
+=> 21 Unbound: aa
 
 (import (rnrs))
 (define x §y)
-=> Unbound y
+=> 21 Unbound: y
 
 (import (rnrs))
 §(set! car 1)
-=> AssignedImport car
+=> 28 AssignedImport: car
 
 (import (rnrs))
 (lambda () §(set! cdr zork))
-=> AssignedImport cdr
+=> 28 AssignedImport: cdr
 
 (import (rnrs))
 (§zork (if))
-=> Unbound zork
+=> 21 Unbound: zork
 
 (import (rnrs))
 (list §zork (if))
-=> Unbound zork
+=> 21 Unbound: zork
 
 (import (rnrs))
 (if §zork (quote))
-=> Unbound zork
+=> 21 Unbound: zork
 
 (import (rnrs))
 (lambda (quote) '§a)
-=> Unbound a
+=> 21 Unbound: a
 
 (import (rnrs))
 (lambda () (define x §zork) x)
-=> Unbound zork
+=> 21 Unbound: zork
 
 (import (rnrs))
 (letrec ((a §zork)) (if))
-=> Unbound zork
+=> 21 Unbound: zork
 
 (import (rnrs))
 (§zork) (define (f))
-=> Unbound zork
+=> 21 Unbound: zork
 
 (import (rnrs))
 (define x §zork) (define y (if))
-=> Unbound zork
+=> 21 Unbound: zork
 
 (import (rnrs))
 §(set! zork (if))
-=> Unbound zork
+=> 21 Unbound: zork
 
 (import (rnrs))
 §(set! car zork)
-=> AssignedImport car
+=> 28 AssignedImport: car
 
 (import (rnrs))
 (define x 1) (set! x §zork)
-=> Unbound zork
-"#;
+=> 21 Unbound: zork"#;
 
 /// Binders that come twice, and definitions that come too late.
-pub const BINDERS: &str = r#"
-(import (rnrs))
+pub const BINDERS: &str = r#"(import (rnrs))
 (lambda (x §x) x)
-=> Duplicate x
+=> 22 Duplicate: x
 
 (import (rnrs))
 (lambda (x . §x) x)
-=> Duplicate x
+=> 22 Duplicate: x
 
 (import (rnrs))
 (lambda (x y §x y) x)
-=> Duplicate x
+=> 22 Duplicate: x
 
 (import (rnrs))
 (letrec ((x 1) (§x 2)) x)
-=> Duplicate x
+=> 22 Duplicate: x
 
 (import (rnrs))
 (define §car 1)
-=> Duplicate car
+=> 22 Duplicate: car
 
 (import (rnrs))
 (define x 1) (define §x 2)
-=> Duplicate x
+=> 22 Duplicate: x
 
 (import (rnrs))
 (define (§list x) x)
-=> Duplicate list
+=> 22 Duplicate: list
 
 (import (rnrs))
 (lambda () (define x 1) (define §x 2) x)
-=> Duplicate x
+=> 22 Duplicate: x
 
 (import (rnrs))
 (if 1 2) (define §if list)
-=> Duplicate if
+=> 22 Duplicate: if
 
 (import (rnrs))
 (lambda () (define §define 1) 2)
-=> LateDefinition define
+=> 33 LateDefinition: define
 
 (import (rnrs))
 (lambda () (begin) (define §begin 1) 2)
-=> LateDefinition begin
+=> 33 LateDefinition: begin
 
 (import (rnrs))
 (list aa) (define §car 1)
-=> Duplicate car
+=> 22 Duplicate: car
 
 (import (rnrs))
 (set! x) (define §car 1)
-=> Duplicate car
+=> 22 Duplicate: car
 
 (import (rnrs))
 (lambda () (define x aa) (define §x 1) x)
-=> Duplicate x
+=> 22 Duplicate: x
 
 (import (rnrs))
 (lambda (x §x) (if))
-=> Duplicate x
+=> 22 Duplicate: x
 
 (import (rnrs))
 (lambda (x y §y x) x)
-=> Duplicate y
+=> 22 Duplicate: y
 
 (import (rnrs))
 ((lambda () (define §define 17) (list define)))
-=> LateDefinition define
+=> 33 LateDefinition: define
 
 (import (rnrs))
 (lambda () (begin (define x 1)) (define §begin 2) x)
-=> LateDefinition begin
+=> 33 LateDefinition: begin
 
 (import (rnrs))
 (case-lambda ((a) a) ((b c §b) 1))
-=> Duplicate b
+=> 22 Duplicate: b
 
 (import (rnrs))
 (case-lambda ((x §x) 1) ((y) zork))
-=> Duplicate x
+=> 22 Duplicate: x
 
 (import (rnrs))
 (letrec ((a 1) (§a 2)) (if))
-=> Duplicate a
+=> 22 Duplicate: a
 
 (import (rnrs))
 (zork) (define x 1) (define §x 2)
-=> Duplicate x
+=> 22 Duplicate: x
 
 (import (rnrs))
 (define §define 1)
-=> Duplicate define
+=> 22 Duplicate: define
 
 (import (rnrs))
 (define (f x §x) x)
-=> Duplicate x
-"#;
+=> 22 Duplicate: x"#;
 
 /// Definitions at another place, and bodies without an expression.
-pub const BODIES: &str = r#"
-(import (rnrs))
+pub const BODIES: &str = r#"(import (rnrs))
 (list §(define x 1))
-=> DefinitionPlace
+=> 23 DefinitionPlace
 
 (import (rnrs))
 (if §(define x 1) 2)
-=> DefinitionPlace
+=> 23 DefinitionPlace
 
 (import (rnrs))
 (lambda () 1 §(define x 2) x)
-=> DefinitionPlace
+=> 23 DefinitionPlace
 
 (import (rnrs))
 (lambda () (begin 1) §(define x 1) x)
-=> DefinitionPlace
+=> 23 DefinitionPlace
 
 (import (rnrs))
 (lambda () 1 (begin §(define x 1)) x)
-=> DefinitionPlace
+=> 23 DefinitionPlace
 
 (import (rnrs))
 (lambda () (begin (define x 1) 2) §(define y 1))
-=> DefinitionPlace
+=> 23 DefinitionPlace
 
 (import (rnrs))
 (list §(begin))
-=> NoExpression
+=> 24 NoExpression
 
 (import (rnrs))
 §(lambda ())
-=> NoExpression
+=> 24 NoExpression
 
 (import (rnrs))
 §(lambda (x))
-=> NoExpression
+=> 24 NoExpression
 
 (import (rnrs))
 §(lambda () (define x 1))
-=> NoExpression
+=> 24 NoExpression
 
 (import (rnrs))
 §(lambda () (begin))
-=> NoExpression
+=> 24 NoExpression
 
 (import (rnrs))
 §(letrec ((x 1)))
-=> NoExpression
+=> 24 NoExpression
 
 (import (rnrs))
 §(case-lambda ((x) x) ((y)))
-=> NoExpression
+=> 24 NoExpression
 
 (import (rnrs))
 §(define (f))
-=> NoExpression
+=> 24 NoExpression
 
 (import (rnrs))
 §(lambda () (define x aa))
-=> NoExpression
+=> 24 NoExpression
 
 (import (rnrs))
 §(lambda (x) (define y 1))
-=> NoExpression
+=> 24 NoExpression
 
 (import (rnrs))
 §(lambda () (define x zork))
-=> NoExpression
+=> 24 NoExpression
 
 (import (rnrs))
 (lambda () 1 §(define x 1) 2)
-=> DefinitionPlace
+=> 23 DefinitionPlace
 
 (import (rnrs))
 (lambda () 1 (begin §(define x 1)) 2)
-=> DefinitionPlace
+=> 23 DefinitionPlace
 
 (import (rnrs))
 (if #t §(define x 1))
-=> DefinitionPlace
+=> 23 DefinitionPlace
 
 (import (rnrs))
 §(case-lambda ((a)))
-=> NoExpression
+=> 24 NoExpression
 
 (import (rnrs))
 §(letrec ((a 1)))
-=> NoExpression
-"#;
+=> 24 NoExpression"#;
 
 /// Keywords in the place of an expression, and forms that are not built yet.
-pub const KEYWORDS: &str = r#"
-(import (rnrs))
+pub const KEYWORDS: &str = r#"(import (rnrs))
 §if
-=> KeywordMisuse if
+=> 25 KeywordMisuse: if
 
 (import (rnrs))
 §else
-=> KeywordMisuse else
+=> 25 KeywordMisuse: else
 
 (import (rnrs))
 §=>
-=> KeywordMisuse =>
+=> 25 KeywordMisuse: =>
 
 (import (rnrs))
 (§else 1)
-=> KeywordMisuse else
+=> 25 KeywordMisuse: else
 
 (import (rnrs))
 (§... 1)
-=> KeywordMisuse ...
+=> 25 KeywordMisuse: ...
 
 (import (rnrs))
 (list §define)
-=> KeywordMisuse define
+=> 25 KeywordMisuse: define
 
 (import (rnrs))
 §(set! if 1)
-=> KeywordMisuse if
+=> 25 KeywordMisuse: if
 
 (import (rnrs))
 §(set! else 1)
-=> KeywordMisuse else
+=> 25 KeywordMisuse: else
 
 (import (rnrs))
 §(set! let 1)
-=> KeywordMisuse let
+=> 25 KeywordMisuse: let
 
 (import (rnrs))
 (lambda () §begin)
-=> KeywordMisuse begin
+=> 25 KeywordMisuse: begin
 
 (import (rnrs))
 §(let ((x 1)) x)
-=> NotBuilt
+=> 90 NotBuilt
 
 (import (rnrs))
 §let
-=> NotBuilt
+=> 90 NotBuilt
 
 (import (rnrs))
 §(cond (else 1))
-=> NotBuilt
+=> 90 NotBuilt
 
 (import (rnrs))
 (list §(and))
-=> NotBuilt
+=> 90 NotBuilt
 
 (import (rnrs))
 (define-syntax f §1)
-=> NotTransformer
+=> 47 NotTransformer
 
 (import (rnrs))
 (list §(define-syntax f 1))
-=> DefinitionPlace
+=> 23 DefinitionPlace
 
 (import (rnrs))
 (let-syntax () 1)
@@ -532,37 +523,36 @@ pub const KEYWORDS: &str = r#"
 
 (import (rnrs))
 (list §(syntax x))
-=> SyntaxInRunCode
+=> 30 SyntaxInRunCode
 
 (import (rnrs))
 (list §`a)
-=> NotBuilt
+=> 90 NotBuilt
 
 (import (rnrs))
 (list §(syntax-case 1 ()))
-=> SyntaxInRunCode
+=> 30 SyntaxInRunCode
 
 (import (rnrs))
 (list §else)
-=> KeywordMisuse else
+=> 25 KeywordMisuse: else
 
 (import (rnrs))
 (list (§=> 1))
-=> KeywordMisuse =>
+=> 25 KeywordMisuse: =>
 
 (import (rnrs))
 (§else . 1)
-=> KeywordMisuse else
+=> 25 KeywordMisuse: else
 
 (import (rnrs))
 zork (define-syntax a §b)
-=> Unbound b
+=> 21 Unbound: b
 
 (import (rnrs))
 (list §(quasiquote x))
-=> NotBuilt
+=> 90 NotBuilt
 
 (import (rnrs))
 (lambda () (let-syntax () 1))
-=> (lambda () 1)
-"#;
+=> (lambda () 1)"#;

@@ -1,8 +1,7 @@
 //! Core forms without macros.
 
 /// Constants, applications, `if` and `begin`.
-pub const EXPRESSIONS: &str = r#"
-(import (rnrs))
+pub const EXPRESSIONS: &str = r#"(import (rnrs))
 1
 => 1
 
@@ -160,12 +159,10 @@ car
 
 (import (rnrs))
 (list (begin 1 2) (begin 3))
-=> (list (begin 1 2) 3)
-"#;
+=> (list (begin 1 2) 3)"#;
 
 /// `lambda` and `case-lambda`, and their bodies.
-pub const PROCEDURES: &str = r#"
-(import (rnrs))
+pub const PROCEDURES: &str = r#"(import (rnrs))
 (lambda (x) x)
 => (lambda (%/x/0) %/x/0)
 
@@ -323,12 +320,10 @@ pub const PROCEDURES: &str = r#"
 
 (import (rnrs))
 (lambda (x) (set! x 1))
-=> (lambda (%/x/0) (set! %/x/0 1))
-"#;
+=> (lambda (%/x/0) (set! %/x/0 1))"#;
 
 /// Definitions, `letrec` and assignments.
-pub const DEFINITIONS: &str = r#"
-(import (rnrs))
+pub const DEFINITIONS: &str = r#"(import (rnrs))
 (define x 1)
 => (define %/x/0 1)
 
@@ -467,5 +462,4 @@ x (define x 1)
 (import (rnrs))
 (set! x 1) (define x 2)
 => (set! %/x/0 1)
-(define %/x/0 2)
-"#;
+(define %/x/0 2)"#;

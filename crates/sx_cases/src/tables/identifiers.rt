@@ -1,7 +1,6 @@
 //! Keywords as identifiers, and identifiers compared (libraries report 12.3, 12.5).
 
-pub const IDENTIFIERS: &str = r#"
-# a literal that the user shadows (lib 12.4, 12.5)
+pub const IDENTIFIERS: &str = r#"; a literal that the user shadows (lib 12.4, 12.5)
 (import (rnrs))
 (define-syntax is-else (lambda (s) (syntax-case s (else) ((_ else) #''yes) ((_ x) #''no))))
 (is-else else)
@@ -9,7 +8,7 @@ pub const IDENTIFIERS: &str = r#"
 => (quote yes)
 ((lambda (%/else/0) (quote no)) 1)
 
-# free-identifier=? on handed-in names (lib 12.5): same label, or both none and the same symbol
+; free-identifier=? on handed-in names (lib 12.5): same label, or both none and the same symbol
 (import (rnrs))
 (define-syntax same? (lambda (s) (syntax-case s () ((_ a b) (datum->syntax #'k (free-identifier=? #'a #'b))))))
 (same? car car)
@@ -23,7 +22,7 @@ pub const IDENTIFIERS: &str = r#"
 #f
 (lambda (%/car/0) #t)
 
-# free-identifier=? against a name of the template (lib 12.5)
+; free-identifier=? against a name of the template (lib 12.5)
 (import (rnrs))
 (define-syntax is-car (lambda (s) (syntax-case s () ((_ a) (if (free-identifier=? #'a #'car) #'1 #'2)))))
 (is-car car)
@@ -33,7 +32,7 @@ pub const IDENTIFIERS: &str = r#"
 (lambda (%/car/0) 2)
 2
 
-# a literal that stands for none (lib 12.5): both none and the same symbol
+; a literal that stands for none (lib 12.5): both none and the same symbol
 (import (rnrs))
 (define-syntax is-foo (lambda (s) (syntax-case s (foo) ((_ foo) #'1) ((_ x) #'2))))
 (is-foo foo)
@@ -43,7 +42,7 @@ pub const IDENTIFIERS: &str = r#"
 (lambda (%/foo/0) 2)
 2
 
-# the literal is defined later: at the use both stood for none; identifiers that are compared aren't kept
+; the literal is defined later: at the use both stood for none; identifiers that are compared aren't kept
 (import (rnrs))
 (define-syntax is-foo (lambda (s) (syntax-case s (foo) ((_ foo) #'1) ((_ x) #'2))))
 (is-foo foo)
@@ -53,8 +52,8 @@ pub const IDENTIFIERS: &str = r#"
 (define %/foo/0 1)
 1
 
-# an introduced definition of the literal's name is another binding than the user's name (lib 12.5)
-# introduced foo is (foo,(m)) with a label; the user's foo stands for none.
+; an introduced definition of the literal's name is another binding than the user's name (lib 12.5)
+; introduced foo is (foo,(m)) with a label; the user's foo stands for none.
 (import (rnrs))
 (define-syntax same? (lambda (s) (syntax-case s () ((_ a b) (datum->syntax #'k (free-identifier=? #'a #'b))))))
 (define-syntax t1 (lambda (s) (syntax-case s () ((_ u) #'(begin (define foo 1) (same? foo u) (same? u u))))))
@@ -63,7 +62,7 @@ pub const IDENTIFIERS: &str = r#"
 #f
 #t
 
-# an introduced name that stands for none is free-identifier=? to the user's (lib 12.5)
+; an introduced name that stands for none is free-identifier=? to the user's (lib 12.5)
 (import (rnrs))
 (define-syntax same? (lambda (s) (syntax-case s () ((_ a b) (datum->syntax #'k (free-identifier=? #'a #'b))))))
 (define-syntax f2 (lambda (s) (syntax-case s () ((_ a) #'(same? a x)))))
@@ -72,7 +71,7 @@ pub const IDENTIFIERS: &str = r#"
 => #t
 (lambda (%/x/0) #f)
 
-# bound-identifier=? (lib 12.5): symbol and marks
+; bound-identifier=? (lib 12.5): symbol and marks
 (import (rnrs))
 (define-syntax bound? (lambda (s) (syntax-case s () ((_ a b) (datum->syntax #'k (bound-identifier=? #'a #'b))))))
 (define-syntax b2 (lambda (s) (syntax-case s () ((_ a) #'(bound? a x)))))
@@ -86,7 +85,7 @@ pub const IDENTIFIERS: &str = r#"
 #f
 #t
 
-# names bound to one label under two names: free but not bound identifiers (lib 12.5)
+; names bound to one label under two names: free but not bound identifiers (lib 12.5)
 (import (rnrs) (rename (only (rnrs) car) (car first)))
 (define-syntax free? (lambda (s) (syntax-case s () ((_ a b) (datum->syntax #'k (free-identifier=? #'a #'b))))))
 (define-syntax bound? (lambda (s) (syntax-case s () ((_ a b) (datum->syntax #'k (bound-identifier=? #'a #'b))))))
@@ -95,53 +94,53 @@ pub const IDENTIFIERS: &str = r#"
 => #t
 #f
 
-# bound-identifier=? as a check of binders (lib 12.5)
+; bound-identifier=? as a check of binders (lib 12.5)
 (import (rnrs))
 (define-syntax lam2 (lambda (s) (syntax-case s () ((_ (a b) e) (if (bound-identifier=? #'a #'b) (syntax-violation 'lam2 "twice" #'b) #'(lambda (a b) e))))))
 (lam2 (x y) (list x y))
 => (lambda (%/x/0 %/y/1) (list %/x/0 %/y/1))
 
-# the same check refuses (lib 12.9): the fault of an evaluation stands at the use, whatever form is named
+; the same check refuses (lib 12.9): the fault of an evaluation stands at the use, whatever form is named
 (import (rnrs))
 (define-syntax lam2 (lambda (s) (syntax-case s () ((_ (a b) e) (if (bound-identifier=? #'a #'b) (syntax-violation 'lam2 "twice" #'b) #'(lambda (a b) e))))))
 (list §(lam2 (x x) x))
-=> Raised twice
+=> 44 Raised: twice
 
-# the same check takes a handed-in t and an introduced t (lib 12.5)
+; the same check takes a handed-in t and an introduced t (lib 12.5)
 (import (rnrs))
 (define-syntax lam2 (lambda (s) (syntax-case s () ((_ (a b) e) (if (bound-identifier=? #'a #'b) (syntax-violation 'lam2 "twice" #'b) #'(lambda (a b) e))))))
 (define-syntax w (lambda (s) (syntax-case s () ((_ a) #'(lam2 (a t) (list a t))))))
 (w t)
 => (lambda (%/t/0 %/t/1) (list %/t/0 %/t/1))
 
-# datum->syntax captures with the use's own keyword (lib 12.6)
+; datum->syntax captures with the use's own keyword (lib 12.6)
 (import (rnrs))
 (define-syntax aif (lambda (s) (syntax-case s () ((k c a b) (syntax-case (datum->syntax #'k 'it) () (it #'((lambda (it) (if it a b)) c)))))))
 (aif 1 it 2)
 => ((lambda (%/it/0) (if %/it/0 %/it/0 2)) 1)
 
-# with a template's name in place of the keyword nothing is captured (lib 12.6)
+; with a template's name in place of the keyword nothing is captured (lib 12.6)
 (import (rnrs))
 (define-syntax aif (lambda (s) (syntax-case s () ((k c a b) (syntax-case (datum->syntax #'here 'it) () (it #'((lambda (it) (if it a b)) c)))))))
 (aif 1 §it 2)
-=> Unbound it
+=> 21 Unbound: it
 
-# aif used by a macro: the keyword is the template's, so the user's `it` isn't captured (lib 12.6)
-# k is the leaf aif with the mark of aif2's use: `it` gets that mark.
+; aif used by a macro: the keyword is the template's, so the user's `it` isn't captured (lib 12.6)
+; k is the leaf aif with the mark of aif2's use: `it` gets that mark.
 (import (rnrs))
 (define-syntax aif (lambda (s) (syntax-case s () ((k c a b) (syntax-case (datum->syntax #'k 'it) () (it #'((lambda (it) (if it a b)) c)))))))
 (define-syntax aif2 (lambda (s) (syntax-case s () ((_ c a) #'(aif c a 0)))))
 (aif2 1 §it)
-=> Unbound it
+=> 21 Unbound: it
 
-# aif used by a macro: the macro's own `it` is captured (lib 12.6)
+; aif used by a macro: the macro's own `it` is captured (lib 12.6)
 (import (rnrs))
 (define-syntax aif (lambda (s) (syntax-case s () ((k c a b) (syntax-case (datum->syntax #'k 'it) () (it #'((lambda (it) (if it a b)) c)))))))
 (define-syntax aif3 (lambda (s) (syntax-case s () ((_ c) #'(aif c it 0)))))
 (aif3 1)
 => ((lambda (%/it/0) (if %/it/0 %/it/0 0)) 1)
 
-# a made name with the marks of the handed-in name (lib 12.6)
+; a made name with the marks of the handed-in name (lib 12.6)
 (import (rnrs))
 (define-syntax def-getter (lambda (s) (syntax-case s () ((_ n v) (syntax-case (datum->syntax #'n (string->symbol (string-append "get-" (symbol->string (syntax->datum #'n))))) () (g #'(begin (define n v) (define (g) n))))))))
 (def-getter x 5)
@@ -150,7 +149,7 @@ pub const IDENTIFIERS: &str = r#"
 (define %/get-x/1 (lambda () %/x/0))
 (%/get-x/1)
 
-# a whole form by datum->syntax is taken in the scope of the keyword (lib 12.6)
+; a whole form by datum->syntax is taken in the scope of the keyword (lib 12.6)
 (import (rnrs))
 (define-syntax m (lambda (s) (syntax-case s () ((k) (datum->syntax #'k '(list 1 2))))))
 (m)
@@ -158,25 +157,25 @@ pub const IDENTIFIERS: &str = r#"
 => (list 1 2)
 (lambda (%/list/0) (%/list/0 1 2))
 
-# a whole form by datum->syntax in the scope of the template (lib 12.6)
+; a whole form by datum->syntax in the scope of the template (lib 12.6)
 (import (rnrs))
 (define-syntax m (lambda (s) (datum->syntax #'here '(list 1 2))))
 (lambda (list) (m))
 => (lambda (%/list/0) (list 1 2))
 
-# a made form has no span: its fault is at the use (lib 12.6)
+; a made form has no span: its fault is at the use (lib 12.6)
 (import (rnrs))
 (define-syntax m (lambda (s) (syntax-case s () ((k e) (datum->syntax #'k (list 'zork (syntax->datum #'e)))))))
 (list §(m 1))
-=> Unbound zork
+=> 21 Unbound: zork
 
-# a datum of an operand loses its span (lib 12.6): the unbound y is a leaf of datum->syntax
+; a datum of an operand loses its span (lib 12.6): the unbound y is a leaf of datum->syntax
 (import (rnrs))
 (define-syntax m (lambda (s) (syntax-case s () ((k e) (datum->syntax #'k (syntax->datum #'e))))))
 (list §(m (list y)))
-=> Unbound y
+=> 21 Unbound: y
 
-# generate-temporaries: one temporary for each element (lib 12.7)
+; generate-temporaries: one temporary for each element (lib 12.7)
 (import (rnrs))
 (define-syntax par-set! (lambda (s) (syntax-case s () ((_ (v e) ...) (syntax-case (generate-temporaries #'(v ...)) () ((t ...) #'((lambda (t ...) (set! v t) ...) e ...)))))))
 (define a 1)
@@ -186,7 +185,7 @@ pub const IDENTIFIERS: &str = r#"
 (define %/b/1 2)
 ((lambda (%/temp/2 %/temp/3) (begin (set! %/a/0 %/temp/2) (set! %/b/1 %/temp/3))) %/b/1 %/a/0)
 
-# temporaries as definitions of a body (lib 12.7): each has a mark of its own
+; temporaries as definitions of a body (lib 12.7): each has a mark of its own
 (import (rnrs))
 (define-syntax deft (lambda (s) (syntax-case (generate-temporaries '(1 2)) () ((a b) #'(begin (define a 1) (define b a))))))
 (deft)
@@ -196,19 +195,19 @@ pub const IDENTIFIERS: &str = r#"
 (define %/temp/2 1)
 (define %/temp/3 %/temp/2)
 
-# a temporary that nothing binds (lib 12.7): no span, the use
+; a temporary that nothing binds (lib 12.7): no span, the use
 (import (rnrs))
 (define-syntax mt (lambda (s) (car (generate-temporaries '(1)))))
 (list §(mt))
-=> Unbound temp
+=> 21 Unbound: temp
 
-# generate-temporaries of what is no list (lib 12.7)
+; generate-temporaries of what is no list (lib 12.7)
 (import (rnrs))
 (define-syntax mt (lambda (s) (syntax-case s () ((_ a) (car (generate-temporaries #'a))))))
 §(mt 5)
-=> PrimFault generate-temporaries
+=> 40 PrimFault: generate-temporaries
 
-# syntax->datum and length (lib 12.6)
+; syntax->datum and length (lib 12.6)
 (import (rnrs))
 (define-syntax size-of (lambda (s) (syntax-case s () ((_ d) (datum->syntax #'k (length (syntax->datum #'d)))))))
 (size-of (a b c))
@@ -216,7 +215,7 @@ pub const IDENTIFIERS: &str = r#"
 => 3
 0
 
-# identifier? (lib 12.5)
+; identifier? (lib 12.5)
 (import (rnrs))
 (define-syntax id? (lambda (s) (syntax-case s () ((_ a) (datum->syntax #'k (identifier? #'a))))))
 (id? x)
@@ -228,14 +227,14 @@ pub const IDENTIFIERS: &str = r#"
 #f
 #t
 
-# identifier? of a plain symbol is false (lib 12.5): only a syntax object is an identifier
+; identifier? of a plain symbol is false (lib 12.5): only a syntax object is an identifier
 (import (rnrs))
 (define-syntax id? (lambda (s) (syntax-case s () ((_ a) (datum->syntax #'k (identifier? (syntax->datum #'a)))))))
 (id? x)
 => #f
 
-# a literal of a macro that a macro makes, from the user's name (lib 12.4)
-# is? tests its operand against the user's `car`.
+; a literal of a macro that a macro makes, from the user's name (lib 12.4)
+; is? tests its operand against the user's `car`.
 (import (rnrs))
 (define-syntax def-is (lambda (s) (syntax-case s () ((_ k n) #'(define-syntax k (lambda (t) (syntax-case t (n) ((_ n) #'#t) ((_ x) #'#f))))))))
 (def-is car? car)
@@ -244,5 +243,4 @@ pub const IDENTIFIERS: &str = r#"
 (lambda (car) (car? car))
 => #t
 #f
-(lambda (%/car/0) #f)
-"#;
+(lambda (%/car/0) #f)"#;

@@ -1,15 +1,14 @@
 //! Programs without files beside them.
 
 /// What a program imports of `(rnrs)`.
-pub const IMPORTS: &str = r#"
-§
-=> NotLibrary
+pub const IMPORTS: &str = r#"§
+=> 10 NotLibrary
 
 §x (import (rnrs))
-=> NotLibrary
+=> 10 NotLibrary
 
  §(export)
-=> NotLibrary
+=> 10 NotLibrary
 
 (import (rnrs base))
 =>
@@ -18,14 +17,14 @@ pub const IMPORTS: &str = r#"
 => 1
 
 (import) (§define x 1)
-=> Unbound define
+=> 21 Unbound: define
 
 (import (rnrs base)) (define cons* 1) cons*
 => (define %/cons*/0 1)
 %/cons*/0
 
 (import (only (rnrs) define lambda)) (define f (lambda (x) x)) (f §car)
-=> Unbound car
+=> 21 Unbound: car
 
 (import (prefix (rnrs base) b:)) (b:define x 1) (b:car x)
 => (define %/x/0 1)
@@ -35,7 +34,7 @@ pub const IMPORTS: &str = r#"
 => (car (quote ()))
 
 (import (rename (rnrs) (car kar))) §car
-=> Unbound car
+=> 21 Unbound: car
 
 (import (except (rnrs) car)) (define car cdr) car
 => (define %/car/0 cdr)
@@ -54,26 +53,25 @@ pub const IMPORTS: &str = r#"
 => 1
 
 (import (only (rnrs) §zork))
-=> ImportNameMissing zork
+=> 15 ImportNameMissing: zork
 
 (import (except (only (rnrs) car) §cdr))
-=> ImportNameMissing cdr
+=> 15 ImportNameMissing: cdr
 
 (import §(rename (rnrs) (car cdr)))
-=> ImportConflict cdr
+=> 16 ImportConflict: cdr
 
 (import (rnrs) §(rename (only (rnrs) car) (car cdr)))
-=> ImportConflict cdr
+=> 16 ImportConflict: cdr
 
 (import (only (rnrs) zork) §(rnrs base (7)))
-=> VersionRefused (rnrs base)
+=> 13 VersionRefused: (rnrs base)
 
 (import §(only))
-=> BadForm
+=> 20 BadForm
 
 (import (rnrs) §rnrs)
-=> BadForm
+=> 20 BadForm
 
 (import (rnrs) §(m))
-=> LibraryNotFound (m)
-"#;
+=> 12 LibraryNotFound: (m)"#;
