@@ -23,7 +23,7 @@ use crate::tables::positions::POSITIONS;
 use crate::tables::realistic::REALISTIC;
 use crate::tables::transformer_faults::TRANSFORMER_FAULTS;
 use crate::tables::transformers::TRANSFORMERS;
-use std::alloc::Global;
+use std::alloc::{AllocError, Global};
 use std::marker::Brand;
 use std::sync::ledger::{Blank, Ledger};
 use std::test::Fail;
@@ -73,11 +73,11 @@ fn check_tables<N: Ledger, L: Ledger>(
     alloc: Global,
     prelude: &Prelude,
     prims: &PrimTable,
-    tables: &[&str],
+    tables: &[String],
     counts: &mut Counts<N, L>,
 ) -> Result<(), Fail> {
     for table in tables {
-        check_table(alloc, prelude, prims, table, counts)?;
+        check_table(alloc, prelude, prims, table.as_str(), counts)?;
     }
     Ok(())
 }
@@ -86,7 +86,7 @@ fn check_tables<N: Ledger, L: Ledger>(
 fn check_over<N: Ledger, L: Ledger>(
     alloc: Global,
     prims: &PrimTable,
-    tables: &[&str],
+    tables: &[String],
     counts: &mut Counts<N, L>,
 ) -> Result<(), Fail> {
     let earlier = Earlier {
@@ -104,7 +104,7 @@ fn check_over<N: Ledger, L: Ledger>(
 fn check_both<'a, N: Ledger, L: Ledger>(
     alloc: Global,
     prims: &PrimTable,
-    tables: &[&str],
+    tables: &[String],
     nodes: &'a mut Steps<N>,
     steps: &'a mut Steps<L>,
 ) -> Result<(), Fail> {
@@ -115,7 +115,7 @@ fn check_both<'a, N: Ledger, L: Ledger>(
 fn check_counted<N: Ledger, L: Ledger>(
     alloc: Global,
     prims: &PrimTable,
-    tables: &[&str],
+    tables: &[String],
     nodes: Blank,
     steps: Blank,
 ) -> Result<(), Fail>
@@ -130,13 +130,23 @@ fn check_counted<N: Ledger, L: Ledger>(
 }
 
 // The same, counting for nobody.
-fn check_uncounted(alloc: Global, prims: &PrimTable, tables: &[&str]) -> Result<(), Fail> {
+fn check_uncounted(alloc: Global, prims: &PrimTable, tables: &[String]) -> Result<(), Fail> {
     check_counted::<Brand, Brand>(alloc, prims, tables, Blank::new(1), Blank::new(1))
 }
 
+// Texts that are owned, since a function that counts for nobody may not be handed a `&str`.
+fn texts(alloc: Global, tables: &[&str]) -> Result<Vec<String>, AllocError> {
+    let mut all = Vec::new(alloc);
+    for table in tables {
+        all.push(String::from_str(alloc, table)?)?;
+    }
+    Ok(all)
+}
+
 fn check(alloc: Global, tables: &[&str]) -> Result<(), Fail> {
+    let tables = texts(alloc, tables)?;
     match primitives(alloc)? {
-        Some(prims) => check_uncounted(alloc, &prims, tables),
+        Some(prims) => check_uncounted(alloc, &prims, &tables),
         None => Err("rows in order are refused".into()),
     }
 }
