@@ -8,7 +8,7 @@ use Rattle.sx_tree.specs.declared.change.Change.{Change}
 use Rattle.sx_tree.specs.Measures.{Fits}
 use Rattle.sx_tree.proofs.TreeLaws.{chain-append}
 use Rattle.sx_tree.proofs.MeasureLaws.{chain_fits, height-unspanned, size-unspanned}
-use Rattle.sx_syntax.specs.Kept.{weight, IsRest, IsElements}
+use Rattle.sx_syntax.specs.Kept.{weight, IsRest, IsElements, Parts}
 
 -- as a rest it is as it was
 pub list_rest : (t : Tree) → is_list t ≡ true → spanned None t ≡ rest_of t
@@ -139,3 +139,7 @@ first_less t x y s e = omega (arith, ap weight e)
 
 pub rest_less : (t x y : Tree) (s : Option Span) → t ≡ pair s x y → weight y < weight t
 rest_less t x y s e = omega (arith, ap weight e)
+
+pub parts_none : (o : Option (Tree × Tree)) (t : Tree) → Parts o t → ((q : Tree × Tree) → o ≡ Some q → ⊥) → is_pair t ≡ false
+parts_none None t p n = p
+parts_none (Some q) t p n = absurd (n q refl)

@@ -56,6 +56,10 @@ from_list-returns-in_err-end-clause-refused t c =
     let whole = chain (map f c.args.items.now) end in
     rw (p.1, p.2) (refuses_more c.in_err-end.field-0.0 (Fits end) (Fits whole) (λ h. chain_fits (map f c.args.items.now) end h) c.in_err-end.ensures.refused)
 
+pub from_end-returns-clause-rest : goal.from_end-returns-clause-rest
+from_end-returns-clause-rest t c =
+    IfOk-weaker c.from_datum.result _ _ (λ k h. subst IsRest (sym h) (grown_rest c.args.spans c.args.sample.now c.args.tail.now c.requires)) c.from_datum.ensures.tree
+
 pub data_before-from_datum-requires : goal.data_before-from_datum-requires
 data_before-from_datum-requires t c =
     let at = c.loop-at.at - 1 in

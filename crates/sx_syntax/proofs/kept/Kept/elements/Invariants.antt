@@ -2,7 +2,7 @@ use Rattle.std.proofs.Common.{◌≡◌}
 use Rattle.sx_tree.specs.Tree.{chain}
 use Rattle.sx_tree.specs.Changes.{changed}
 use Rattle.sx_syntax.specs.Kept.{weight, IsElements}
-use Rattle.sx_syntax.proofs.pairs.Kept.elements.Given as goal
+use Rattle.sx_syntax.proofs.kept.Kept.elements.Given as goal
 
 abbrev pub invariant-loop-left : goal.invariant-loop-left
 invariant-loop-left l = record {
