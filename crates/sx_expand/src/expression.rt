@@ -13,6 +13,7 @@ use crate::body::body;
 use crate::inside::{MOST_ROUND, deeper};
 use crate::keywords::keywords_form;
 use crate::patterns::syntax_case;
+use crate::quasi::{quasi_form, quasi_syntax_form};
 use crate::settle::{Settled, settle};
 use std::alloc::Global;
 use std::rc::Rc;
@@ -244,6 +245,12 @@ fn perform<N: Ledger, L: Ledger>(
             means,
             counts,
             room,
+        ),
+        Plan::Quasi(quasi) => quasi_form(
+            state, form, &quasi, place, level, inner, means, counts, room,
+        ),
+        Plan::QuasiSyntax(quasi, span) => quasi_syntax_form(
+            state, form, &quasi, span, place, level, inner, means, counts, room,
         ),
         // No plan of a form that was settled is a use.
         Plan::Use(_) => Err(state.fault_form(FaultKind::BadForm, form, place)),

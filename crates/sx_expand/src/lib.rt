@@ -23,5 +23,6 @@ pub mod inside;
 pub mod keywords;
 pub mod libraries;
 pub mod patterns;
+pub mod quasi;
 pub mod settle;
 pub mod top;

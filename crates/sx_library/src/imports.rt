@@ -1,8 +1,9 @@
 //! The names that the imports of a form give.
 
-ghost use Rattle.std.specs.Prelude.{◌≡◌, [], IfOk, option_map};
+ghost use Rattle.std.specs.Prelude.{◌≡◌, [], IfOk, option_map, map};
 ghost use Rattle.sx_base.specs.Gives.{Gives};
 ghost use Rattle.sx_import.specs.Turns.{turns};
+ghost use Rattle.sx_derived.specs.Derived.{relabelled_in};
 ghost use Rattle.sx_library.specs.Imports.{named, record_referred, record_exports, referred, refer, exported, import_into, form_names};
 ghost use Rattle.sx_library.specs.Records.{needed_records};
 ghost use Rattle.sx_load.specs.Load.{fitting, builtin_version};
@@ -17,6 +18,7 @@ use sx_base::name::Label;
 use sx_base::symbol::Symbol;
 use sx_builtin::exports::exports;
 use sx_core::record::LibRecord;
+use sx_derived::derived::relabelled;
 use sx_forms::set::Import;
 use sx_import::names::{Names, import_names, join_names};
 use sx_import::set::ImportSet;
@@ -109,9 +111,27 @@ fn exported(
     ensures { IfOk result (λ names. names ≡ exported (needed_records records.now needs.now) library.now) }
 {
     match exports(alloc, library)? {
-        Some(names) => Ok(names),
+        Some(names) => match records.named(needs, &LibName::Derived) {
+            Some(derived) => all_relabelled(alloc, derived, names),
+            None => Ok(names),
+        },
         None => record_exports(alloc, records.named(needs, library)),
     }
+}
+
+// The names of the implementation, the derived ones with their labels in the record.
+fn all_relabelled(
+    alloc: Global,
+    derived: &LibRecord,
+    names: Items<(Symbol, Label)>,
+) -> Result<Items<(Symbol, Label)>, Memory>
+    ensures { IfOk result (λ es. es ≡ map (relabelled_in derived.now) names) }
+{
+    let mut all = Items::new(alloc);
+    for (name, label) in names.into_vec() {
+        all.push(relabelled(derived, name, label)?)?;
+    }
+    Ok(all)
 }
 
 fn record_exports(alloc: Global, one: Option<&LibRecord>) -> Result<Items<(Symbol, Label)>, Memory>
