@@ -61,6 +61,6 @@ fn main(rt: HostRuntime) -> io::Result<ExitCode> {
 }
 
 #[cfg(test)]
-mod programs;
+mod primitives;
 #[cfg(test)]
 mod tests;

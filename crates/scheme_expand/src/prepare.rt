@@ -198,7 +198,9 @@ pub fn prepare<F: Files, N: Ledger, L: Ledger>(
         &mut loading,
     ) {
         Ok(found) => of_found(alloc, &prelude, job.report, &found, &loading, prims, counts),
-        Err(Halt::Fault(fault)) => of_fault(alloc, &prelude, job.report, &loading, fault, prims, counts),
+        Err(Halt::Fault(fault)) => of_fault(
+            alloc, &prelude, job.report, &loading, fault, prims, counts,
+        ),
         Err(Halt::Read) => Err(Unfinished::Read),
         Err(Halt::Memory) => Err(Unfinished::Memory),
     }

@@ -30,6 +30,30 @@ fn with_row(rows: Vec<PrimRow>, row: PrimRow) -> Result<Vec<PrimRow>, Memory> {
     Ok(rows)
 }
 
+// Both counters are borrowed for one time, as `Counts` has them.
+fn run_both<'a, N: Ledger, L: Ledger>(
+    rt: &HostRuntime,
+    words: &[String],
+    prims: &PrimTable,
+    nodes: &'a mut Steps<N>,
+    steps: &'a mut Steps<L>,
+) -> Result<Status, Memory> {
+    let alloc = rt.alloc();
+    let mut files = HostFiles::new(alloc, rt.clone()?);
+    let mut out = HostSink::new(rt.stdout());
+    let mut err = HostSink::new(rt.stderr());
+    let mut counts = Counts { nodes, steps };
+    Ok(top::run(
+        alloc,
+        words,
+        &mut files,
+        &mut out,
+        &mut err,
+        prims,
+        &mut counts,
+    ))
+}
+
 fn run_counted<N: Ledger, L: Ledger>(
     rt: &HostRuntime,
     words: &[String],
@@ -42,17 +66,9 @@ fn run_counted<N: Ledger, L: Ledger>(
     requires step_name { steps.name ≡ L.name }
     requires step_parts { (steps.parts ≡ L.parts) × (0 < L.parts) }
 {
-    let alloc = rt.alloc();
-    let mut files = HostFiles::new(alloc, rt.clone()?);
-    let mut out = HostSink::new(rt.stdout());
-    let mut err = HostSink::new(rt.stderr());
     let mut nodes = Steps::<N>::open(nodes);
     let mut steps = Steps::<L>::open(steps);
-    let mut counts = Counts {
-        nodes: &mut nodes,
-        steps: &mut steps,
-    };
-    Ok(top::run(alloc, words, &mut files, &mut out, &mut err, prims, &mut counts))
+    run_both(rt, words, prims, &mut nodes, &mut steps)
 }
 
 // A run whose nodes and fuel nobody counts. Rows in order always fill the table.

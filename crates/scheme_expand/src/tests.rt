@@ -1,6 +1,6 @@
 ghost use Rattle.std.specs.Prelude.{◌≡◌, ◌<◌};
 
-use crate::programs::PROGRAMS;
+use crate::primitives::primitives;
 use crate::status::Status;
 use crate::top::run;
 use std::alloc::Global;
@@ -10,6 +10,8 @@ use std::sync::ledger::{Blank, Ledger};
 use std::test::Fail;
 use sx_base::steps::Steps;
 use sx_outside::{MemFiles, MemSink};
+use sx_prims::table::PrimTable;
+use sx_standing::means::Counts;
 
 // What a run answered and wrote.
 #[derive(Drop)]
@@ -25,28 +27,62 @@ type Held<'a> = (&'a str, &'a [u8]);
 // A run over some files and words; the calls with these numbers fail.
 fn run_over(
     alloc: Global,
+    prims: &PrimTable,
     held: &[Held],
     words: &[&str],
     reads: &[u64],
     outs: &[(u64, usize)],
     errs: &[(u64, usize)],
 ) -> Result<Outcome, Fail> {
-    run_counted::<Brand>(alloc, held, words, reads, outs, errs, Blank::new(1))
+    run_counted::<Brand, Brand>(
+        alloc,
+        prims,
+        held,
+        words,
+        reads,
+        outs,
+        errs,
+        Blank::new(1),
+        Blank::new(1),
+    )
 }
 
-fn run_counted<N: Ledger>(
+fn run_counted<N: Ledger, L: Ledger>(
     alloc: Global,
+    prims: &PrimTable,
     held: &[Held],
     words: &[&str],
     reads: &[u64],
     outs: &[(u64, usize)],
     errs: &[(u64, usize)],
-    blank: Blank,
+    nodes: Blank,
+    steps: Blank,
 ) -> Result<Outcome, Fail>
-    requires name { blank.name ≡ N.name }
-    requires parts { (blank.parts ≡ N.parts) × (0 < N.parts) }
+    requires name { nodes.name ≡ N.name }
+    requires parts { (nodes.parts ≡ N.parts) × (0 < N.parts) }
+    requires step_name { steps.name ≡ L.name }
+    requires step_parts { (steps.parts ≡ L.parts) × (0 < L.parts) }
 {
-    let mut nodes = Steps::<N>::open(blank);
+    let mut nodes = Steps::<N>::open(nodes);
+    let mut steps = Steps::<L>::open(steps);
+    run_both(
+        alloc, prims, held, words, reads, outs, errs, &mut nodes, &mut steps,
+    )
+}
+
+// Both counters are borrowed for one time, as `Counts` has them.
+fn run_both<'a, N: Ledger, L: Ledger>(
+    alloc: Global,
+    prims: &PrimTable,
+    held: &[Held],
+    words: &[&str],
+    reads: &[u64],
+    outs: &[(u64, usize)],
+    errs: &[(u64, usize)],
+    nodes: &'a mut Steps<N>,
+    steps: &'a mut Steps<L>,
+) -> Result<Outcome, Fail> {
+    let mut counts = Counts { nodes, steps };
     let mut pairs = Vec::new(alloc);
     for (path, bytes) in held {
         pairs.push((
@@ -63,7 +99,15 @@ fn run_counted<N: Ledger>(
     for word in words {
         texts.push(String::from_str(alloc, word)?)?;
     }
-    let status = run(alloc, &texts, &mut files, &mut out, &mut err, &mut nodes);
+    let status = run(
+        alloc,
+        &texts,
+        &mut files,
+        &mut out,
+        &mut err,
+        prims,
+        &mut counts,
+    );
     Ok(Outcome {
         status,
         out: String::from_utf8_lossy(alloc, out.bytes())?,
@@ -73,55 +117,6 @@ fn run_counted<N: Ledger>(
 
 const USAGE: &str =
     "usage: scheme-expand [--root DIR[:DIR]...] [--cache DIR] [--report] [--write core|xref] PROGRAM | --make N\n";
-
-// What a run over a program is to answer and write.
-fn expected(alloc: Global, answer: &str) -> Result<Outcome, Fail> {
-    let mut out = String::new(alloc);
-    let mut err = String::new(alloc);
-    if answer.starts_with("p.sps:") {
-        err.push_str(answer)?;
-        err.push_str("\n")?;
-        return Ok(Outcome {
-            status: Status::Fault,
-            out,
-            err,
-        });
-    }
-    out.push_str("(import (rnrs))\n")?;
-    if !answer.is_empty() {
-        out.push_str(answer)?;
-        out.push_str("\n")?;
-    }
-    Ok(Outcome {
-        status: Status::Done,
-        out,
-        err,
-    })
-}
-
-// Whether a program gives its text, or the line of its fault, and nothing else.
-fn gives(alloc: Global, source: &str, answer: &str) -> Result<bool, Fail> {
-    let held = [("p.sps", source.as_bytes())];
-    let ran = run_over(alloc, &held, &["p.sps"], &[], &[], &[])?;
-    let expected = expected(alloc, answer)?;
-    Ok(
-        ran.status == expected.status
-            && ran.out.as_str() == expected.out.as_str()
-            && ran.err.as_str() == expected.err.as_str(),
-    )
-}
-
-fn check_programs(rt: &impl Abort, alloc: Global, programs: &[(&str, &str)]) -> Result<(), Fail> {
-    for (source, answer) in programs {
-        assert!(rt; gives(alloc, source, answer)?, "{source}");
-    }
-    Ok(())
-}
-
-#[test]
-fn programs_give_their_text_or_their_first_fault(rt: HostRuntime) -> Result<(), Fail> {
-    check_programs(&rt, rt.alloc(), &PROGRAMS)
-}
 
 // Words, and whether the program is expanded: else they are refused. The map of identifiers and libraries
 // made in memory aren't built, and the words for them are refused too.
@@ -143,8 +138,8 @@ const WORDS: [(&[&str], bool); 14] = [
 ];
 
 // Whether the words are taken, or refused with the usage line and nothing else.
-fn are_taken(alloc: Global, words: &[&str], taken: bool) -> Result<bool, Fail> {
-    let ran = run_over(alloc, EMPTY_PROGRAM, words, &[], &[], &[])?;
+fn are_taken(alloc: Global, prims: &PrimTable, words: &[&str], taken: bool) -> Result<bool, Fail> {
+    let ran = run_over(alloc, prims, EMPTY_PROGRAM, words, &[], &[], &[])?;
     let (status, out, err) = if taken {
         (Status::Done, "(import (rnrs))\n", "")
     } else {
@@ -153,11 +148,23 @@ fn are_taken(alloc: Global, words: &[&str], taken: bool) -> Result<bool, Fail> {
     Ok(ran.status == status && ran.out.as_str() == out && ran.err.as_str() == err)
 }
 
-fn check_words(rt: &impl Abort, alloc: Global, rows: &[(&[&str], bool)]) -> Result<(), Fail> {
+fn check_all_words(
+    rt: &impl Abort,
+    alloc: Global,
+    prims: &PrimTable,
+    rows: &[(&[&str], bool)],
+) -> Result<(), Fail> {
     for (words, taken) in rows {
-        assert!(rt; are_taken(alloc, words, *taken)?, "{words:?}");
+        assert!(rt; are_taken(alloc, prims, words, *taken)?, "{words:?}");
     }
     Ok(())
+}
+
+fn check_words(rt: &impl Abort, alloc: Global, rows: &[(&[&str], bool)]) -> Result<(), Fail> {
+    match primitives(alloc)? {
+        Some(prims) => check_all_words(rt, alloc, &prims, rows),
+        None => Err("rows in order are refused".into()),
+    }
 }
 
 #[test]
@@ -325,17 +332,29 @@ const LIBRARIES: [Case; 7] = [
 ];
 
 // Whether a run over the case answers and writes what it should.
-fn ends_so(alloc: Global, case: &Case) -> Result<bool, Fail> {
+fn ends_so(alloc: Global, prims: &PrimTable, case: &Case) -> Result<bool, Fail> {
     let (held, words) = (case.held, case.words);
-    let ran = run_over(alloc, held, words, case.reads, case.outs, case.errs)?;
+    let ran = run_over(alloc, prims, held, words, case.reads, case.outs, case.errs)?;
     Ok(ran.status == case.status && ran.out.as_str() == case.out && ran.err.as_str() == case.err)
 }
 
-fn check_cases(rt: &impl Abort, alloc: Global, cases: &[Case]) -> Result<(), Fail> {
+fn check_all_cases(
+    rt: &impl Abort,
+    alloc: Global,
+    prims: &PrimTable,
+    cases: &[Case],
+) -> Result<(), Fail> {
     for case in cases {
-        assert!(rt; ends_so(alloc, case)?, "{}", case.err);
+        assert!(rt; ends_so(alloc, prims, case)?, "{}", case.err);
     }
     Ok(())
+}
+
+fn check_cases(rt: &impl Abort, alloc: Global, cases: &[Case]) -> Result<(), Fail> {
+    match primitives(alloc)? {
+        Some(prims) => check_all_cases(rt, alloc, &prims, cases),
+        None => Err("rows in order are refused".into()),
+    }
 }
 
 #[test]
@@ -348,19 +367,41 @@ fn libraries_stand_before_the_program_and_in_the_report(rt: HostRuntime) -> Resu
     check_cases(&rt, rt.alloc(), &LIBRARIES)
 }
 
+fn check_lengths(rt: &impl Abort, alloc: Global, prims: &PrimTable) -> Result<(), Fail> {
+    let mut source = Vec::from_slice(alloc, b"(import (rnrs))")?;
+    source.resize(4_194_304, b' ')?;
+    let read = run_over(
+        alloc,
+        prims,
+        &[("p.sps", &source)],
+        &["p.sps"],
+        &[],
+        &[],
+        &[],
+    )?;
+    assert_eq!(rt; read.out.as_str(), "(import (rnrs))\n");
+    assert_eq!(rt; read.status, Status::Done);
+    source.push(b' ')?;
+    let refused = run_over(
+        alloc,
+        prims,
+        &[("p.sps", &source)],
+        &["p.sps"],
+        &[],
+        &[],
+        &[],
+    )?;
+    assert_eq!(rt; refused.err.as_str(), "p.sps:1:1: 9 TooLong\n");
+    assert_eq!(rt; refused.status, Status::Fault);
+    Ok(())
+}
+
 #[test]
 fn a_file_of_the_greatest_length_is_read_and_a_longer_one_is_not(
     rt: HostRuntime,
 ) -> Result<(), Fail> {
-    let alloc = rt.alloc();
-    let mut source = Vec::from_slice(alloc, b"(import (rnrs))")?;
-    source.resize(4_194_304, b' ')?;
-    let read = run_over(alloc, &[("p.sps", &source)], &["p.sps"], &[], &[], &[])?;
-    assert_eq!(rt; read.out.as_str(), "(import (rnrs))\n");
-    assert_eq!(rt; read.status, Status::Done);
-    source.push(b' ')?;
-    let refused = run_over(alloc, &[("p.sps", &source)], &["p.sps"], &[], &[], &[])?;
-    assert_eq!(rt; refused.err.as_str(), "p.sps:1:1: 9 TooLong\n");
-    assert_eq!(rt; refused.status, Status::Fault);
-    Ok(())
+    match primitives(rt.alloc())? {
+        Some(prims) => check_lengths(&rt, rt.alloc(), &prims),
+        None => Err("rows in order are refused".into()),
+    }
 }

@@ -10,9 +10,9 @@ use crate::status::Status;
 use crate::words::job_asked;
 use std::alloc::Global;
 use std::sync::ledger::Ledger;
+use sx_outside::{Files, Sink};
 use sx_prims::table::PrimTable;
 use sx_standing::means::Counts;
-use sx_outside::{Files, Sink};
 
 /// The line that is written where the words are refused.
 pub const USAGE: &[u8] =

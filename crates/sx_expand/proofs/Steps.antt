@@ -46,3 +46,8 @@ item_step rs (suc room) at depth done t s h =
 pub item_too_deep : (rs : List LibRecord) (at : BodyAt) (depth : ℕ) (done : Taken) (t : Tree) (s : State) → (inside rs 0).item at depth done t s ≡ Err (fault_at kind.TooDeep t at.place [])
 unfolding inside
 item_too_deep rs at depth done t s = refl
+
+pub earlier_inside : (rs : List LibRecord) (room : ℕ) → (inside rs room).earlier ≡ rs
+unfolding inside
+earlier_inside rs zero = refl
+earlier_inside rs (suc room) = refl

@@ -89,7 +89,7 @@ unfoldable pub settle_item_to : List LibRecord → ℕ → BodyAt → ℕ → Ta
 settle_item_to rs zero at depth done t s = after (item_step rs at depth done t s) (item_by (λ done l. too_many t at.place) at t)
 settle_item_to rs (suc left) at depth done t s =
     after (item_step rs at depth done t s)
-        (item_by (λ taken l s'. after (next_form rs left at.place t l (Some at.frame) s') (settle_item_to rs left (at_use at t) depth taken)) at t)
+    (item_by (λ taken l s'. after (next_form rs left at.place t l (Some at.frame) s') (settle_item_to rs left (at_use at t) depth taken)) at t)
 
 abbrev pub settle_item : List LibRecord → BodyAt → ℕ → Taken → Tree → Does (Taken × SettledItem)
 settle_item rs at depth done t s = settle_item_to rs s.uses_left at depth done t s

@@ -4,7 +4,6 @@ ghost use Rattle.std.specs.Prelude.{◌≡◌, IfOk, None, false};
 ghost use Rattle.sx_base.specs.Datum as datum;
 ghost use Rattle.sx_base.specs.declared.atom.Atom.TheVariants as atoms;
 ghost use Rattle.sx_base.specs.Act.{GivesAfter};
-ghost use Rattle.sx_stage.specs.Libraries.{earlier_in};
 ghost use Rattle.sx_expand.specs.Expression.{inside};
 ghost use Rattle.sx_expand.specs.Body.{splice, item, perform_item, value_of, finish_one, finish_all, finish, body, body_core, with_inits, no_value};
 
@@ -12,6 +11,7 @@ use crate::expression::{expression, procedure, procedure_of_case, sequence_of, s
 use crate::inside::{MOST_ROUND, deeper};
 use crate::keywords::{define_syntax, with_keywords};
 use crate::settle::{SettledItem, settle_item};
+use crate::transformers::Transformers;
 use std::alloc::Global;
 use std::sync::ledger::Ledger;
 use sx_base::atom::Atom;
@@ -27,7 +27,7 @@ use sx_heads::item::Item;
 use sx_heads::kept::KeptHeads;
 use sx_heads::taken::{BodyAt, BodyKind, Taken, Waiting, Waits};
 use sx_standing::expansion::Expansion;
-use sx_standing::means::{Counts, Means};
+use sx_standing::means::Counts;
 use sx_syntax::syn::Syn;
 
 fn falsehood() -> Datum
@@ -88,17 +88,17 @@ fn body_core(alloc: Global, lines: Vec<Line>) -> Result<Core, Memory>
 
 /// Forms of a body, in order.
 #[cycle(form)]
-pub(crate) fn splice<N: Ledger, L: Ledger>(
+pub(crate) fn splice<M: Transformers, N: Ledger, L: Ledger>(
     state: &mut Expansion,
     at: &BodyAt,
     depth: u16,
     taken: &mut Taken,
     forms: &[Syn],
-    means: &Means,
+    means: &M,
     counts: &mut Counts<N, L>,
     room: u16,
 ) -> Result<(), Stop>
-    ensures { GivesAfter (λ _. taken.new) result state.new (splice (inside (earlier_in means.now.earlier) room) at.now depth taken.old forms.now state.old) }
+    ensures { GivesAfter (λ _. taken.new) result state.new (splice (inside (M.records means.now) room) at.now depth taken.old forms.now state.old) }
 {
     for form in forms {
         item(state, at, depth, taken, form, means, counts, room)?;
@@ -108,17 +108,17 @@ pub(crate) fn splice<N: Ledger, L: Ledger>(
 
 #[cycle(form)]
 #[tactic(auto, using(crate::proofs::Steps::item_step, crate::proofs::Steps::item_too_deep))]
-fn item<N: Ledger, L: Ledger>(
+fn item<M: Transformers, N: Ledger, L: Ledger>(
     state: &mut Expansion,
     at: &BodyAt,
     depth: u16,
     taken: &mut Taken,
     form: &Syn,
-    means: &Means,
+    means: &M,
     counts: &mut Counts<N, L>,
     room: u16,
 ) -> Result<(), Stop>
-    ensures { GivesAfter (λ _. taken.new) result state.new ((inside (earlier_in means.now.earlier) room).item at.now depth taken.old form.now state.old) }
+    ensures { GivesAfter (λ _. taken.new) result state.new ((inside (M.records means.now) room).item at.now depth taken.old form.now state.old) }
 {
     if room == 0 {
         return Err(state.fault_form(FaultKind::TooDeep, form, &at.place));
@@ -127,18 +127,18 @@ fn item<N: Ledger, L: Ledger>(
 }
 
 #[cycle(form)]
-#[tactic(auto, unfolding(crate::specs::Body::item))]
-fn item_at<N: Ledger, L: Ledger>(
+#[tactic(auto, unfolding(crate::specs::Body::item), using(crate::proofs::Steps::earlier_inside))]
+fn item_at<M: Transformers, N: Ledger, L: Ledger>(
     state: &mut Expansion,
     at: &BodyAt,
     depth: u16,
     taken: &mut Taken,
     form: &Syn,
-    means: &Means,
+    means: &M,
     counts: &mut Counts<N, L>,
     room: u16,
 ) -> Result<(), Stop>
-    ensures { GivesAfter (λ _. taken.new) result state.new (item (inside (earlier_in means.now.earlier) room) at.now depth taken.old form.now state.old) }
+    ensures { GivesAfter (λ _. taken.new) result state.new (item (inside (M.records means.now) room) at.now depth taken.old form.now state.old) }
 {
     if depth > MOST_ROUND {
         return Err(state.fault_form(FaultKind::TooDeep, form, &at.place));
@@ -150,18 +150,18 @@ fn item_at<N: Ledger, L: Ledger>(
 /// What is done with a form of a body that is no use.
 #[cycle(form)]
 #[tactic(auto, unfolding(crate::specs::Body::perform_item))]
-fn perform_item<N: Ledger, L: Ledger>(
+fn perform_item<M: Transformers, N: Ledger, L: Ledger>(
     state: &mut Expansion,
     at: &BodyAt,
     depth: u16,
     taken: &mut Taken,
     form: &Syn,
     item: Item,
-    means: &Means,
+    means: &M,
     counts: &mut Counts<N, L>,
     room: u16,
 ) -> Result<(), Stop>
-    ensures { GivesAfter (λ _. taken.new) result state.new (perform_item (inside (earlier_in means.now.earlier) room) at.now depth taken.old form.now item state.old) }
+    ensures { GivesAfter (λ _. taken.new) result state.new (perform_item (inside (M.records means.now) room) at.now depth taken.old form.now item state.old) }
 {
     let inner = deeper(depth);
     match item {
@@ -210,17 +210,17 @@ fn perform_item<N: Ledger, L: Ledger>(
 }
 
 #[cycle(form)]
-fn value_of<N: Ledger, L: Ledger>(
+fn value_of<M: Transformers, N: Ledger, L: Ledger>(
     state: &mut Expansion,
     value: &Option<Syn>,
     place: &Span,
     level: u32,
     depth: u16,
-    means: &Means,
+    means: &M,
     counts: &mut Counts<N, L>,
     room: u16,
 ) -> Result<Core, Stop>
-    ensures { GivesAfter (λ c. c) result state.new (value_of (inside (earlier_in means.now.earlier) room) place.now level depth value.now state.old) }
+    ensures { GivesAfter (λ c. c) result state.new (value_of (inside (M.records means.now) room) place.now level depth value.now state.old) }
 {
     match value {
         None => Ok(no_value(state.alloc())?),
@@ -230,21 +230,30 @@ fn value_of<N: Ledger, L: Ledger>(
 
 #[cycle(form)]
 #[tactic(auto, unfolding(crate::specs::Body::finish_as))]
-fn finish_one<N: Ledger, L: Ledger>(
+fn finish_one<M: Transformers, N: Ledger, L: Ledger>(
     state: &mut Expansion,
     waiting: &Waiting,
     level: u32,
-    means: &Means,
+    means: &M,
     counts: &mut Counts<N, L>,
     room: u16,
 ) -> Result<Line, Stop>
-    ensures { GivesAfter (λ c. c) result state.new (finish_one (inside (earlier_in means.now.earlier) room) level waiting.now state.old) }
+    ensures { GivesAfter (λ c. c) result state.new (finish_one (inside (M.records means.now) room) level waiting.now state.old) }
 {
     let place = &waiting.place;
     let depth = waiting.depth;
     match &waiting.what {
         Waits::Variable(label, value) => {
-            let value = value_of(state, value, place, level, deeper(depth), means, counts, room)?;
+            let value = value_of(
+                state,
+                value,
+                place,
+                level,
+                deeper(depth),
+                means,
+                counts,
+                room,
+            )?;
             Ok(Line::Define(label.share()?, value))
         }
         Waits::Procedure(label, form, ids, forms) => {
@@ -273,15 +282,15 @@ fn finish_one<N: Ledger, L: Ledger>(
 
 /// The second pass.
 #[cycle(form)]
-pub(crate) fn finish_all<N: Ledger, L: Ledger>(
+pub(crate) fn finish_all<M: Transformers, N: Ledger, L: Ledger>(
     state: &mut Expansion,
     waiting: &[Waiting],
     level: u32,
-    means: &Means,
+    means: &M,
     counts: &mut Counts<N, L>,
     room: u16,
 ) -> Result<Vec<Line>, Stop>
-    ensures { GivesAfter (λ v. v.items) result state.new (finish_all (inside (earlier_in means.now.earlier) room) level waiting.now state.old) }
+    ensures { GivesAfter (λ v. v.items) result state.new (finish_all (inside (M.records means.now) room) level waiting.now state.old) }
 {
     let mut lines = Vec::new(state.alloc());
     for one in waiting {
@@ -293,17 +302,17 @@ pub(crate) fn finish_all<N: Ledger, L: Ledger>(
 
 #[cycle(form)]
 #[tactic(auto, unfolding(crate::specs::Body::finish))]
-fn finish<N: Ledger, L: Ledger>(
+fn finish<M: Transformers, N: Ledger, L: Ledger>(
     state: &mut Expansion,
     form: &Syn,
     taken: &Taken,
     place: &Span,
     level: u32,
-    means: &Means,
+    means: &M,
     counts: &mut Counts<N, L>,
     room: u16,
 ) -> Result<Core, Stop>
-    ensures { GivesAfter (λ c. c) result state.new (finish (inside (earlier_in means.now.earlier) room) place.now level form.now taken.now state.old) }
+    ensures { GivesAfter (λ c. c) result state.new (finish (inside (M.records means.now) room) place.now level form.now taken.now state.old) }
 {
     if !taken.has_expression {
         return Err(state.fault_form(FaultKind::NoExpression, form, place));
@@ -315,18 +324,18 @@ fn finish<N: Ledger, L: Ledger>(
 /// The body of a procedure or `letrec`, which is `form`.
 #[cycle(form)]
 #[tactic(auto, unfolding(crate::specs::Body::body))]
-pub fn body<N: Ledger, L: Ledger>(
+pub fn body<M: Transformers, N: Ledger, L: Ledger>(
     state: &mut Expansion,
     form: &Syn,
     forms: &[Syn],
     place: &Span,
     level: u32,
     depth: u16,
-    means: &Means,
+    means: &M,
     counts: &mut Counts<N, L>,
     room: u16,
 ) -> Result<Core, Stop>
-    ensures { GivesAfter (λ c. c) result state.new (body (inside (earlier_in means.now.earlier) room) place.now level depth form.now forms.now state.old) }
+    ensures { GivesAfter (λ c. c) result state.new (body (inside (M.records means.now) room) place.now level depth form.now forms.now state.old) }
 {
     let outer = state.in_scope();
     let frame = state.fresh_frame()?;
@@ -343,7 +352,16 @@ pub fn body<N: Ledger, L: Ledger>(
         has_expression: false,
         moved: false,
     };
-    splice(state, &at, depth, &mut taken, forms.as_slice(), means, counts, room)?;
+    splice(
+        state,
+        &at,
+        depth,
+        &mut taken,
+        forms.as_slice(),
+        means,
+        counts,
+        room,
+    )?;
     let core = finish(state, form, &taken, place, level, means, counts, room)?;
     state.cut_scope(outer);
     Ok(core)

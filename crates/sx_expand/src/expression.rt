@@ -2,7 +2,6 @@
 
 ghost use Rattle.std.specs.Prelude.{◌≡◌, ◌∷◌, [], IfOk, map, true};
 ghost use Rattle.sx_base.specs.Act.{GivesAfter};
-ghost use Rattle.sx_stage.specs.Libraries.{earlier_in};
 ghost use Rattle.sx_core.specs.Core.{procedure};
 ghost use Rattle.sx_core.specs.CoreView.{cases};
 ghost use Rattle.sx_tree.specs.Changes.{stamp};
@@ -15,6 +14,7 @@ use crate::keywords::keywords_form;
 use crate::patterns::syntax_case;
 use crate::quasi::{quasi_form, quasi_syntax_form};
 use crate::settle::{Settled, settle};
+use crate::transformers::Transformers;
 use std::alloc::Global;
 use std::rc::Rc;
 use std::sync::ledger::Ledger;
@@ -29,7 +29,7 @@ use sx_heads::plan::Plan;
 use sx_shapes::shape::{BindingSpec, FormalIds, LambdaCase};
 use sx_standing::binders::BoundSpec;
 use sx_standing::expansion::Expansion;
-use sx_standing::means::{Counts, Means};
+use sx_standing::means::Counts;
 use sx_syntax::syn::Syn;
 
 /// A sequence of one is that one.
@@ -88,17 +88,17 @@ pub(crate) fn stamp_all<N: Ledger>(
 /// A form with so much room for the forms in it.
 #[cycle(form)]
 #[tactic(auto, using(crate::proofs::Steps::form_step, crate::proofs::Steps::form_too_deep))]
-pub fn expression<N: Ledger, L: Ledger>(
+pub fn expression<M: Transformers, N: Ledger, L: Ledger>(
     state: &mut Expansion,
     form: &Syn,
     place: &Span,
     level: u32,
     depth: u16,
-    means: &Means,
+    means: &M,
     counts: &mut Counts<N, L>,
     room: u16,
 ) -> Result<Core, Stop>
-    ensures { GivesAfter (λ c. c) result state.new ((inside (earlier_in means.now.earlier) room).form place.now level depth form.now state.old) }
+    ensures { GivesAfter (λ c. c) result state.new ((inside (M.records means.now) room).form place.now level depth form.now state.old) }
 {
     if room == 0 {
         return Err(state.fault_form(FaultKind::TooDeep, form, place));
@@ -107,40 +107,42 @@ pub fn expression<N: Ledger, L: Ledger>(
 }
 
 #[cycle(form)]
-#[tactic(auto, unfolding(crate::specs::Expression::form_at))]
-fn form_at<N: Ledger, L: Ledger>(
+#[tactic(auto, unfolding(crate::specs::Expression::form_at), using(crate::proofs::Steps::earlier_inside))]
+fn form_at<M: Transformers, N: Ledger, L: Ledger>(
     state: &mut Expansion,
     form: &Syn,
     place: &Span,
     level: u32,
     depth: u16,
-    means: &Means,
+    means: &M,
     counts: &mut Counts<N, L>,
     room: u16,
 ) -> Result<Core, Stop>
-    ensures { GivesAfter (λ c. c) result state.new (form_at (inside (earlier_in means.now.earlier) room) place.now level depth form.now state.old) }
+    ensures { GivesAfter (λ c. c) result state.new (form_at (inside (M.records means.now) room) place.now level depth form.now state.old) }
 {
     if depth > MOST_ROUND {
         return Err(state.fault_form(FaultKind::TooDeep, form, place));
     }
     let Settled { place, form, plan } = settle(state, form, place, level, means, counts)?;
-    perform(state, &form, plan, &place, level, depth, means, counts, room)
+    perform(
+        state, &form, plan, &place, level, depth, means, counts, room,
+    )
 }
 
 #[cycle(form)]
 #[tactic(auto, unfolding(crate::specs::Expression::perform))]
-fn perform<N: Ledger, L: Ledger>(
+fn perform<M: Transformers, N: Ledger, L: Ledger>(
     state: &mut Expansion,
     form: &Syn,
     plan: Plan,
     place: &Span,
     level: u32,
     depth: u16,
-    means: &Means,
+    means: &M,
     counts: &mut Counts<N, L>,
     room: u16,
 ) -> Result<Core, Stop>
-    ensures { GivesAfter (λ c. c) result state.new (perform (inside (earlier_in means.now.earlier) room) place.now level depth form.now plan state.old) }
+    ensures { GivesAfter (λ c. c) result state.new (perform (inside (M.records means.now) room) place.now level depth form.now plan state.old) }
 {
     let inner = deeper(depth);
     match plan {
@@ -261,18 +263,18 @@ fn perform<N: Ledger, L: Ledger>(
 /// The operator and the operands, from left to right.
 #[cycle(form)]
 #[tactic(auto, unfolding(crate::specs::Expression::application))]
-fn application<N: Ledger, L: Ledger>(
+fn application<M: Transformers, N: Ledger, L: Ledger>(
     state: &mut Expansion,
     operator: &Syn,
     operands: &[Syn],
     place: &Span,
     level: u32,
     depth: u16,
-    means: &Means,
+    means: &M,
     counts: &mut Counts<N, L>,
     room: u16,
 ) -> Result<Core, Stop>
-    ensures { GivesAfter (λ c. c) result state.new (application (inside (earlier_in means.now.earlier) room) place.now level depth operator.now operands.now state.old) }
+    ensures { GivesAfter (λ c. c) result state.new (application (inside (M.records means.now) room) place.now level depth operator.now operands.now state.old) }
 {
     let operator = expression(state, operator, place, level, depth, means, counts, room)?;
     let operands = in_order(state, operands, place, level, depth, means, counts, room)?;
@@ -284,7 +286,7 @@ fn application<N: Ledger, L: Ledger>(
 
 #[cycle(form)]
 #[tactic(auto, unfolding(crate::specs::Expression::conditional))]
-fn conditional<N: Ledger, L: Ledger>(
+fn conditional<M: Transformers, N: Ledger, L: Ledger>(
     state: &mut Expansion,
     test: &Syn,
     consequent: &Syn,
@@ -292,11 +294,11 @@ fn conditional<N: Ledger, L: Ledger>(
     place: &Span,
     level: u32,
     depth: u16,
-    means: &Means,
+    means: &M,
     counts: &mut Counts<N, L>,
     room: u16,
 ) -> Result<Core, Stop>
-    ensures { GivesAfter (λ c. c) result state.new (conditional (inside (earlier_in means.now.earlier) room) place.now level depth test.now consequent.now other.now state.old) }
+    ensures { GivesAfter (λ c. c) result state.new (conditional (inside (M.records means.now) room) place.now level depth test.now consequent.now other.now state.old) }
 {
     let test = expression(state, test, place, level, depth, means, counts, room)?;
     let consequent = expression(state, consequent, place, level, depth, means, counts, room)?;
@@ -306,7 +308,7 @@ fn conditional<N: Ledger, L: Ledger>(
 }
 
 #[cycle(form)]
-fn alternate<N: Ledger, L: Ledger>(
+fn alternate<M: Transformers, N: Ledger, L: Ledger>(
     state: &mut Expansion,
     test: Core,
     consequent: Core,
@@ -314,11 +316,11 @@ fn alternate<N: Ledger, L: Ledger>(
     place: &Span,
     level: u32,
     depth: u16,
-    means: &Means,
+    means: &M,
     counts: &mut Counts<N, L>,
     room: u16,
 ) -> Result<Core, Stop>
-    ensures { GivesAfter (λ c. c) result state.new (alternate (inside (earlier_in means.now.earlier) room) place.now level depth test consequent other.now state.old) }
+    ensures { GivesAfter (λ c. c) result state.new (alternate (inside (M.records means.now) room) place.now level depth test consequent other.now state.old) }
 {
     let test = Box::new(state.alloc(), test)?;
     let consequent = Box::new(state.alloc(), consequent)?;
@@ -338,18 +340,18 @@ fn alternate<N: Ledger, L: Ledger>(
 
 #[cycle(form)]
 #[tactic(auto, unfolding(crate::specs::Expression::set))]
-fn set<N: Ledger, L: Ledger>(
+fn set<M: Transformers, N: Ledger, L: Ledger>(
     state: &mut Expansion,
     label: Label,
     value: &Syn,
     place: &Span,
     level: u32,
     depth: u16,
-    means: &Means,
+    means: &M,
     counts: &mut Counts<N, L>,
     room: u16,
 ) -> Result<Core, Stop>
-    ensures { GivesAfter (λ c. c) result state.new (set (inside (earlier_in means.now.earlier) room) place.now level depth label value.now state.old) }
+    ensures { GivesAfter (λ c. c) result state.new (set (inside (M.records means.now) room) place.now level depth label value.now state.old) }
 {
     let value = expression(state, value, place, level, depth, means, counts, room)?;
     let value = Box::new(state.alloc(), value)?;
@@ -360,34 +362,34 @@ fn set<N: Ledger, L: Ledger>(
 
 #[cycle(form)]
 #[tactic(auto, unfolding(crate::specs::Expression::in_sequence))]
-pub(crate) fn in_sequence<N: Ledger, L: Ledger>(
+pub(crate) fn in_sequence<M: Transformers, N: Ledger, L: Ledger>(
     state: &mut Expansion,
     forms: &[Syn],
     place: &Span,
     level: u32,
     depth: u16,
-    means: &Means,
+    means: &M,
     counts: &mut Counts<N, L>,
     room: u16,
 ) -> Result<Core, Stop>
-    ensures { GivesAfter (λ c. c) result state.new (in_sequence (inside (earlier_in means.now.earlier) room) place.now level depth forms.now state.old) }
+    ensures { GivesAfter (λ c. c) result state.new (in_sequence (inside (M.records means.now) room) place.now level depth forms.now state.old) }
 {
     let parts = in_order(state, forms, place, level, depth, means, counts, room)?;
     Ok(sequence_of(parts))
 }
 
 #[cycle(form)]
-fn in_order<N: Ledger, L: Ledger>(
+fn in_order<M: Transformers, N: Ledger, L: Ledger>(
     state: &mut Expansion,
     forms: &[Syn],
     place: &Span,
     level: u32,
     depth: u16,
-    means: &Means,
+    means: &M,
     counts: &mut Counts<N, L>,
     room: u16,
 ) -> Result<Vec<Core>, Stop>
-    ensures { GivesAfter (λ c. c.items) result state.new (in_order (inside (earlier_in means.now.earlier) room) place.now level depth forms.now state.old) }
+    ensures { GivesAfter (λ c. c.items) result state.new (in_order (inside (M.records means.now) room) place.now level depth forms.now state.old) }
 {
     let mut done = Vec::new(state.alloc());
     for form in forms {
@@ -399,7 +401,7 @@ fn in_order<N: Ledger, L: Ledger>(
 
 #[cycle(form)]
 #[tactic(auto, unfolding(crate::specs::Expression::lambda))]
-fn lambda<N: Ledger, L: Ledger>(
+fn lambda<M: Transformers, N: Ledger, L: Ledger>(
     state: &mut Expansion,
     form: &Syn,
     ids: &FormalIds,
@@ -407,31 +409,33 @@ fn lambda<N: Ledger, L: Ledger>(
     place: &Span,
     level: u32,
     depth: u16,
-    means: &Means,
+    means: &M,
     counts: &mut Counts<N, L>,
     room: u16,
 ) -> Result<Core, Stop>
-    ensures { GivesAfter (λ c. c) result state.new (lambda (inside (earlier_in means.now.earlier) room) place.now level depth form.now ids.now forms.now state.old) }
+    ensures { GivesAfter (λ c. c) result state.new (lambda (inside (M.records means.now) room) place.now level depth form.now ids.now forms.now state.old) }
 {
     let number = CodeNo(state.fresh()?);
-    let case = lambda_case(state, form, ids, forms, place, level, depth, means, counts, room)?;
+    let case = lambda_case(
+        state, form, ids, forms, place, level, depth, means, counts, room,
+    )?;
     Ok(procedure_of_case(state.alloc(), number, case)?)
 }
 
 #[cycle(form)]
 #[tactic(auto, unfolding(crate::specs::Expression::case_lambda))]
-fn case_lambda<N: Ledger, L: Ledger>(
+fn case_lambda<M: Transformers, N: Ledger, L: Ledger>(
     state: &mut Expansion,
     form: &Syn,
     cases: &[LambdaCase],
     place: &Span,
     level: u32,
     depth: u16,
-    means: &Means,
+    means: &M,
     counts: &mut Counts<N, L>,
     room: u16,
 ) -> Result<Core, Stop>
-    ensures { GivesAfter (λ c. c) result state.new (case_lambda (inside (earlier_in means.now.earlier) room) place.now level depth form.now cases.now state.old) }
+    ensures { GivesAfter (λ c. c) result state.new (case_lambda (inside (M.records means.now) room) place.now level depth form.now cases.now state.old) }
 {
     let number = CodeNo(state.fresh()?);
     let cases = all_cases(state, form, cases, place, level, depth, means, counts, room)?;
@@ -449,18 +453,18 @@ fn case_lambda<N: Ledger, L: Ledger>(
 }
 
 #[cycle(form)]
-fn all_cases<N: Ledger, L: Ledger>(
+fn all_cases<M: Transformers, N: Ledger, L: Ledger>(
     state: &mut Expansion,
     form: &Syn,
     cases: &[LambdaCase],
     place: &Span,
     level: u32,
     depth: u16,
-    means: &Means,
+    means: &M,
     counts: &mut Counts<N, L>,
     room: u16,
 ) -> Result<Vec<Lambda>, Stop>
-    ensures { GivesAfter (λ c. c.items) result state.new (all_cases (inside (earlier_in means.now.earlier) room) place.now level depth form.now cases.now state.old) }
+    ensures { GivesAfter (λ c. c.items) result state.new (all_cases (inside (M.records means.now) room) place.now level depth form.now cases.now state.old) }
 {
     let mut done = Vec::new(state.alloc());
     for case in cases {
@@ -484,7 +488,7 @@ fn all_cases<N: Ledger, L: Ledger>(
 /// A case of a procedure: its formals have a frame, and so has its body.
 #[cycle(form)]
 #[tactic(auto, unfolding(crate::specs::Expression::lambda_case))]
-pub fn lambda_case<N: Ledger, L: Ledger>(
+pub fn lambda_case<M: Transformers, N: Ledger, L: Ledger>(
     state: &mut Expansion,
     form: &Syn,
     ids: &FormalIds,
@@ -492,11 +496,11 @@ pub fn lambda_case<N: Ledger, L: Ledger>(
     place: &Span,
     level: u32,
     depth: u16,
-    means: &Means,
+    means: &M,
     counts: &mut Counts<N, L>,
     room: u16,
 ) -> Result<Lambda, Stop>
-    ensures { GivesAfter (λ c. c) result state.new (lambda_case (inside (earlier_in means.now.earlier) room) place.now level depth form.now ids.now forms.now state.old) }
+    ensures { GivesAfter (λ c. c) result state.new (lambda_case (inside (M.records means.now) room) place.now level depth form.now ids.now forms.now state.old) }
 {
     let outer = state.in_scope();
     let frame = state.fresh_frame()?;
@@ -520,7 +524,7 @@ pub fn lambda_case<N: Ledger, L: Ledger>(
 /// As `lambda_case`, of a procedure that a definition binds.
 #[cycle(form)]
 #[tactic(auto, using(crate::proofs::Steps::procedure_step, crate::proofs::Steps::procedure_too_deep))]
-pub fn procedure<N: Ledger, L: Ledger>(
+pub fn procedure<M: Transformers, N: Ledger, L: Ledger>(
     state: &mut Expansion,
     form: &Syn,
     ids: &FormalIds,
@@ -528,11 +532,11 @@ pub fn procedure<N: Ledger, L: Ledger>(
     place: &Span,
     level: u32,
     depth: u16,
-    means: &Means,
+    means: &M,
     counts: &mut Counts<N, L>,
     room: u16,
 ) -> Result<Lambda, Stop>
-    ensures { GivesAfter (λ c. c) result state.new ((inside (earlier_in means.now.earlier) room).procedure place.now level depth form.now ids.now forms.now state.old) }
+    ensures { GivesAfter (λ c. c) result state.new ((inside (M.records means.now) room).procedure place.now level depth form.now ids.now forms.now state.old) }
 {
     if room == 0 {
         return Err(state.fault_form(FaultKind::TooDeep, form, place));
@@ -553,7 +557,7 @@ pub fn procedure<N: Ledger, L: Ledger>(
 
 #[cycle(form)]
 #[tactic(auto, unfolding(crate::specs::Expression::letrec_form))]
-fn letrec_form<N: Ledger, L: Ledger>(
+fn letrec_form<M: Transformers, N: Ledger, L: Ledger>(
     state: &mut Expansion,
     form: &Syn,
     star: bool,
@@ -562,11 +566,11 @@ fn letrec_form<N: Ledger, L: Ledger>(
     place: &Span,
     level: u32,
     depth: u16,
-    means: &Means,
+    means: &M,
     counts: &mut Counts<N, L>,
     room: u16,
 ) -> Result<Core, Stop>
-    ensures { GivesAfter (λ c. c) result state.new (letrec_form (inside (earlier_in means.now.earlier) room) place.now level depth form.now star specs.now forms.now state.old) }
+    ensures { GivesAfter (λ c. c) result state.new (letrec_form (inside (M.records means.now) room) place.now level depth form.now star specs.now forms.now state.old) }
 {
     let outer = state.in_scope();
     let frame = state.fresh_frame()?;
@@ -602,18 +606,18 @@ fn letrec_form<N: Ledger, L: Ledger>(
 }
 
 #[cycle(form)]
-fn all_inits<N: Ledger, L: Ledger>(
+fn all_inits<M: Transformers, N: Ledger, L: Ledger>(
     state: &mut Expansion,
     frame: &FrameNo,
     bound: &[BoundSpec],
     place: &Span,
     level: u32,
     depth: u16,
-    means: &Means,
+    means: &M,
     counts: &mut Counts<N, L>,
     room: u16,
 ) -> Result<Vec<Init>, Stop>
-    ensures { GivesAfter (λ c. c.items) result state.new (all_inits (inside (earlier_in means.now.earlier) room) place.now level depth frame.now bound.now state.old) }
+    ensures { GivesAfter (λ c. c.items) result state.new (all_inits (inside (M.records means.now) room) place.now level depth frame.now bound.now state.old) }
 {
     let mut done = Vec::new(state.alloc());
     for one in bound {
@@ -625,20 +629,22 @@ fn all_inits<N: Ledger, L: Ledger>(
 
 #[cycle(form)]
 #[tactic(auto, unfolding(crate::specs::Expression::one_init))]
-fn one_init<N: Ledger, L: Ledger>(
+fn one_init<M: Transformers, N: Ledger, L: Ledger>(
     state: &mut Expansion,
     frame: &FrameNo,
     bound: &BoundSpec,
     place: &Span,
     level: u32,
     depth: u16,
-    means: &Means,
+    means: &M,
     counts: &mut Counts<N, L>,
     room: u16,
 ) -> Result<Init, Stop>
-    ensures { GivesAfter (λ i. i) result state.new (one_init (inside (earlier_in means.now.earlier) room) place.now level depth frame.now bound.now state.old) }
+    ensures { GivesAfter (λ i. i) result state.new (one_init (inside (M.records means.now) room) place.now level depth frame.now bound.now state.old) }
 {
-    let form = bound.init.stamp(state.alloc(), frame.share()?, counts.nodes)?;
+    let form = bound
+        .init
+        .stamp(state.alloc(), frame.share()?, counts.nodes)?;
     let value = expression(state, &form, place, level, depth, means, counts, room)?;
     let label = bound.label.share()?;
     Ok(Init { label, value })

@@ -2,11 +2,11 @@
 
 ghost use Rattle.std.specs.Prelude.{◌≡◌, IfOk};
 ghost use Rattle.sx_base.specs.Act.{GivesAfter};
-ghost use Rattle.sx_stage.specs.Libraries.{earlier_in};
 ghost use Rattle.sx_expand.specs.Expression.{inside, keywords_form};
 ghost use Rattle.sx_expand.specs.Keywords.{keyword, seen_in, keyword_in, all_keywords, keywords, with_keywords, define_syntax};
 
 use crate::expression::{expression, in_sequence, stamp_all};
+use crate::transformers::Transformers;
 use std::alloc::Global;
 use std::sync::ledger::Ledger;
 use sx_base::fault::Stop;
@@ -22,23 +22,23 @@ use sx_shapes::at::place_of;
 use sx_shapes::shape::BindingSpec;
 use sx_standing::binders::BoundSpec;
 use sx_standing::expansion::Expansion;
-use sx_standing::means::{Counts, Means};
+use sx_standing::means::Counts;
 use sx_syntax::syn::Syn;
 
 /// Expands the expression of a keyword, one level up and with nothing in scope, and evaluates it.
 #[cycle(form)]
-#[tactic(auto, unfolding(crate::specs::Keywords::keyword))]
-fn keyword<N: Ledger, L: Ledger>(
+#[tactic(auto, unfolding(crate::specs::Keywords::keyword), using(crate::proofs::Steps::earlier_inside))]
+fn keyword<M: Transformers, N: Ledger, L: Ledger>(
     state: &mut Expansion,
     bound: &BoundSpec,
     place: &Span,
     level: u32,
     depth: u16,
-    means: &Means,
+    means: &M,
     counts: &mut Counts<N, L>,
     room: u16,
 ) -> Result<(), Stop>
-    ensures { GivesAfter (λ _. tt) result state.new (keyword (inside (earlier_in means.now.earlier) room) place.now level depth bound.now state.old) }
+    ensures { GivesAfter (λ _. tt) result state.new (keyword (inside (M.records means.now) room) place.now level depth bound.now state.old) }
 {
     let Some(up) = level.checked_add(1) else {
         return Err(Stop::Memory);
@@ -47,7 +47,7 @@ fn keyword<N: Ledger, L: Ledger>(
     let core = expression(state, &bound.init, place, up, depth, means, counts, room)?;
     state.restore_scope(scope);
     let at = place_of(&bound.init, place)?;
-    state.finish_keyword(&at, &bound.label, core, means, counts)
+    means.finish_keyword(state, &at, &bound.label, core, counts)
 }
 
 /// The expressions of `letrec-syntax` see its keywords.
@@ -70,7 +70,7 @@ fn seen_in<N: Ledger>(
 }
 
 #[cycle(form)]
-fn keyword_in<N: Ledger, L: Ledger>(
+fn keyword_in<M: Transformers, N: Ledger, L: Ledger>(
     state: &mut Expansion,
     recursive: bool,
     frame: &FrameNo,
@@ -78,18 +78,18 @@ fn keyword_in<N: Ledger, L: Ledger>(
     place: &Span,
     level: u32,
     depth: u16,
-    means: &Means,
+    means: &M,
     counts: &mut Counts<N, L>,
     room: u16,
 ) -> Result<(), Stop>
-    ensures { GivesAfter (λ _. tt) result state.new (keyword_in (inside (earlier_in means.now.earlier) room) place.now level depth recursive frame.now tt bound.now state.old) }
+    ensures { GivesAfter (λ _. tt) result state.new (keyword_in (inside (M.records means.now) room) place.now level depth recursive frame.now tt bound.now state.old) }
 {
     let bound = seen_in(state.alloc(), recursive, frame, bound, counts.nodes)?;
     keyword(state, &bound, place, level, depth, means, counts, room)
 }
 
 #[cycle(form)]
-fn all_keywords<N: Ledger, L: Ledger>(
+fn all_keywords<M: Transformers, N: Ledger, L: Ledger>(
     state: &mut Expansion,
     recursive: bool,
     frame: &FrameNo,
@@ -97,11 +97,11 @@ fn all_keywords<N: Ledger, L: Ledger>(
     place: &Span,
     level: u32,
     depth: u16,
-    means: &Means,
+    means: &M,
     counts: &mut Counts<N, L>,
     room: u16,
 ) -> Result<(), Stop>
-    ensures { GivesAfter (λ _. tt) result state.new (all_keywords (inside (earlier_in means.now.earlier) room) place.now level depth recursive frame.now bound.now state.old) }
+    ensures { GivesAfter (λ _. tt) result state.new (all_keywords (inside (M.records means.now) room) place.now level depth recursive frame.now bound.now state.old) }
 {
     for one in bound {
         keyword_in(
@@ -114,7 +114,7 @@ fn all_keywords<N: Ledger, L: Ledger>(
 /// The keywords of `let-syntax` or `letrec-syntax` in a frame.
 #[cycle(form)]
 #[tactic(auto, unfolding(crate::specs::Keywords::keywords))]
-fn keywords<N: Ledger, L: Ledger>(
+fn keywords<M: Transformers, N: Ledger, L: Ledger>(
     state: &mut Expansion,
     recursive: bool,
     frame: &FrameNo,
@@ -122,11 +122,11 @@ fn keywords<N: Ledger, L: Ledger>(
     place: &Span,
     level: u32,
     depth: u16,
-    means: &Means,
+    means: &M,
     counts: &mut Counts<N, L>,
     room: u16,
 ) -> Result<(), Stop>
-    ensures { GivesAfter (λ _. tt) result state.new (keywords (inside (earlier_in means.now.earlier) room) place.now level depth recursive specs.now frame.now state.old) }
+    ensures { GivesAfter (λ _. tt) result state.new (keywords (inside (M.records means.now) room) place.now level depth recursive specs.now frame.now state.old) }
 {
     let bound = state.bind_keywords(frame, place, level, specs)?;
     all_keywords(
@@ -145,8 +145,7 @@ fn keywords<N: Ledger, L: Ledger>(
 
 /// The forms among the keywords of `let-syntax` or `letrec-syntax`, which are evaluated.
 #[cycle(form)]
-#[tactic(auto, unfolding(crate::specs::Keywords::with_keywords))]
-pub(crate) fn with_keywords<N: Ledger, L: Ledger>(
+pub(crate) fn with_keywords<M: Transformers, N: Ledger, L: Ledger>(
     state: &mut Expansion,
     recursive: bool,
     specs: &[BindingSpec],
@@ -154,11 +153,11 @@ pub(crate) fn with_keywords<N: Ledger, L: Ledger>(
     place: &Span,
     level: u32,
     depth: u16,
-    means: &Means,
+    means: &M,
     counts: &mut Counts<N, L>,
     room: u16,
 ) -> Result<Items<Syn>, Stop>
-    ensures { GivesAfter (λ ts. ts) result state.new (with_keywords (inside (earlier_in means.now.earlier) room) place.now level depth recursive specs.now forms.now state.old) }
+    ensures { GivesAfter (λ ts. ts) result state.new (with_keywords (inside (M.records means.now) room) place.now level depth recursive specs.now forms.now state.old) }
 {
     let frame = state.fresh_frame()?;
     keywords(
@@ -170,7 +169,7 @@ pub(crate) fn with_keywords<N: Ledger, L: Ledger>(
 /// Expressions among the keywords of `let-syntax` or `letrec-syntax`.
 #[cycle(form)]
 #[tactic(auto, unfolding(crate::specs::Expression::keywords_form))]
-pub(crate) fn keywords_form<N: Ledger, L: Ledger>(
+pub(crate) fn keywords_form<M: Transformers, N: Ledger, L: Ledger>(
     state: &mut Expansion,
     recursive: bool,
     specs: &[BindingSpec],
@@ -178,11 +177,11 @@ pub(crate) fn keywords_form<N: Ledger, L: Ledger>(
     place: &Span,
     level: u32,
     depth: u16,
-    means: &Means,
+    means: &M,
     counts: &mut Counts<N, L>,
     room: u16,
 ) -> Result<Core, Stop>
-    ensures { GivesAfter (λ c. c) result state.new (keywords_form (inside (earlier_in means.now.earlier) room) place.now level depth recursive specs.now forms.now state.old) }
+    ensures { GivesAfter (λ c. c) result state.new (keywords_form (inside (M.records means.now) room) place.now level depth recursive specs.now forms.now state.old) }
 {
     let forms = with_keywords(
         state, recursive, specs, forms, place, level, depth, means, counts, room,
@@ -202,19 +201,21 @@ pub(crate) fn keywords_form<N: Ledger, L: Ledger>(
 /// A keyword that a form of a body defines.
 #[cycle(form)]
 #[tactic(auto, unfolding(crate::specs::Keywords::define_syntax))]
-pub(crate) fn define_syntax<N: Ledger, L: Ledger>(
+pub(crate) fn define_syntax<M: Transformers, N: Ledger, L: Ledger>(
     state: &mut Expansion,
     at: &BodyAt,
     depth: u16,
     taken: &Taken,
     form: &Syn,
     spec: &BindingSpec,
-    means: &Means,
+    means: &M,
     counts: &mut Counts<N, L>,
     room: u16,
 ) -> Result<(), Stop>
-    ensures { GivesAfter (λ _. tt) result state.new (define_syntax (inside (earlier_in means.now.earlier) room) at.now depth taken.now form.now spec.now state.old) }
+    ensures { GivesAfter (λ _. tt) result state.new (define_syntax (inside (M.records means.now) room) at.now depth taken.now form.now spec.now state.old) }
 {
     let bound = define_keyword(state, at, taken, form, spec)?;
-    keyword(state, &bound, &at.place, at.level, depth, means, counts, room)
+    keyword(
+        state, &bound, &at.place, at.level, depth, means, counts, room,
+    )
 }

@@ -26,3 +26,4 @@ pub mod patterns;
 pub mod quasi;
 pub mod settle;
 pub mod top;
+pub mod transformers;

@@ -2,10 +2,10 @@
 
 ghost use Rattle.std.specs.Prelude.{◌≡◌};
 ghost use Rattle.sx_base.specs.Act.{GivesAfter};
-ghost use Rattle.sx_stage.specs.Libraries.{earlier_in};
 ghost use Rattle.sx_expand.specs.Expression.{inside, fender, pattern_clause, all_clauses, syntax_case};
 
 use crate::expression::expression;
+use crate::transformers::Transformers;
 use std::sync::ledger::Ledger;
 use sx_base::fault::Stop;
 use sx_base::name::FrameNo;
@@ -13,22 +13,22 @@ use sx_base::span::Span;
 use sx_core::code::{Clause, Core, CoreNode};
 use sx_shapes::shape::PatternCase;
 use sx_standing::expansion::Expansion;
-use sx_standing::means::{Counts, Means};
+use sx_standing::means::Counts;
 use sx_syntax::syn::Syn;
 
 #[cycle(form)]
-fn fender<N: Ledger, L: Ledger>(
+fn fender<M: Transformers, N: Ledger, L: Ledger>(
     state: &mut Expansion,
     frame: &FrameNo,
     form: &Option<Syn>,
     place: &Span,
     level: u32,
     depth: u16,
-    means: &Means,
+    means: &M,
     counts: &mut Counts<N, L>,
     room: u16,
 ) -> Result<Option<Core>, Stop>
-    ensures { GivesAfter (λ c. c) result state.new (fender (inside (earlier_in means.now.earlier) room) place.now level depth frame.now form.now state.old) }
+    ensures { GivesAfter (λ c. c) result state.new (fender (inside (M.records means.now) room) place.now level depth frame.now form.now state.old) }
 {
     match form {
         None => Ok(None),
@@ -43,18 +43,18 @@ fn fender<N: Ledger, L: Ledger>(
 /// A clause: the variables of its pattern have a frame, in which its fender and its output stand.
 #[cycle(form)]
 #[tactic(auto, unfolding(crate::specs::Expression::pattern_clause))]
-fn pattern_clause<N: Ledger, L: Ledger>(
+fn pattern_clause<M: Transformers, N: Ledger, L: Ledger>(
     state: &mut Expansion,
     literals: &[Syn],
     case: &PatternCase,
     place: &Span,
     level: u32,
     depth: u16,
-    means: &Means,
+    means: &M,
     counts: &mut Counts<N, L>,
     room: u16,
 ) -> Result<Clause, Stop>
-    ensures { GivesAfter (λ c. c) result state.new (pattern_clause (inside (earlier_in means.now.earlier) room) place.now level depth literals.now case.now state.old) }
+    ensures { GivesAfter (λ c. c) result state.new (pattern_clause (inside (M.records means.now) room) place.now level depth literals.now case.now state.old) }
 {
     let outer = state.in_scope();
     let frame = state.fresh_frame()?;
@@ -82,18 +82,18 @@ fn pattern_clause<N: Ledger, L: Ledger>(
 }
 
 #[cycle(form)]
-fn all_clauses<N: Ledger, L: Ledger>(
+fn all_clauses<M: Transformers, N: Ledger, L: Ledger>(
     state: &mut Expansion,
     literals: &[Syn],
     cases: &[PatternCase],
     place: &Span,
     level: u32,
     depth: u16,
-    means: &Means,
+    means: &M,
     counts: &mut Counts<N, L>,
     room: u16,
 ) -> Result<Vec<Clause>, Stop>
-    ensures { GivesAfter (λ c. c.items) result state.new (all_clauses (inside (earlier_in means.now.earlier) room) place.now level depth literals.now cases.now state.old) }
+    ensures { GivesAfter (λ c. c.items) result state.new (all_clauses (inside (M.records means.now) room) place.now level depth literals.now cases.now state.old) }
 {
     let mut done = Vec::new(state.alloc());
     for case in cases {
@@ -108,7 +108,7 @@ fn all_clauses<N: Ledger, L: Ledger>(
 /// The subject, the literals and the clauses, in this order.
 #[cycle(form)]
 #[tactic(auto, unfolding(crate::specs::Expression::syntax_case))]
-pub(crate) fn syntax_case<N: Ledger, L: Ledger>(
+pub(crate) fn syntax_case<M: Transformers, N: Ledger, L: Ledger>(
     state: &mut Expansion,
     subject: &Syn,
     literals: &[Syn],
@@ -117,11 +117,11 @@ pub(crate) fn syntax_case<N: Ledger, L: Ledger>(
     place: &Span,
     level: u32,
     depth: u16,
-    means: &Means,
+    means: &M,
     counts: &mut Counts<N, L>,
     room: u16,
 ) -> Result<Core, Stop>
-    ensures { GivesAfter (λ c. c) result state.new (syntax_case (inside (earlier_in means.now.earlier) room) place.now level depth subject.now literals.now cases.now span state.old) }
+    ensures { GivesAfter (λ c. c) result state.new (syntax_case (inside (M.records means.now) room) place.now level depth subject.now literals.now cases.now span state.old) }
 {
     let subject = expression(state, subject, place, level, depth, means, counts, room)?;
     state.check_literals(literals, place)?;

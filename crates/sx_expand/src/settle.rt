@@ -2,9 +2,9 @@
 
 ghost use Rattle.std.specs.Prelude.{◌≡◌, IfOk};
 ghost use Rattle.sx_base.specs.Act.{GivesAfter};
-ghost use Rattle.sx_stage.specs.Libraries.{earlier_in};
 ghost use Rattle.sx_expand.specs.Settle.{next_form, set_step, step_of, step, settle, at_use, set_item_step, item_step_of, item_step, settle_item};
 
+use crate::transformers::Transformers;
 use std::sync::ledger::Ledger;
 use sx_base::fault::{FaultKind, Stop};
 use sx_base::memory::Memory;
@@ -16,7 +16,7 @@ use sx_heads::plan::{Plan, plan_of};
 use sx_heads::taken::{BodyAt, Taken};
 use sx_shapes::at::place_of;
 use sx_standing::expansion::Expansion;
-use sx_standing::means::{Counts, Means};
+use sx_standing::means::Counts;
 use sx_syntax::syn::Syn;
 
 /// What a form asks for: its plan, or a use of a keyword.
@@ -51,21 +51,21 @@ pub struct SettledItem {
 
 /// The form that a use gives, after which so many uses are left.
 #[tactic(auto, unfolding(crate::specs::Settle::next_form))]
-fn next_form<N: Ledger, L: Ledger>(
+fn next_form<M: Transformers, N: Ledger, L: Ledger>(
     state: &mut Expansion,
     left: u32,
     form: &Syn,
     label: &Label,
     frame: Option<FrameNo>,
     place: &Span,
-    means: &Means,
+    means: &M,
     counts: &mut Counts<N, L>,
 ) -> Result<Syn, Stop>
-    ensures { GivesAfter (λ t. t) result state.new (next_form (earlier_in means.now.earlier) left place.now form.now label.now frame state.old) }
+    ensures { GivesAfter (λ t. t) result state.new (next_form (M.records means.now) left place.now form.now label.now frame state.old) }
 {
     state.leave_uses(left);
     let at = place_of(form, place)?;
-    state.use_keyword(form, &at, label, frame, means, counts)
+    means.use_keyword(state, form, &at, label, frame, counts)
 }
 
 fn set_step(
@@ -84,21 +84,21 @@ fn set_step(
     Err(state.fault_word(FaultKind::KeywordMisuse, id, form, place))
 }
 
-fn step_of<N: Ledger, L: Ledger>(
+fn step_of<M: Transformers, N: Ledger, L: Ledger>(
     state: &mut Expansion,
     form: &Syn,
     plan: Plan,
     place: &Span,
-    means: &Means,
+    means: &M,
     counts: &mut Counts<N, L>,
 ) -> Result<Step, Stop>
-    ensures { GivesAfter (λ x. x) result state.new (step_of (earlier_in means.now.earlier) place.now form.now plan state.old) }
+    ensures { GivesAfter (λ x. x) result state.new (step_of (M.records means.now) place.now form.now plan state.old) }
 {
     match plan {
         Plan::Use(label) => Ok(Step::Use(label)),
         Plan::SetUse(label, id) => {
             let at = place_of(form, place)?;
-            let is_use = state.asks_variable(&at, &label, means, counts)?;
+            let is_use = means.asks_variable(state, &at, &label, counts)?;
             set_step(state, form, label, &id, is_use, place)
         }
         plan => Ok(Step::Plan(plan)),
@@ -106,15 +106,15 @@ fn step_of<N: Ledger, L: Ledger>(
 }
 
 #[tactic(auto, unfolding(crate::specs::Settle::step))]
-fn step<N: Ledger, L: Ledger>(
+fn next_step<M: Transformers, N: Ledger, L: Ledger>(
     state: &mut Expansion,
     form: &Syn,
     place: &Span,
     level: u32,
-    means: &Means,
+    means: &M,
     counts: &mut Counts<N, L>,
 ) -> Result<Step, Stop>
-    ensures { GivesAfter (λ x. x) result state.new (step (earlier_in means.now.earlier) place.now level form.now state.old) }
+    ensures { GivesAfter (λ x. x) result state.new (step (M.records means.now) place.now level form.now state.old) }
 {
     let plan = plan_of(state, form, place, level)?;
     step_of(state, form, plan, place, means, counts)
@@ -122,21 +122,21 @@ fn step<N: Ledger, L: Ledger>(
 
 /// What is to be done with the form that comes of the uses of keywords that a form begins with. What comes of a
 /// use stands at the place of the use.
-pub(crate) fn settle<N: Ledger, L: Ledger>(
+pub(crate) fn settle<M: Transformers, N: Ledger, L: Ledger>(
     state: &mut Expansion,
     form: &Syn,
     place: &Span,
     level: u32,
-    means: &Means,
+    means: &M,
     counts: &mut Counts<N, L>,
 ) -> Result<Settled, Stop>
-    ensures { GivesAfter (λ d. d) result state.new (settle (earlier_in means.now.earlier) place.now level form.now state.old) }
+    ensures { GivesAfter (λ d. d) result state.new (settle (M.records means.now) place.now level form.now state.old) }
 {
     let mut left = state.uses_left();
     let mut form = form.share()?;
     let mut place = place.share()?;
     loop {
-        let label = match step(state, &form, &place, level, means, counts)? {
+        let label = match next_step(state, &form, &place, level, means, counts)? {
             Step::Plan(plan) => return Ok(Settled { place, form, plan }),
             Step::Use(label) => label,
         };
@@ -200,23 +200,23 @@ fn set_item_step(
     Ok(ItemStep::Item(Item::Nothing))
 }
 
-fn item_step_of<N: Ledger, L: Ledger>(
+fn item_step_of<M: Transformers, N: Ledger, L: Ledger>(
     state: &mut Expansion,
     at: &BodyAt,
     depth: u16,
     taken: &mut Taken,
     form: &Syn,
     item: Item,
-    means: &Means,
+    means: &M,
     counts: &mut Counts<N, L>,
 ) -> Result<ItemStep, Stop>
-    ensures { GivesAfter (λ x. (taken.new, x)) result state.new (item_step_of (earlier_in means.now.earlier) at.now depth form.now taken.old item state.old) }
+    ensures { GivesAfter (λ x. (taken.new, x)) result state.new (item_step_of (M.records means.now) at.now depth form.now taken.old item state.old) }
 {
     match item {
         Item::Use(label) => Ok(ItemStep::Use(label)),
         Item::SetUse(label) => {
             let place = place_of(form, &at.place)?;
-            let is_use = state.asks_variable(&place, &label, means, counts)?;
+            let is_use = means.asks_variable(state, &place, &label, counts)?;
             set_item_step(state, at, depth, taken, form, label, is_use)
         }
         item => Ok(ItemStep::Item(item)),
@@ -224,32 +224,32 @@ fn item_step_of<N: Ledger, L: Ledger>(
 }
 
 #[tactic(auto, unfolding(crate::specs::Settle::item_step))]
-fn item_step<N: Ledger, L: Ledger>(
+fn item_step<M: Transformers, N: Ledger, L: Ledger>(
     state: &mut Expansion,
     at: &BodyAt,
     depth: u16,
     taken: &mut Taken,
     form: &Syn,
-    means: &Means,
+    means: &M,
     counts: &mut Counts<N, L>,
 ) -> Result<ItemStep, Stop>
-    ensures { GivesAfter (λ x. (taken.new, x)) result state.new (item_step (earlier_in means.now.earlier) at.now depth taken.old form.now state.old) }
+    ensures { GivesAfter (λ x. (taken.new, x)) result state.new (item_step (M.records means.now) at.now depth taken.old form.now state.old) }
 {
     let item = item_plan(state, at, depth, taken, form)?;
     item_step_of(state, at, depth, taken, form, item, means, counts)
 }
 
 /// As `settle`, of a form of a body. A use gets the frame of the body, so that what comes of it can bind in it.
-pub(crate) fn settle_item<N: Ledger, L: Ledger>(
+pub(crate) fn settle_item<M: Transformers, N: Ledger, L: Ledger>(
     state: &mut Expansion,
     at: &BodyAt,
     depth: u16,
     taken: &mut Taken,
     form: &Syn,
-    means: &Means,
+    means: &M,
     counts: &mut Counts<N, L>,
 ) -> Result<SettledItem, Stop>
-    ensures { GivesAfter (λ d. (taken.new, d)) result state.new (settle_item (earlier_in means.now.earlier) at.now depth taken.old form.now state.old) }
+    ensures { GivesAfter (λ d. (taken.new, d)) result state.new (settle_item (M.records means.now) at.now depth taken.old form.now state.old) }
 {
     let mut left = state.uses_left();
     let mut form = form.share()?;

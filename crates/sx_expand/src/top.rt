@@ -228,7 +228,16 @@ fn first_pass<N: Ledger, L: Ledger>(
         has_expression: false,
         moved: false,
     };
-    splice(state, &body, 0, &mut taken, forms.as_slice(), means, counts, ROOM)?;
+    splice(
+        state,
+        &body,
+        0,
+        &mut taken,
+        forms.as_slice(),
+        means,
+        counts,
+        ROOM,
+    )?;
     Ok(taken)
 }
 

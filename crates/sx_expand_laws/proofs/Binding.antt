@@ -12,11 +12,11 @@ use Rattle.sx_shapes.specs.declared.shape.FormalIds.{FormalIds}
 use Rattle.sx_standing.specs.Binders.{bind_variable, bind_all, bind_rest, bind_spec, bind_specs, bind_formals}
 use Rattle.sx_standing.specs.State.{State}
 use Rattle.sx_standing.specs.declared.binders.BoundSpec.{BoundSpec}
-use Rattle.sx_expand_laws.specs.States.{Adds, LaterBut}
+use Rattle.sx_expand_laws.specs.States.{Keeps, Adds, LaterBut}
 use Rattle.sx_expand_laws.proofs.Acts.{Gave, gave-after, gave-each}
 use Rattle.sx_expand_laws.proofs.Fresh.{Made, FreshLabels, label_name, fresh-none, fresh-one, fresh-append}
 use Rattle.sx_expand_laws.proofs.Scope.{adds-self, adds-then}
-use Rattle.sx_expand_laws.proofs.Later.{but-self, but-then}
+use Rattle.sx_expand_laws.proofs.Later.{keeps-self, keeps-then, but-self, but-then}
 use Rattle.sx_expand_laws.proofs.Naming.{Binds, binds, next-made}
 
 -- labels that were bound in a frame, from a state to another, and no others came into scope
@@ -24,6 +24,7 @@ pub record BindsAll (own : LibName) (f : FrameNo) (s : State) (ls : List Label) 
   pub later : LaterBut own f s t
   pub labels : FreshLabels own s.names.number t.names.number ls
   pub adds : Adds own false ls [] s t
+  pub keeps : Keeps own s t
 
 abbrev pub spec_label : BoundSpec → Label
 spec_label b = b.label
@@ -33,7 +34,7 @@ no-top level e = absurd (cc)
 
 module _ (own : LibName) (f : FrameNo) where
   bound-none : (s : State) → s.names.library ≡ own → BindsAll own f s [] s
-  bound-none s h = record { later = but-self own f s h; labels = fresh-none label_name own s.names.number s.names.number; adds = adds-self own false s }
+  bound-none s h = record { later = but-self own f s h; labels = fresh-none label_name own s.names.number s.names.number; adds = adds-self own false s; keeps = keeps-self own s }
 
   label-made : (s t : State) (l : Label) → s.names.library ≡ own → Binds own f false s l t → Made own s.names.number t.names.number l.0
   label-made s t l h b = subst (λ (m : Label). Made own s.names.number t.names.number m.0) (sym b.label) (subst (λ n. Made own s.names.number n s.names) (sym b.up) (next-made own s h))
@@ -43,6 +44,7 @@ module _ (own : LibName) (f : FrameNo) where
     later = but-then own f s t u b.later k.later;
     labels = fresh-append label_name own s.names.number t.names.number u.names.number (l ∷ []) ls b.later.up k.later.up (fresh-one label_name own s.names.number t.names.number l (label-made s t l h b)) k.labels;
     adds = adds-then own false (l ∷ []) ls [] [] s t u b.adds k.adds;
+    keeps = keeps-then own s t u b.later.up k.later.up b.keeps k.keeps;
   }
 
   binds-all : (place : Span) (level : ℕ) (ids : List Tree) (s : State) → s.names.library ≡ own → Gave (BindsAll own f s) (bind_all f place level ids s)
@@ -72,6 +74,7 @@ module _ (own : LibName) (f : FrameNo) where
         later = but-then own f s t u b.later c.later;
         labels = fresh-append label_name own s.names.number t.names.number u.names.number ls (rest_labels r) b.later.up c.later.up b.labels c.labels;
         adds = adds-then own false ls (rest_labels r) [] [] s t u b.adds c.adds;
+        keeps = keeps-then own s t u b.later.up c.later.up b.keeps c.keeps;
       }))
 
   -- the variables of a `letrec`

@@ -1,18 +1,22 @@
 -- The binding of pattern variables and of keywords in a frame.
-use Rattle.std.proofs.Common.{◌≡◌, ℕ, ◌≤◌, ◌<◌, Bool, true, false, List, [], ◌∷◌, ◌++◌, map, None, Some, Ok, Err, refl, sym, ◌∙◌, ap, subst, arith, inl, inr, append-nil, append_assoc, if◌then◌else◌}
+use Rattle.std.proofs.Common.{◌≡◌, ℕ, ◌<◌, Bool, true, false, List, [], ◌∷◌, ◌++◌, map, Option, None, Some, Ok, Err, refl, sym, ◌∙◌, ap, subst, arith, inl, inr, append-nil, append_assoc, if◌then◌else◌}
 use Rattle.std.specs.Prelude.{◌⊎◌, is_some}
+use Rattle.indexmap.specs.IndexMap.{insert_entry}
 use Rattle.sx_base.specs.Act.{after, give, gather}
+use Rattle.sx_base.specs.Named.{Named}
 use Rattle.sx_base.specs.declared.fault.FaultKind.TheVariants as kind
 use Rattle.sx_base.specs.declared.library.LibName.{LibName}
 use Rattle.sx_base.specs.declared.name.FrameNo.{FrameNo}
 use Rattle.sx_base.specs.declared.name.Label.{Label}
 use Rattle.sx_base.specs.declared.span.Span.{Span}
+use Rattle.sx_tree.specs.Tree.{Tree}
 use Rattle.sx_frames.specs.Rows.{second_binder}
-use Rattle.sx_frames.specs.Scope.{rows_at, with_row, label_at}
+use Rattle.sx_frames.specs.Scope.{with_row, label_at}
 use Rattle.sx_frames.proofs.FrameLaws.{rows_at-other}
 use Rattle.sx_scope.specs.Stands.{row_for, symbol_of}
 use Rattle.sx_core.specs.Bindings.{bound_to}
-use Rattle.sx_core.specs.Labels.{with_label}
+use Rattle.sx_core.specs.Core.{PlainCore}
+use Rattle.sx_core.specs.Labels.{same_label, with_label}
 use Rattle.sx_core.specs.declared.binding.Binding.{Binding}
 use Rattle.sx_core.specs.declared.binding.Binding.TheVariants as binding
 use Rattle.sx_core.specs.declared.binding.VarInfo.{VarInfo}
@@ -22,22 +26,25 @@ use Rattle.sx_pattern.specs.declared.compile.PatternVariable.{PatternVariable}
 use Rattle.sx_shapes.specs.At.{place_of}
 use Rattle.sx_shapes.specs.Lists.{is_leaf}
 use Rattle.sx_shapes.specs.declared.shape.BindingSpec.{BindingSpec}
+use Rattle.sx_stage.specs.Stage.{expression_in}
 use Rattle.sx_stage.specs.Transformers as stage
+use Rattle.sx_stage.specs.declared.keyword.Keyword.TheVariants as known
 use Rattle.sx_standing.specs.Binders.{row_put}
 use Rattle.sx_standing.specs.Patterns.{put_pattern_variable, bind_pattern_variable, bind_next, bind_pattern}
 use Rattle.sx_standing.specs.State.{State, fresh, fault_form, on_stage}
 use Rattle.sx_standing.specs.Uses.{put_keyword, bind_keyword_as, bind_keyword, bind_keywords}
 use Rattle.sx_standing.specs.declared.binders.BoundSpec.{BoundSpec}
-use Rattle.sx_expand_laws.specs.States.{IsOwn, IsBound, IsUnbound, IsPattern, IsNumbered, IsTop, Grows, Adds, Later, LaterBut}
+use Rattle.sx_expand_laws.specs.States.{IsOwn, IsBound, IsUnbound, IsPattern, IsNumbered, IsTop, IsKept, IsMacro, Keeps, Grows, Adds, Later, LaterBut}
 use Rattle.sx_expand_laws.proofs.Acts.{Gave, gave-after, gave-less, gave-if, gave-each}
 use Rattle.sx_expand_laws.proofs.Binding.{spec_label}
 use Rattle.sx_expand_laws.proofs.Compiled.{variable_label, variable_depth}
 use Rattle.sx_expand_laws.proofs.Fresh.{Made, each-map, each-append}
 use Rattle.sx_expand_laws.proofs.Grows.{grows-then, grows-same}
-use Rattle.sx_expand_laws.proofs.Later.{bound-last, bound-more, but-self, but-then, but-later}
+use Rattle.sx_expand_laws.proofs.Kept.{found-other}
+use Rattle.sx_expand_laws.proofs.Later.{bound-last, bound-more, keeps-self, keeps-then, keeps-more, but-self, but-then}
 use Rattle.sx_expand_laws.proofs.Naming.{as_label, counted, other-grows, scope-bound, scope-patterns, new-unbound}
 use Rattle.sx_expand_laws.proofs.Scope.{Behind, binder-behind, adds-self, adds-then, adds-same, adds-later}
-use Rattle.sx_expand_laws.proofs.Uses.{Patterned, begin-later}
+use Rattle.sx_expand_laws.proofs.Uses.{Patterned}
 
 -- the state with a pattern variable bound in a frame
 abbrev pub with_pattern : FrameNo → PatternVariable → ℕ → State → State
@@ -56,6 +63,7 @@ module _ (own : LibName) (f : FrameNo) (level : ℕ) where
   pub record BindsPatterns (s : State) (vs : List PatternVariable) (u : State) : Type 0 where
     pub later : LaterBut own f s u
     pub names : u.names ≡ s.names
+    pub keeps : Keeps own s u
     pub more : List Label
     pub scope : u.scope ≡ s.scope ++ more
     pub new : Each (Among (map variable_label vs)) more
@@ -70,6 +78,7 @@ module _ (own : LibName) (f : FrameNo) (level : ℕ) where
   patterns-none s n = record {
     later = but-self own f s n;
     names = refl;
+    keeps = keeps-self own s;
     more = [];
     scope = sym (append-nil s.scope);
     new = tt;
@@ -99,6 +108,7 @@ module _ (own : LibName) (f : FrameNo) (level : ℕ) where
       grows = other-grows own s f v.id v.label x (with_label s.scope v.label) tt (λ w e. absurd (cc)) mine lt;
     }) k.later;
     names = k.names;
+    keeps = keeps-then own s t u (omega arith) (let e = ap (λ (m : Named). m.number) k.names in omega (arith, e)) (keeps-more own s t v.label x refl (λ l e y. absurd (cc)) refl) k.keeps;
     more = b.more ++ k.more;
     scope = k.scope ∙ ap (λ xs. xs ++ k.more) b.is ∙ append_assoc s.scope b.more k.more;
     new = each-append (Among (v.label ∷ map variable_label vs)) b.more k.more (each-map (Among (v.label ∷ [])) (Among (v.label ∷ map variable_label vs)) b.more b.new first) (each-map (Among (map variable_label vs)) (Among (v.label ∷ map variable_label vs)) k.more k.new (λ l a. inr a));
@@ -210,29 +220,63 @@ module _ (own : LibName) (f : FrameNo) (level : ℕ) where
 -- Keywords.
 
 module _ (own : LibName) (f : FrameNo) where
-  -- a keyword that was bound: nothing comes into scope
-  pub record BindsKeyword (s : State) (x : BoundSpec) (u : State) : Type 0 where
+  -- keywords that were bound and wait: nothing comes into scope, and what is kept stays so
+  pub record BindsKeywords (s : State) (xs : List BoundSpec) (u : State) : Type 0 where
     pub later : LaterBut own f s u
     pub adds : (top : Bool) → Adds own top [] [] s u
+    pub kept : (l : Label) → l.0.number < s.names.number → IsKept s l → IsKept u l
+    pub keywords : (l : Label) (level : ℕ) (e : Option PlainCore) → IsOwn own l.0 → IsMacro u l level e → IsMacro s l level e ⊎ Among (map spec_label xs) l
+    pub made : Each (λ (x : BoundSpec). x.label.0.number < u.names.number) xs
 
-  keyword-put : (s : State) (b : BindingSpec) (level : ℕ) (init : BoundSpec) (u : State) → s.names.library ≡ own
-      → Later own (record s { frames = with_row s.frames f (row_for b.id (as_label s.names)); names = (counted s).names; bindings = s.bindings ++ (as_label s.names, binding.Macro level None) ∷ [] }) u → BindsKeyword s init u
-  keyword-put s b level init u n h = record {
-    later = but-then own f s t u (record {
-      here = refl;
-      next = n;
-      up = omega arith;
-      same = λ g o d. rows_at-other s.frames f g (row_for b.id (as_label s.names)) d;
-      grows = grows;
-    }) (but-later own f t u h);
-    adds = λ top. adds-then own top [] [] [] [] s t u (adds-same own top s t refl grows.bound tops grows.numbered) (adds-later own top t u h);
+  keywords-none : (s : State) → s.names.library ≡ own → BindsKeywords s [] s
+  keywords-none s n = record { later = but-self own f s n; adds = λ top. adds-self own top s; kept = λ l lt k. k; keywords = λ l level e o k. inl k; made = tt }
+
+  keywords-more : (s t u : State) (x : BoundSpec) (xs : List BoundSpec) → BindsKeywords s (x ∷ []) t → BindsKeywords t xs u → BindsKeywords s (x ∷ xs) u
+  keywords-more s t u x xs h k = record {
+    later = but-then own f s t u h.later k.later;
+    adds = λ top. adds-then own top [] [] [] [] s t u (h.adds top) (k.adds top);
+    kept = λ l lt c. k.kept l (omega (arith, lt, h.later.up)) (h.kept l lt c);
+    keywords = λ l level e o m. by l level e o (k.keywords l level e o m);
+    made = let lt = h.made.0 in (omega (arith, lt, k.later.up), k.made);
+  }
+    where
+      old : (l : Label) (level : ℕ) (e : Option PlainCore) → IsMacro s l level e ⊎ Among (x.label ∷ []) l → IsMacro s l level e ⊎ Among (x.label ∷ map spec_label xs) l
+      old l level e (inl m) = inl m
+      old l level e (inr (inl i)) = inr (inl i)
+      old l level e (inr (inr i)) = elim i [ ]
+
+      by : (l : Label) (level : ℕ) (e : Option PlainCore) → IsOwn own l.0 → IsMacro t l level e ⊎ Among (map spec_label xs) l → IsMacro s l level e ⊎ Among (x.label ∷ map spec_label xs) l
+      by l level e o (inl m) = old l level e (h.keywords l level e o m)
+      by l level e o (inr a) = inr (inr a)
+
+  -- the state with a keyword bound in the frame, which waits
+  with_keyword : Tree → ℕ → Span → State → State
+  with_keyword id level place s = record s {
+    frames = with_row s.frames f (row_for id (as_label s.names));
+    names = (counted s).names;
+    bindings = s.bindings ++ (as_label s.names, binding.Macro level None) ∷ [];
+    keywords = insert_entry same_label s.keywords (as_label s.names) (known.Waiting place);
+  }
+
+  keyword-put : (s : State) (id : Tree) (level : ℕ) (place : Span) (x : BoundSpec) → x.label ≡ as_label s.names → s.names.library ≡ own → BindsKeywords s (x ∷ []) (with_keyword id level place s)
+  unfolding with_keyword
+  keyword-put s id level place x is n = record {
+    later = record { here = refl; next = n; up = omega arith; same = λ g o d. rows_at-other s.frames f g (row_for id (as_label s.names)) d; grows = grows };
+    adds = λ top. adds-same own top s t refl grows.bound tops grows.numbered;
+    kept = λ l lt k. (k.0, ap expression_in (found-other s.keywords (as_label s.names) l (known.Waiting place) (λ e. let same = ap (λ (m : Label). m.0.number) e in omega (arith, lt, same))) ∙ k.1);
+    keywords = λ l m e o k. keyword l m e (bound-more s.bindings (as_label s.names) l (binding.Macro level None) (binding.Macro m e) k);
+    made = (let same = ap (λ (m : Label). m.0.number) is in omega (arith, same), tt);
   }
     where
       t : State
-      t = record s { frames = with_row s.frames f (row_for b.id (as_label s.names)); names = (counted s).names; bindings = s.bindings ++ (as_label s.names, binding.Macro level None) ∷ [] }
+      t = with_keyword id level place s
 
       grows : Grows own s t
-      grows = grows-then own s (counted s) t (grows-same own s (counted s) refl refl refl (omega arith)) (other-grows own (counted s) f b.id (as_label s.names) (binding.Macro level None) s.scope tt (λ w e. absurd (cc)) n (omega arith))
+      grows = grows-then own s (counted s) t (grows-same own s (counted s) refl refl refl (omega arith))
+          (grows-then own (counted s) u t (other-grows own (counted s) f id (as_label s.names) (binding.Macro level None) s.scope tt (λ w e. absurd (cc)) n (omega arith)) (grows-same own u t refl refl refl (omega arith)))
+        where
+          u : State
+          u = record (counted s) { frames = with_row s.frames f (row_for id (as_label s.names)); bindings = s.bindings ++ (as_label s.names, binding.Macro level None) ∷ []; scope = s.scope }
 
       tops : (l : Label) (v : VarInfo) → IsOwn own l.0 → IsTop t l v → IsTop s l v
       tops l w o e = (by (bound-more s.bindings (as_label s.names) l (binding.Macro level None) (binding.Variable w) e.0), e.1)
@@ -241,32 +285,49 @@ module _ (own : LibName) (f : FrameNo) where
           by (inl e) = e
           by (inr p) = let bad = p.1 in absurd (cc)
 
-  pub binds-keyword : (place : Span) (level : ℕ) (b : BindingSpec) (s : State) → s.names.library ≡ own → Gave (BindsKeyword s) (bind_keyword f place level b s)
-  unfolding bind_keyword fresh put_keyword
+      keyword : (l : Label) (m : ℕ) (e : Option PlainCore) → IsMacro s l m e ⊎ ((l ≡ as_label s.names) × (binding.Macro level None ≡ binding.Macro m e)) → IsMacro s l m e ⊎ Among (x.label ∷ []) l
+      keyword l m e (inl k) = inl k
+      keyword l m e (inr p) = inr (inl (p.0 ∙ sym is))
+
+  pub binds-keyword : (place : Span) (level : ℕ) (b : BindingSpec) (s : State) → s.names.library ≡ own → Gave (λ x u. BindsKeywords s (x ∷ []) u) (bind_keyword f place level b s)
+  unfolding bind_keyword fresh stage.begin_keyword with_keyword
   binds-keyword place level b s n =
-      gave-if (BindsKeyword s) (is_leaf b.id) (after (fresh s) (bind_keyword_as f place level b)) (fault_form kind.BadForm b.id place s)
+      gave-if (λ x u. BindsKeywords s (x ∷ []) u) (is_leaf b.id) (after (fresh s) (bind_keyword_as f place level b)) (fault_form kind.BadForm b.id place s)
       (λ e. by_row (is_some (label_at s.frames f (row_for b.id (as_label s.names)).symbol (row_for b.id (as_label s.names)).marks))) (λ e. tt)
     where
-      t : State
-      t = record s { frames = with_row s.frames f (row_for b.id (as_label s.names)); names = (counted s).names; bindings = s.bindings ++ (as_label s.names, binding.Macro level None) ∷ [] }
-
       by_row : (r : Bool)
-          → Gave (BindsKeyword s) (after (row_put b.id place (counted s) (if r then Err (second_binder (symbol_of b.id)) else Ok (with_row s.frames f (row_for b.id (as_label s.names))))) (λ _ t.
-            after (put_keyword (as_label s.names) level t) (λ _ u.
-            after (on_stage (stage.begin_keyword (as_label s.names) (place_of b.init place)) u) (λ _. give (record { label = as_label s.names; init = b.init })))))
+          → Gave (λ x u. BindsKeywords s (x ∷ []) u) (after (row_put b.id place (counted s) (if r then Err (second_binder (symbol_of b.id)) else Ok (with_row s.frames f (row_for b.id (as_label s.names))))) (λ _ t.
+          after (put_keyword (as_label s.names) level t) (λ _ u.
+          after (on_stage (stage.begin_keyword (as_label s.names) (place_of b.init place)) u) (λ _. give (record { label = as_label s.names; init = b.init })))))
       by_row true = tt
-      by_row false = gave-after (λ x u. Later own t u) (BindsKeyword s) (on_stage (stage.begin_keyword (as_label s.names) (place_of b.init place)) t) (λ _. give (record { label = as_label s.names; init = b.init }))
-          (begin-later own (place_of b.init place) (as_label s.names) t n) (λ x u h. keyword-put s b level (record { label = as_label s.names; init = b.init }) u n h)
-
-  pub record BindsKeywords (s : State) (xs : List BoundSpec) (u : State) : Type 0 where
-    pub later : LaterBut own f s u
-    pub adds : (top : Bool) → Adds own top [] [] s u
+      by_row false = keyword-put s b.id level (place_of b.init place) (record { label = as_label s.names; init = b.init }) refl n
 
   pub binds-keywords : (place : Span) (level : ℕ) (bs : List BindingSpec) (s : State) → s.names.library ≡ own → Gave (BindsKeywords s) (bind_keywords f place level bs s)
   binds-keywords place level bs s n =
-      gave-each (bind_keyword f place level) (λ b t x u. BindsKeyword t x u) (λ xs t ys u. BindsKeywords t ys u) (λ t. t.names.library ≡ own)
-      (λ t k. record { later = but-self own f t k; adds = λ top. adds-self own top t })
+      gave-each (bind_keyword f place level) (λ b t x u. BindsKeywords t (x ∷ []) u) (λ xs t ys u. BindsKeywords t ys u) (λ t. t.names.library ≡ own)
+      (λ t k. keywords-none t k)
       (λ b t k. binds-keyword place level b t k)
       (λ b t u x k j. j.later.next)
-      (λ b xs t u v x ys k j a. record { later = but-then own f t u v j.later a.later; adds = λ top. adds-then own top [] [] [] [] t u v (j.adds top) (a.adds top) })
+      (λ b xs t u v x ys k j a. keywords-more t u v x ys j a)
       bs s n
+
+  -- where they are kept in the end, all that came is
+  pub keywords-kept : (s u v : State) (xs : List BoundSpec) → BindsKeywords s xs u → Later own u v → Each (λ (x : BoundSpec). x.label.0.number < u.names.number → IsKept v x.label) xs → Keeps own s v
+  keywords-kept s u v xs h k all = record {
+    kept = λ l lt c. k.keeps.kept l (omega (arith, lt, h.later.up)) (h.kept l lt c);
+    keywords = λ l level e o m. by l level e o (k.keeps.keywords l level e o m);
+  }
+    where
+      kept-so : (ys : List BoundSpec) → Each (λ (x : BoundSpec). x.label.0.number < u.names.number) ys → Each (λ (x : BoundSpec). x.label.0.number < u.names.number → IsKept v x.label) ys
+          → (l : Label) → Among (map spec_label ys) l → IsKept v l × (l.0.number < v.names.number)
+      kept-so [] m a l i = elim i [ ]
+      kept-so (y ∷ ys) m a l (inl e) = let lt = m.0 in let w : y.label.0.number < v.names.number = omega (arith, lt, k.up) in subst (λ (x : Label). IsKept v x × (x.0.number < v.names.number)) (sym e) (a.0 lt, w)
+      kept-so (y ∷ ys) m a l (inr i) = kept-so ys m.1 a.1 l i
+
+      old : (l : Label) (level : ℕ) (e : Option PlainCore) → IsMacro s l level e ⊎ Among (map spec_label xs) l → IsMacro s l level e ⊎ (IsKept v l × (l.0.number < v.names.number))
+      old l level e (inl m) = inl m
+      old l level e (inr a) = inr (kept-so xs h.made all l a)
+
+      by : (l : Label) (level : ℕ) (e : Option PlainCore) → IsOwn own l.0 → IsMacro u l level e ⊎ (IsKept v l × (l.0.number < v.names.number)) → IsMacro s l level e ⊎ (IsKept v l × (l.0.number < v.names.number))
+      by l level e o (inl m) = old l level e (h.keywords l level e o m)
+      by l level e o (inr p) = inr p

@@ -1,7 +1,7 @@
 -- How a form changes the state, whatever the state and the form.
-use Rattle.std.proofs.Common.{◌≡◌, ℕ, zero, suc, ◌+◌, ◌<◌, Bool, true, false, List, [], ◌∷◌, length, map, Option, None, Some, Ok, refl, sym, subst, arith}
+use Rattle.std.proofs.Common.{◌≡◌, ℕ, zero, suc, ◌+◌, ◌<◌, Bool, true, false, List, [], ◌∷◌, map, Option, None, Some, Ok, refl, sym, subst, arith}
 use Rattle.std.specs.Prelude.{nat_lt}
-use Rattle.sx_base.specs.Act.{after, give}
+use Rattle.sx_base.specs.Act.{after, give, gather}
 use Rattle.sx_base.specs.declared.library.LibName.{LibName}
 use Rattle.sx_base.specs.declared.name.FrameNo.{FrameNo}
 use Rattle.sx_base.specs.declared.name.Label.{Label}
@@ -42,20 +42,20 @@ use Rattle.sx_expand.specs.Inside.{Inside, deeper}
 use Rattle.sx_expand.specs.Keywords.{keyword, seen_in, keyword_in, all_keywords, keywords, with_keywords, define_syntax}
 use Rattle.sx_expand.specs.Settle.{settle, settle_item}
 use Rattle.sx_expand_laws.specs.InScope.{ScopeStays}
-use Rattle.sx_expand_laws.specs.States.{IsOwn, Adds, Later, LaterBut}
+use Rattle.sx_expand_laws.specs.States.{IsOwn, IsKept, Keeps, Adds, Later, LaterBut}
 use Rattle.sx_expand_laws.proofs.Acts.{Gave, gave-any, gave-both, gave-after, gave-within, gave-less, gave-if, gave-gather, told}
-use Rattle.sx_expand_laws.proofs.Fresh.{Made, label_name, fresh-none}
+use Rattle.sx_expand_laws.proofs.Fresh.{Made, each-map, label_name, fresh-none}
 use Rattle.sx_expand_laws.proofs.Scope.{adds-self, adds-later}
-use Rattle.sx_expand_laws.proofs.Later.{later-self, later-then, later-framed, but-self, but-then, but-later}
+use Rattle.sx_expand_laws.proofs.Later.{keeps-self, keeps-then, later-self, later-then, later-framed, but-self, but-then, but-later}
 use Rattle.sx_expand_laws.proofs.LineLabels.{kind_labels}
 use Rattle.sx_expand_laws.proofs.Naming.{as_frame, counted, counted-later}
-use Rattle.sx_expand_laws.proofs.BindingKeywords.{BindsKeyword, BindsKeywords, BindsPatterns, binds-keywords, binds-patterns, pattern-adds-so}
+use Rattle.sx_expand_laws.proofs.BindingKeywords.{BindsKeywords, BindsPatterns, binds-keywords, keywords-kept, binds-patterns, pattern-adds-so}
 use Rattle.sx_expand_laws.proofs.Compiled.{variable_label, variable_depth}
 use Rattle.sx_expand_laws.proofs.Moved.{Names, Moved, Leaving, moved-after, moved-each, moved-counted, framed}
 use Rattle.sx_expand_laws.proofs.Settled.{settle-later}
-use Rattle.sx_expand_laws.proofs.Uses.{Patterned, pattern-later, literals-later, finish-later, moved-apart}
+use Rattle.sx_expand_laws.proofs.Uses.{Patterned, pattern-later, literals-later, finish-later, finish-kept, moved-apart}
 use Rattle.sx_expand_laws.proofs.Binding.{BindsAll, spec_label, binds-formals, binds-specs}
-use Rattle.sx_expand_laws.proofs.Items.{wait_kinds, Took, Takes, took-later, Settles, defines-keyword, settle-takes}
+use Rattle.sx_expand_laws.proofs.Items.{wait_kinds, Took, Takes, took-later, Settles, BindsOne, defines-keyword, settle-takes}
 
 -- nothing was taken yet
 took-none : (own : LibName) (top : Bool) (s : State) → Took own top s begun s
@@ -96,8 +96,8 @@ module _ (own : LibName) (go : Inside) (moves : Moves own go) where
       gave-gather (go.item at depth) (λ e t. Takes own at.frame (is_top at.kind) start s e t)
       (λ e x t j. gave-less (Takes own at.frame (is_top at.kind) start t) (Takes own at.frame (is_top at.kind) start s) (go.item at depth e x t)
       (moves.item at depth e x start t j.later.next low j.took)
-      (λ y u l. record { later = but-then own at.frame s t u j.later l.later; took = l.took }))
-      d forms s (record { later = but-self own at.frame s n; took = k })
+      (λ y u l. record { later = but-then own at.frame s t u j.later l.later; took = l.took; keeps = keeps-then own s t u j.later.up l.later.up j.keeps l.keeps }))
+      d forms s (record { later = but-self own at.frame s n; took = k; keeps = keeps-self own s })
 
   -- the first pass from its start
   pub first-takes : (at : BodyAt) (depth : ℕ) (forms : List Tree) (s : State) → Names own s → (is_top at.kind ≡ true → at.level ≡ 0) → Gave (Takes own at.frame (is_top at.kind) s s) (splice go at depth begun forms s)
@@ -113,7 +113,7 @@ module _ (own : LibName) (go : Inside) (moves : Moves own go) where
       let first = splice go (lambda_at (as_frame s.names) place level) depth begun (map (stamp (as_frame s.names)) forms) (counted s) in
       gave-within (Moved own s) (λ u. after (fresh_frame u) (body_in go place level depth t forms)) s
       (framed own (λ (d : Taken). kind_labels (wait_kinds d.waiting)) (λ d. []) s first (finish go place level t) n
-      (gave-less (Takes own (as_frame s.names) false (counted s) (counted s)) _ first (body-takes place level depth (map (stamp (as_frame s.names)) forms) s n) (λ d u k. (k.later, k.took.adds)))
+      (gave-less (Takes own (as_frame s.names) false (counted s) (counted s)) _ first (body-takes place level depth (map (stamp (as_frame s.names)) forms) s n) (λ d u k. (k.later, (k.took.adds, k.keeps))))
       (λ d u m. moved-finish place level t d u m))
 
   -- Procedures and `letrec`.
@@ -125,7 +125,7 @@ module _ (own : LibName) (go : Inside) (moves : Moves own go) where
         let f = as_frame s.names in
         gave-within (Moved own s) (λ u. after (fresh_frame u) (case_in go place level depth t ids forms)) s
         (framed own formals_labels (λ x. []) s (bind_formals f place level ids (counted s)) _ n
-        (gave-less (λ x u. BindsAll own f (counted s) (formals_labels x) u) _ (bind_formals f place level ids (counted s)) (binds-formals own f place level ids (counted s) n) (λ x u b. (b.later, b.adds)))
+        (gave-less (λ x u. BindsAll own f (counted s) (formals_labels x) u) _ (bind_formals f place level ids (counted s)) (binds-formals own f place level ids (counted s) n) (λ x u b. (b.later, (b.adds, b.keeps))))
         (λ x u m. moved-after own u (body go place level depth t (map (stamp f) forms) u) (λ c. give (record { formals = x; body = c })) (moved-body place level depth t (map (stamp f) forms) u m) (λ c v l. later-self own v l)))
 
     moved-lambda : (ids : FormalIds) (forms : List Tree) (s : State) → Names own s → Gave (Moved own s) (lambda go place level depth t ids forms s)
@@ -153,7 +153,7 @@ module _ (own : LibName) (go : Inside) (moves : Moves own go) where
         let f = as_frame s.names in
         gave-within (Moved own s) (λ u. after (fresh_frame u) (letrec_in go place level depth t star bs forms)) s
         (framed own (map spec_label) (λ xs. []) s (bind_specs f place level bs (counted s)) _ n
-        (gave-less (λ xs u. BindsAll own f (counted s) (map spec_label xs) u) _ (bind_specs f place level bs (counted s)) (binds-specs own f place level bs (counted s) n) (λ xs u b. (b.later, b.adds)))
+        (gave-less (λ xs u. BindsAll own f (counted s) (map spec_label xs) u) _ (bind_specs f place level bs (counted s)) (binds-specs own f place level bs (counted s) n) (λ xs u b. (b.later, (b.adds, b.keeps))))
         (λ xs u m. moved-after own u (all_inits go place level depth f xs u) (λ is v. after (body go place level depth t (map (stamp f) forms) v) (λ c. give (letrec star (inits is) c))) (moved-inits f xs u m)
         (λ is v l. moved-after own v (body go place level depth t (map (stamp f) forms) v) (λ c. give (letrec star (inits is) c)) (moved-body place level depth t (map (stamp f) forms) v l) (λ c w o. later-self own w o))))
 
@@ -187,17 +187,41 @@ module _ (own : LibName) (go : Inside) (moves : Moves own go) where
 
   -- The expression of a keyword.
 
-  pub moved-keyword : (place : Span) (level depth : ℕ) (b : BoundSpec) (s : State) → Names own s → Gave (Moved own s) (keyword go place level depth b s)
-  unfolding keyword
-  moved-keyword place level depth b s n = moved-after own s (apart (go.form place (level + 1) depth b.init) s) (finish_keyword go.earlier (place_of b.init place) b.label)
-      (moved-apart own (go.form place (level + 1) depth b.init) s (moves.form place (level + 1) depth b.init (record s { scope = [] }) n))
-      (λ c u m. finish-later own go.earlier (place_of b.init place) b.label c u m)
+  -- it is kept then
+  abbrev pub Keeping : State → BoundSpec → State → Type 0
+  Keeping s b u = Later own s u × IsKept u b.label
 
-  moved-all : (place : Span) (level depth : ℕ) (recursive : Bool) (f : FrameNo) (bs : List BoundSpec) (s : State) → Names own s → Gave (Moved own s) (all_keywords go place level depth recursive f bs s)
-  moved-all place level depth recursive f bs s n =
-      gave-gather (keyword_in go place level depth recursive f) (λ x u. Later own s u)
-      (λ x b u k. gave-less (Moved own u) (Moved own s) (keyword_in go place level depth recursive f x b u) (moved-keyword place level depth (seen_in recursive f b) u k.next) (λ y v j. later-then own s u v k j))
-      tt bs s (later-self own s n)
+  pub moved-keyword : (place : Span) (level depth : ℕ) (b : BoundSpec) (s : State) → Names own s → Gave (λ x u. Keeping s b u) (keyword go place level depth b s)
+  unfolding keyword
+  moved-keyword place level depth b s n = gave-after (λ c u. Later own s u) (λ x u. Keeping s b u) (apart (go.form place (level + 1) depth b.init) s) (finish_keyword go.earlier (place_of b.init place) b.label)
+      (moved-apart own (go.form place (level + 1) depth b.init) s (moves.form place (level + 1) depth b.init (record s { scope = [] }) n))
+      (λ c u m. gave-less (λ x v. Later own u v × IsKept v b.label) (λ x v. Keeping s b v) (finish_keyword go.earlier (place_of b.init place) b.label c u)
+      (gave-both (λ x v. Later own u v) (λ x v. IsKept v b.label) (finish_keyword go.earlier (place_of b.init place) b.label c u)
+      (finish-later own go.earlier (place_of b.init place) b.label c u m.next) (finish-kept own go.earlier (place_of b.init place) b.label c u))
+      (λ x v k. (later-then own s u v m k.0, k.1)))
+
+  seen-label : (recursive : Bool) (f : FrameNo) (b : BoundSpec) → (seen_in recursive f b).label ≡ b.label
+  seen-label true f b = refl
+  seen-label false f b = refl
+
+  -- all of these are kept
+  abbrev pub KeepingAll : State → List BoundSpec → State → Type 0
+  KeepingAll s bs u = Later own s u × Each (λ (b : BoundSpec). b.label.0.number < s.names.number → IsKept u b.label) bs
+
+  moved-all : (place : Span) (level depth : ℕ) (recursive : Bool) (f : FrameNo) (bs : List BoundSpec) (s : State) → Names own s → Gave (λ x u. KeepingAll s bs u) (all_keywords go place level depth recursive f bs s)
+  unfolding gather
+  moved-all place level depth recursive f [] s n = (later-self own s n, tt)
+  moved-all place level depth recursive f (b ∷ bs) s n =
+      gave-after (λ x u. Keeping s (seen_in recursive f b) u) (λ x u. KeepingAll s (b ∷ bs) u) (keyword_in go place level depth recursive f tt b s) (λ e. gather (keyword_in go place level depth recursive f) e bs)
+      (moved-keyword place level depth (seen_in recursive f b) s n)
+      (λ x u k. gave-less (λ y v. KeepingAll u bs v) (λ y v. KeepingAll s (b ∷ bs) v) (all_keywords go place level depth recursive f bs u) (moved-all place level depth recursive f bs u k.0.next)
+      (λ y v j. (
+        later-then own s u v k.0 j.0,
+        (
+          (λ lt. j.0.keeps.kept b.label (omega (arith, lt, k.0.up)) (subst (λ (l : Label). IsKept u l) (seen-label recursive f b) k.1)),
+          each-map (λ (c : BoundSpec). c.label.0.number < u.names.number → IsKept v c.label) (λ (c : BoundSpec). c.label.0.number < s.names.number → IsKept v c.label) bs j.1 (λ c h lt. h (omega (arith, lt, k.0.up))),
+        ),
+      )))
 
   -- where a new frame alone has more, and nothing came into scope
   pub moved-keywords : (place : Span) (level depth : ℕ) (recursive : Bool) (bs : List BindingSpec) (forms : List Tree) (s : State) → Names own s → Gave (Moved own s) (with_keywords go place level depth recursive bs forms s)
@@ -206,8 +230,8 @@ module _ (own : LibName) (go : Inside) (moves : Moves own go) where
       let f = as_frame s.names in
       gave-after (λ x u. Later own s u) (Moved own s) (keywords go place level depth recursive bs f (counted s)) (λ _. give (map (stamp f) forms))
       (gave-after (BindsKeywords own f (counted s)) (Moved own s) (bind_keywords f place level bs (counted s)) (all_keywords go place level depth recursive f) (binds-keywords own f place level bs (counted s) n)
-      (λ xs u b. gave-less (Moved own u) (Moved own s) (all_keywords go place level depth recursive f xs u) (moved-all place level depth recursive f xs u b.later.next)
-      (λ y v j. later-then own s u v (later-framed own f s (counted s) u (counted-later own s n) b.later (b.adds false) n (omega arith)) j)))
+      (λ xs u b. gave-less (λ y v. KeepingAll u xs v) (Moved own s) (all_keywords go place level depth recursive f xs u) (moved-all place level depth recursive f xs u b.later.next)
+      (λ y v j. later-framed own f s (counted s) u v (counted-later own s n) b.later (b.adds false) n (omega arith) j.0 (keywords-kept own f (counted s) u v xs b j.0 j.1))))
       (λ x u k. k)
 
   -- and forms come of forms
@@ -243,8 +267,8 @@ module _ (own : LibName) (go : Inside) (moves : Moves own go) where
         mapped [] h = tt
         mapped (v ∷ vs) h = ((h.0.library, h.0.high), mapped vs h.1)
 
-    pub pattern-adds : (f : FrameNo) (p : Compiled) (s u : State) → BindsPattern f s p u → LaterBut own f s u × Adds own false (map variable_label p.variables) (map variable_depth p.variables) s u
-    pattern-adds f p s u b = (but-then own f s b.compiled u (but-later own f s b.compiled b.patterned.later) b.binds.later, pattern-adds-so own f level p s b.compiled u b.patterned b.binds)
+    pub pattern-adds : (f : FrameNo) (p : Compiled) (s u : State) → BindsPattern f s p u → LaterBut own f s u × (Adds own false (map variable_label p.variables) (map variable_depth p.variables) s u × Keeps own s u)
+    pattern-adds f p s u b = (but-then own f s b.compiled u (but-later own f s b.compiled b.patterned.later) b.binds.later, (pattern-adds-so own f level p s b.compiled u b.patterned b.binds, keeps-then own s b.compiled u b.patterned.later.up b.binds.later.up b.patterned.later.keeps b.binds.keeps))
 
     pub moved-clause : (c : PatternCase) (s : State) → Names own s → Gave (Moved own s) (pattern_clause go place level depth literals c s)
     unfolding pattern_clause fresh_frame
@@ -299,11 +323,12 @@ module _ (own : LibName) (go : Inside) (moves : Moves own go) where
     unfolding define_syntax
     defined-takes depth d t b s n k =
         gave-after (λ x u. T s d u) (T s) (after (define_keyword at d t b s) (keyword go at.place at.level depth)) (λ _. give d)
-        (gave-after (BindsKeyword own at.frame s) (λ x u. T s d u) (define_keyword at d t b s) (keyword go at.place at.level depth) (defines-keyword own start at s n low d t b)
-        (λ x u j. gave-less (Moved own u) (λ y v. T s d v) (keyword go at.place at.level depth x u) (moved-keyword at.place at.level depth x u j.later.next)
+        (gave-after (BindsOne own start at s n low) (λ x u. T s d u) (define_keyword at d t b s) (keyword go at.place at.level depth) (defines-keyword own start at s n low d t b)
+        (λ x u j. gave-less (λ y v. Keeping u x v) (λ y v. T s d v) (keyword go at.place at.level depth x u) (moved-keyword at.place at.level depth x u j.later.next)
         (λ y v l. record {
-          later = but-then own at.frame s u v j.later (but-later own at.frame u v l);
-          took = took-later own (is_top at.kind) start d u v l.up (adds-later own (is_top at.kind) u v l) (took-later own (is_top at.kind) start d s u j.later.up (j.adds (is_top at.kind)) k);
+          later = but-then own at.frame s u v j.later (but-later own at.frame u v l.0);
+          took = took-later own (is_top at.kind) start d u v l.0.up (adds-later own (is_top at.kind) u v l.0) (took-later own (is_top at.kind) start d s u j.later.up (j.adds (is_top at.kind)) k);
+          keeps = keywords-kept own at.frame s u v (x ∷ []) j l.0 ((λ lt. l.1), tt);
         })))
         (λ x u j. j)
 
@@ -312,11 +337,11 @@ module _ (own : LibName) (go : Inside) (moves : Moves own go) where
     keywords-take depth d recursive bs forms s n k =
         gave-after (λ xs u. Later own s u) (T s) (with_keywords go at.place at.level depth recursive bs forms s) (splice go at depth d) (moved-keywords at.place at.level depth recursive bs forms s n)
         (λ xs u l. gave-less (T u) (T s) (splice go at depth d xs u) (splice-takes at depth start d xs u l.next low (took-later own (is_top at.kind) start d s u l.up (adds-later own (is_top at.kind) s u l) k))
-        (λ y v j. record { later = but-then own at.frame s u v (but-later own at.frame s u l) j.later; took = j.took }))
+        (λ y v j. record { later = but-then own at.frame s u v (but-later own at.frame s u l) j.later; took = j.took; keeps = keeps-then own s u v l.up j.later.up l.keeps j.keeps }))
 
     performs-item : (depth : ℕ) (d : Taken) (t : Tree) (i : Item) (s : State) → Names own s → Took own (is_top at.kind) start d s → Gave (T s) (perform_item go at depth d t i s)
     unfolding perform_item
-    performs-item depth d t items.Nothing s n k = record { later = but-self own at.frame s n; took = k }
+    performs-item depth d t items.Nothing s n k = record { later = but-self own at.frame s n; took = k; keeps = keeps-self own s }
     performs-item depth d t (items.Forms forms) s n k = splice-takes at (deeper depth) start d forms s n low k
     performs-item depth d t (items.Keyword b) s n k = defined-takes (deeper depth) d t b s n k
     performs-item depth d t (items.Keywords recursive bs forms) s n k = keywords-take (deeper depth) d recursive bs forms s n k
@@ -333,7 +358,7 @@ module _ (own : LibName) (go : Inside) (moves : Moves own go) where
       (λ p u j. gave-less (Takes own at.frame (is_top at.kind) start u) (Takes own at.frame (is_top at.kind) start s) (expand_body.perform_settled go depth p u)
       (subst (λ (other : BodyAt). Gave (Takes own at.frame (is_top at.kind) start u) (perform_item go other depth p.0 p.1.form p.1.item u)) (sym j.1.1)
       (performs-item (record at { place = j.1.0 }) start low depth p.0 p.1.form p.1.item u j.0.later.next j.0.took))
-      (λ y v l. record { later = but-then own at.frame s u v j.0.later l.later; took = l.took })))
+      (λ y v l. record { later = but-then own at.frame s u v j.0.later l.later; took = l.took; keeps = keeps-then own s u v j.0.later.up l.later.up j.0.keeps l.keeps })))
 
 -- so it is inside forms, however deep they may nest
 pub inside-moves : (own : LibName) (rs : List LibRecord) (room : ℕ) → Moves own (inside rs room)

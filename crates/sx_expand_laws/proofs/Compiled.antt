@@ -1,5 +1,5 @@
 -- What the pattern of a form is: its variables are new, each with its depth, and its literals are identifiers.
-use Rattle.std.proofs.Common.{◌≡◌, ℕ, zero, suc, ◌+◌, ◌≤◌, Bool, true, false, List, [], ◌∷◌, ◌++◌, map, Option, None, Some, Result, Ok, Err, refl, sym, ◌∙◌, ap, subst, arith, append-nil, append_assoc, if◌then◌else◌}
+use Rattle.std.proofs.Common.{◌≡◌, ℕ, suc, ◌+◌, ◌≤◌, Bool, true, false, List, [], ◌∷◌, ◌++◌, map, Option, None, Some, Result, Ok, Err, refl, sym, ◌∙◌, ap, subst, arith, append-nil, append_assoc, if◌then◌else◌}
 use Rattle.sx_base.specs.Act.{after}
 use Rattle.sx_base.specs.Gives.{◌>>=◌}
 use Rattle.sx_base.specs.Named.{Named}
@@ -11,19 +11,25 @@ use Rattle.sx_tree.specs.Tree as tree
 use Rattle.sx_tree.specs.Tree.{Tree}
 use Rattle.sx_frames.specs.Scope.{Scope}
 use Rattle.sx_scope.specs.Stands.{stands}
-use Rattle.sx_core.specs.Pattern.{PlainPattern, any, variable, literal, atom, list, vector, PlainPatterns, none, more, dots, patterns, patterns_on}
+use Rattle.sx_core.specs.Pattern.{PlainPattern, list, vector, PlainPatterns, none, more, dots, patterns, patterns_on}
 use Rattle.sx_core.specs.References.{variables, all_variables}
 use Rattle.sx_core.specs.declared.core_form.CoreForm.TheVariants as form
 use Rattle.sx_core_laws.specs.Parts.{literals, all_literals}
 use Rattle.sx_core_laws.specs.Templates.{Depths, depths, all_depths}
 use Rattle.sx_core_laws.specs.WellMade.{IsLeaf}
 use Rattle.sx_core_laws.specs.Words.{Each}
-use Rattle.sx_pattern.specs.Compile.{Taken, Element, Walked, is_known, is_literal, named, following, new_variable, leaf_pattern, no_parts, with_part, dots_of, parts_of, with_repeated, next_ellipsis, repeated_part, element, step, walked, list_with, vector_with, pattern, element_patterns, tail_pattern, literals_checked, with_variables, compiled}
-use Rattle.sx_pattern.specs.Keywords.{is_form, is_ellipsis}
+use Rattle.sx_pattern.specs.Compile.{Taken, Element, Walked, is_known, is_literal, named, new_variable, leaf_pattern, no_parts, with_part, dots_of, parts_of, with_repeated, next_ellipsis, repeated_part, element, step, walked, list_with, vector_with, pattern, element_patterns, tail_pattern, literals_checked, with_variables, compiled}
+use Rattle.sx_pattern.specs.Keywords.{is_form}
 use Rattle.sx_pattern.specs.declared.compile.Compiled.{Compiled}
-use Rattle.sx_pattern.specs.declared.compile.PatternParts.{PatternParts}
 use Rattle.sx_pattern.specs.declared.compile.PatternVariable.{PatternVariable}
 use Rattle.sx_expand_laws.proofs.Fresh.{FreshLabels, label_name, each-append, fresh-none, fresh-one, fresh-append}
+
+-- the type of the parts so far, which its crate keeps to itself
+abbrev pub Given : {A B : Type 0} → (A → B) → Type 0
+Given {A} {B} f = A
+
+abbrev pub PatternParts : Type 0
+PatternParts = Given parts_of
 
 abbrev pub variable_label : PatternVariable → Label
 variable_label v = v.label
@@ -81,7 +87,7 @@ module _ {X : Type 0} (h d : PlainPattern → List X) (H : PlainPatterns → Lis
       by (Some r) e =
           ap (λ o. H (patterns_on parts.before (dots_of o (parts.after ++ p ∷ [])))) e
           ∙ on-behind parts.before (dots r (patterns parts.after)) (dots r (patterns (parts.after ++ p ∷ []))) (h p)
-            (is-dots r (patterns (parts.after ++ p ∷ [])) ∙ ap (λ xs. d r ++ xs) (on-more parts.after p) ∙ sym (append_assoc (d r) (H (patterns parts.after)) (h p)) ∙ ap (λ xs. xs ++ h p) (sym (is-dots r (patterns parts.after))))
+          (is-dots r (patterns (parts.after ++ p ∷ [])) ∙ ap (λ xs. d r ++ xs) (on-more parts.after p) ∙ sym (append_assoc (d r) (H (patterns parts.after)) (h p)) ∙ ap (λ xs. xs ++ h p) (sym (is-dots r (patterns parts.after))))
           ∙ ap (λ o. H (patterns_on parts.before (dots_of o parts.after)) ++ h p) (sym e)
 
   pub part-dots : (parts : PatternParts) (p : PlainPattern) → parts.repeated ≡ None → parts.after ≡ [] → H (parts_of (record parts { repeated = Some p })) ≡ H (parts_of parts) ++ d p

@@ -229,7 +229,7 @@ module _ (own : LibName) (given : List Label) (go : Inside) (safe : Safe own giv
         let are = pattern-are own f level p (counted s) b.compiled u b.patterned b.binds next.0.numbered in
         let labels = map variable_label p.variables in
         let ds = map variable_depth p.variables in
-        let seen = starts-with own given vs level ls labels ds s u adds.0 adds.1 (bound-patterns f p t u p.variables are) h in
+        let seen = starts-with own given vs level ls labels ds s u adds.0 adds.1.0 (bound-patterns f p t u p.variables are) h in
         gave-after (λ x v. Later own u v × GoodFender own v.bindings (ds ++ vs) (labels ++ ls) u.names.number v.names.number x) (IsClause s) (fender go place level depth f c.fender u) _ (fender-given f (ds ++ vs) (labels ++ ls) c.fender u seen)
         (λ e v k.
         gave-after (Gives own given go safe place level depth (ds ++ vs) (labels ++ ls) v) (IsClause s) (go.form place level depth (stamp f c.output) v) (λ o. give (record { pattern = p.pattern; fender = e; output = o }))
@@ -310,7 +310,7 @@ module _ (own : LibName) (given : List Label) (go : Inside) (safe : Safe own giv
     unfolding form_at
     gives-form place depth t s h =
         gave-if (GivesGood own vs ls s) (nat_lt 600 depth) _ (after (settle go.earlier place level t s) (perform_settled go level depth)) (λ e. tt)
-        (λ e. gave-after (SettlesTo own given vs level ls s) (GivesGood own vs ls s) (settle go.earlier place level t s) (perform_settled go level depth)
+        (λ e. gave-after (SettlesTo own given go.earlier vs level ls s) (GivesGood own vs ls s) (settle go.earlier place level t s) (perform_settled go level depth)
         (settle-planned own given go.earlier vs level ls s.uses_left place t s h)
         (λ d u k. gave-less (GivesGood own vs ls u) (GivesGood own vs ls s) (perform_settled go level depth d u) (performs d.place depth d.form d.plan u (starts-later own given vs level ls s u h k.0) k.1)
         (λ c v j. good-wider own v.bindings vs ls u.names.number v.names.number s.names.number v.names.number c k.0.up (omega arith) j)))

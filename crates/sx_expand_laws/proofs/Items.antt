@@ -41,12 +41,12 @@ use Rattle.sx_expand.specs.Settle.{next_form, too_many, at_use, set_item_step, i
 use Rattle.sx_expand.specs.declared.settle.ItemStep.{ItemStep}
 use Rattle.sx_expand.specs.declared.settle.ItemStep.TheVariants as item_steps
 use Rattle.sx_expand.specs.declared.settle.SettledItem.{SettledItem}
-use Rattle.sx_expand_laws.specs.States.{Adds, Later, LaterBut}
+use Rattle.sx_expand_laws.specs.States.{Keeps, Adds, Later, LaterBut}
 use Rattle.sx_expand_laws.proofs.Acts.{Gave, gave-after, gave-less, gave-if}
-use Rattle.sx_expand_laws.proofs.BindingKeywords.{BindsKeyword, binds-keyword}
+use Rattle.sx_expand_laws.proofs.BindingKeywords.{BindsKeywords, binds-keyword}
 use Rattle.sx_expand_laws.proofs.Fresh.{Made, FreshLabels, label_name, fresh-one, fresh-append, fresh-wider}
 use Rattle.sx_expand_laws.proofs.Scope.{adds-then, adds-later}
-use Rattle.sx_expand_laws.proofs.Later.{but-self, but-then, but-later}
+use Rattle.sx_expand_laws.proofs.Later.{keeps-self, keeps-then, but-self, but-then, but-later}
 use Rattle.sx_expand_laws.proofs.Naming.{Binds, binds, next-made}
 use Rattle.sx_expand_laws.proofs.LineLabels.{kind_labels, HasValue}
 use Rattle.sx_expand_laws.proofs.Uses.{asks-later, next-later}
@@ -74,6 +74,7 @@ pub record Took (own : LibName) (top : Bool) (start : State) (d : Taken) (s : St
 pub record Takes (own : LibName) (f : FrameNo) (top : Bool) (start s : State) (d : Taken) (t : State) : Type 0 where
   pub later : LaterBut own f s t
   pub took : Took own top start d t
+  pub keeps : Keeps own s t
 
 map-append : {A B : Type 0} (g : A → B) (xs ys : List A) → map g (xs ++ ys) ≡ map g xs ++ map g ys
 map-append g [] ys = refl
@@ -259,6 +260,7 @@ module _ (own : LibName) (start : State) (at : BodyAt) where
     took-defined : (depth : ℕ) (d : Taken) (what : Waits) (x : Taken × Label) (u : State) → wait_kind what ≡ Some x.1 → Took own (is_top at.kind) start d s → Defines d x u → Takes own at.frame (is_top at.kind) start s (with_waiting at depth x.0 what) u
     took-defined depth d what x u kind k b = record {
       later = b.0.later;
+      keeps = b.0.keeps;
       took = subst (λ (y : Taken). Took own (is_top at.kind) start (with_waiting at depth y what) u) (sym b.1.1) (took-bound depth (record d { moved = b.1.0 }) what x.1 s u kind next b.0 (took-told d b.1.0 s k));
     }
 
@@ -274,23 +276,26 @@ module _ (own : LibName) (start : State) (at : BodyAt) where
 
     pub takes-item : (depth : ℕ) (d : Taken) (t : Tree) → Took own (is_top at.kind) start d s → Gave (Comes s) (item_plan at depth d t s)
     takes-item depth d t k = item-cases (λ e. Took own (is_top at.kind) start e s) (Comes s) at depth s (λ e id j. record { labels = j.labels; up = j.up; adds = j.adds; value = j.value })
-        (λ e x j. record { later = but-self own at.frame s next; took = took-wait depth e x s j })
+        (λ e x j. record { later = but-self own at.frame s next; took = took-wait depth e x s j; keeps = keeps-self own s })
         (λ e x y j. gave-after (TK s) (Comes s) (define_item at depth e x y s) (λ z. give (z, items.Nothing)) (takes-define depth e x y j) (λ z u l. l))
-        (λ e i j. record { later = but-self own at.frame s next; took = j }) d t k
+        (λ e i j. record { later = but-self own at.frame s next; took = j; keeps = keeps-self own s }) d t k
 
     -- the definition of a keyword
-    keyword-in-time : (done : Taken) (id : Tree) (x : BoundSpec) (t : State) → BindsKeyword own at.frame s x t → Gave (BindsKeyword own at.frame s) (after (keyword_in_time at done id t) (λ _. give x))
+    abbrev pub BindsOne : BoundSpec → State → Type 0
+    BindsOne x u = BindsKeywords own at.frame s (x ∷ []) u
+
+    keyword-in-time : (done : Taken) (id : Tree) (x : BoundSpec) (t : State) → BindsOne x t → Gave BindsOne (after (keyword_in_time at done id t) (λ _. give x))
     unfolding keyword_in_time
     keyword-in-time done id x t b = by (done.moved || any_changed true t (heads_like done id))
       where
-        by : (c : Bool) → Gave (BindsKeyword own at.frame s) (after (if c then fault_word kind.LateDefinition id id at.place t else Ok (tt, t)) (λ _. give x))
+        by : (c : Bool) → Gave BindsOne (after (if c then fault_word kind.LateDefinition id id at.place t else Ok (tt {0}, t)) (λ _. give x))
         by true = tt
         by false = b
 
-    pub defines-keyword : (done : Taken) (t : Tree) (b : BindingSpec) → Gave (BindsKeyword own at.frame s) (define_keyword at done t b s)
+    pub defines-keyword : (done : Taken) (t : Tree) (b : BindingSpec) → Gave BindsOne (define_keyword at done t b s)
     unfolding define_keyword
-    defines-keyword done t b = gave-if (BindsKeyword own at.frame s) (done.has_expression && not (is_mixed at.kind)) _ _ (λ e. tt)
-        (λ e. gave-after (BindsKeyword own at.frame s) (BindsKeyword own at.frame s) (bind_keyword at.frame at.place at.level b s) (λ x s'. after (keyword_in_time at done b.id s') (λ _. give x))
+    defines-keyword done t b = gave-if BindsOne (done.has_expression && not (is_mixed at.kind)) _ _ (λ e. tt)
+        (λ e. gave-after BindsOne BindsOne (bind_keyword at.frame at.place at.level b s) (λ x s'. after (keyword_in_time at done b.id s') (λ _. give x))
         (binds-keyword own at.frame at.place at.level b s next) (keyword-in-time done b.id))
 
 -- Forms of a body are settled: each use gives one for the same body.
@@ -305,12 +310,12 @@ module _ (own : LibName) (rs : List LibRecord) (start : State) where
   Steps at s p u = Takes own at.frame (is_top at.kind) start s p.0 u
 
   takes-moved : (at : BodyAt) (s t u : State) (d : Taken) → Takes own at.frame (is_top at.kind) start s d t → Later own t u → Takes own at.frame (is_top at.kind) start s d u
-  takes-moved at s t u d h k = record { later = but-then own at.frame s t u h.later (but-later own at.frame t u k); took = took-later own (is_top at.kind) start d t u k.up (adds-later own (is_top at.kind) t u k) h.took }
+  takes-moved at s t u d h k = record { later = but-then own at.frame s t u h.later (but-later own at.frame t u k); took = took-later own (is_top at.kind) start d t u k.up (adds-later own (is_top at.kind) t u k) h.took; keeps = keeps-then own s t u h.later.up k.up h.keeps k.keeps }
 
   module _ (depth : ℕ) where
     set-steps : (at : BodyAt) (d : Taken) (t : Tree) (l : Label) (b : Bool) (s u : State) → Takes own at.frame (is_top at.kind) start s d u → Gave (Steps {A = ItemStep} at s) (set_item_step at depth d t l b u)
     set-steps at d t l true s u h = h
-    set-steps at d t l false s u h = record { later = h.later; took = took-wait own start at depth d t u h.took }
+    set-steps at d t l false s u h = record { later = h.later; took = took-wait own start at depth d t u h.took; keeps = h.keeps }
 
     steps-of : (at : BodyAt) (t : Tree) (d : Taken) (i : Item) (s u : State) → Takes own at.frame (is_top at.kind) start s d u → Gave (Steps {A = ItemStep} at s) (item_step_of rs at depth t d i u)
     steps-of at t d items.Nothing s u h = h
@@ -352,4 +357,4 @@ module _ (own : LibName) (rs : List LibRecord) (start : State) where
             gave-after (λ x v. Later own u v) (Settles at s) (next_form rs left at.place t l (Some at.frame) u) (settle_item_to rs left (at_use at t) depth e) (next-later own rs left at.place t l (Some at.frame) u h.later.next)
             (λ x v j. let g = takes-moved at s u v e h j in
             gave-less (Settles (at_use at t) v) (Settles at s) (settle_item_to rs left (at_use at t) depth e x v) (next e x v j.next g.took)
-            (λ y w z. (record { later = but-then own at.frame s v w g.later z.0.later; took = z.0.took }, (z.1.0, z.1.1))))
+            (λ y w z. (record { later = but-then own at.frame s v w g.later z.0.later; took = z.0.took; keeps = keeps-then own s v w g.later.up z.0.later.up g.keeps z.0.keeps }, (z.1.0, z.1.1))))

@@ -1,5 +1,5 @@
 -- From states to later ones.
-use Rattle.std.proofs.Common.{◌≡◌, ◌≤◌, ◌<◌, Bool, true, false, List, [], ◌∷◌, ◌++◌, length, None, Some, append-nil, refl, sym, ◌∙◌, ap, subst, arith, inl, inr, if◌then◌else◌}
+use Rattle.std.proofs.Common.{◌≡◌, ◌≤◌, ◌<◌, ℕ, Bool, true, false, List, [], ◌∷◌, ◌++◌, length, Option, None, Some, append-nil, refl, sym, ◌∙◌, ap, subst, arith, inl, inr, if◌then◌else◌}
 use Rattle.std.specs.Prelude.{◌⊎◌, take}
 use Rattle.std.proofs.Math.Seq.{take-append_seam}
 use Rattle.sx_base.specs.Named.{Named}
@@ -9,24 +9,53 @@ use Rattle.sx_base.specs.declared.name.FrameNo.{FrameNo}
 use Rattle.sx_base.specs.declared.name.Label.{Label}
 use Rattle.sx_base.specs.declared.op.Op.{Op}
 use Rattle.sx_core.specs.Bindings.{bound_to}
+use Rattle.sx_core.specs.Core.{PlainCore}
 use Rattle.sx_core.specs.Labels.{same_label}
 use Rattle.sx_core.specs.declared.binding.Binding.{Binding}
 use Rattle.sx_core.specs.declared.binding.Binding.TheVariants as binding
 use Rattle.sx_core.specs.declared.binding.VarInfo.{VarInfo}
 use Rattle.sx_core_laws.specs.Templates.{Depths}
 use Rattle.sx_core_laws.specs.Words.{Each, Among}
+use Rattle.sx_stage.specs.Stage.{expression_in, keyword_at}
 use Rattle.sx_standing.specs.InScope.{cut}
 use Rattle.sx_standing.specs.State.{State}
-use Rattle.sx_expand_laws.specs.States.{IsOwn, IsForeign, Sound, IsOld, IsAdded, IsBound, IsTop, Grows, Adds, Later, LaterBut}
+use Rattle.sx_expand_laws.specs.States.{IsOwn, IsForeign, Sound, IsOld, IsAdded, IsBound, IsTop, IsKept, IsMacro, Keeps, Grows, Adds, Later, LaterBut}
 use Rattle.sx_expand_laws.proofs.Grows.{grows-same, grows-self, grows-then}
 use Rattle.sx_expand_laws.proofs.Scope.{adds-later}
 
 pub old-later : (own : LibName) (s t : State) (f : FrameNo) → s.names.number ≤ t.names.number → IsOld own s f → IsOld own t f
 old-later own s t f up h o = let k = h o in omega (arith, k, up)
 
+-- Keywords that are kept.
+
+module _ (own : LibName) where
+  -- where what is kept and what is bound are the same
+  pub keeps-same : (s t : State) → t.bindings ≡ s.bindings → t.keywords ≡ s.keywords → Keeps own s t
+  keeps-same s t b k = record {
+    kept = λ l lt h. (h.0, ap (λ ks. expression_in (keyword_at ks l)) k ∙ h.1);
+    keywords = λ l level e o h. inl (ap (λ bs. bound_to bs l) (sym b) ∙ h);
+  }
+
+  pub keeps-self : (s : State) → Keeps own s s
+  keeps-self s = keeps-same s s refl refl
+
+  pub keeps-then : (s t u : State) → s.names.number ≤ t.names.number → t.names.number ≤ u.names.number → Keeps own s t → Keeps own t u → Keeps own s u
+  keeps-then s t u up more h k = record {
+    kept = λ l lt x. k.kept l (omega (arith, lt, up)) (h.kept l lt x);
+    keywords = λ l level e o x. by l level e o (k.keywords l level e o x);
+  }
+    where
+      old : (l : Label) (level : ℕ) (e : Option PlainCore) → IsMacro s l level e ⊎ (IsKept t l × (l.0.number < t.names.number)) → IsMacro s l level e ⊎ (IsKept u l × (l.0.number < u.names.number))
+      old l level e (inl x) = inl x
+      old l level e (inr p) = let lt = p.1 in inr (k.kept l lt p.0, omega (arith, lt, more))
+
+      by : (l : Label) (level : ℕ) (e : Option PlainCore) → IsOwn own l.0 → IsMacro t l level e ⊎ (IsKept u l × (l.0.number < u.names.number)) → IsMacro s l level e ⊎ (IsKept u l × (l.0.number < u.names.number))
+      by l level e o (inl x) = old l level e (h.keywords l level e o x)
+      by l level e o (inr p) = inr p
+
 module _ (own : LibName) where
   pub later-self : (s : State) → s.names.library ≡ own → Later own s s
-  later-self s n = record { here = refl; next = n; up = omega arith; same = λ f o. refl; grows = grows-self own s; scope = refl; tops = λ l v o b. b }
+  later-self s n = record { here = refl; next = n; up = omega arith; same = λ f o. refl; grows = grows-self own s; scope = refl; tops = λ l v o b. b; keeps = keeps-self own s }
 
   pub later-then : (s t u : State) → Later own s t → Later own t u → Later own s u
   later-then s t u h k = record {
@@ -37,6 +66,7 @@ module _ (own : LibName) where
     grows = grows-then own s t u h.grows k.grows;
     scope = k.scope ∙ h.scope;
     tops = λ l v o b. h.tops l v o (k.tops l v o b);
+    keeps = keeps-then own s t u h.up k.up h.keeps k.keeps;
   }
 
   pub but-self : (g : FrameNo) (s : State) → s.names.library ≡ own → LaterBut own g s s
@@ -54,18 +84,20 @@ module _ (own : LibName) where
   pub but-later : (g : FrameNo) (s t : State) → Later own s t → LaterBut own g s t
   but-later g s t h = record { here = h.here; next = h.next; up = h.up; same = λ f o d. h.same f o; grows = h.grows }
 
-  -- where a new frame alone has more, and nothing came into scope
-  pub later-framed : (g : FrameNo) (s t u : State) → Later own s t → LaterBut own g t u → Adds own false [] [] t u → IsOwn own g.0 → s.names.number ≤ g.0.number → Later own s u
-  later-framed g s t u h k a of new = record {
-    here = k.here ∙ h.here;
-    next = k.next;
-    up = omega (arith, h.up, k.up);
+  -- where a new frame alone has more, nothing came into scope, and keywords that came are kept in the end
+  pub later-framed : (g : FrameNo) (s t u v : State) → Later own s t → LaterBut own g t u → Adds own false [] [] t u → IsOwn own g.0 → s.names.number ≤ g.0.number → Later own u v → Keeps own t v → Later own s v
+  later-framed g s t u v h k a of new j keeps = record {
+    here = j.here ∙ k.here ∙ h.here;
+    next = j.next;
+    up = omega (arith, h.up, k.up, j.up);
     same = λ f o.
-        k.same f (old-later own s t f h.up o) (λ e. let low = o (subst (λ (x : FrameNo). IsOwn own x.0) (sym e) of) in let is = ap (λ (x : FrameNo). x.0.number) e in omega (arith, low, is, new))
+        j.same f (old-later own t u f k.up (old-later own s t f h.up o))
+        ∙ k.same f (old-later own s t f h.up o) (λ e. let low = o (subst (λ (x : FrameNo). IsOwn own x.0) (sym e) of) in let is = ap (λ (x : FrameNo). x.0.number) e in omega (arith, low, is, new))
         ∙ h.same f o;
-    grows = grows-then own s t u h.grows k.grows;
-    scope = a.scope ∙ ap (λ ms. t.scope ++ ms) (nothing a.more a.new) ∙ append-nil t.scope ∙ h.scope;
-    tops = λ l w o b. h.tops l w o (old l w (a.tops l w o b));
+    grows = grows-then own s t v h.grows (grows-then own t u v k.grows j.grows);
+    scope = j.scope ∙ a.scope ∙ ap (λ ms. t.scope ++ ms) (nothing a.more a.new) ∙ append-nil t.scope ∙ h.scope;
+    tops = λ l w o b. h.tops l w o (old l w (a.tops l w o (j.tops l w o b)));
+    keeps = keeps-then own s t v h.up (omega (arith, k.up, j.up)) h.keeps keeps;
   }
     where
       nothing : (ms : List Label) → Each (Among []) ms → ms ≡ []
@@ -77,9 +109,9 @@ module _ (own : LibName) where
       old l w (inr p) = elim p.1.1 [ ]
 
   -- Where a new frame alone has more, and local variables came into scope: these are out of scope when all that came goes.
-  pub later-within : (g : FrameNo) (ls : List Label) (ds : Depths) (s t u v : State) → Later own s t → LaterBut own g t u → Adds own false ls ds t u → IsOwn own g.0 → s.names.number ≤ g.0.number → Later own u v
+  pub later-within : (g : FrameNo) (ls : List Label) (ds : Depths) (s t u v : State) → Later own s t → LaterBut own g t u → Adds own false ls ds t u → Keeps own t u → IsOwn own g.0 → s.names.number ≤ g.0.number → Later own u v
       → Later own s (cut (length s.scope) v)
-  later-within g ls ds s t u v h k a of new j = record {
+  later-within g ls ds s t u v h k a c of new j = record {
     here = j.here ∙ k.here ∙ h.here;
     next = j.next;
     up = omega (arith, h.up, k.up, j.up);
@@ -90,6 +122,8 @@ module _ (own : LibName) where
     grows = grows-then own s u (cut (length s.scope) v) (grows-then own s t u h.grows k.grows) (grows-then own u v (cut (length s.scope) v) j.grows (grows-same own v (cut (length s.scope) v) refl refl refl (omega arith)));
     scope = ap (take (length s.scope)) (j.scope ∙ a.scope ∙ ap (λ ms. ms ++ a.more) h.scope) ∙ take-append_seam s.scope a.more;
     tops = λ l w o b. h.tops l w o (old l w (a.tops l w o (j.tops l w o b)));
+    keeps = keeps-then own s v (cut (length s.scope) v) (omega (arith, h.up, k.up, j.up)) (omega arith)
+        (keeps-then own s t v h.up (omega (arith, k.up, j.up)) h.keeps (keeps-then own t u v k.up j.up c j.keeps)) (keeps-same own v (cut (length s.scope) v) refl refl);
   }
     where
       old : (l : Label) (w : VarInfo) → IsTop t l w ⊎ ((false ≡ true) × ((w.level ≡ 0) × Among ls l)) → IsTop t l w
@@ -151,3 +185,14 @@ bound-last (p ∷ bs) l b = by (same_label l p.0) (bound-last bs l b)
     by : (t : Bool) → (x : Binding) × (bound_to (bs ++ (l, b) ∷ []) l ≡ Some x) → (x : Binding) × ((if t then Some p.1 else bound_to (bs ++ (l, b) ∷ []) l) ≡ Some x)
     by true later = (p.1, refl)
     by false later = later
+
+-- where one label more is bound, to no keyword
+pub keeps-more : (own : LibName) (s t : State) (l : Label) (b : Binding) → t.bindings ≡ s.bindings ++ (l, b) ∷ [] → ((level : ℕ) (e : Option PlainCore) → b ≡ binding.Macro level e → ⊥) → t.keywords ≡ s.keywords → Keeps own s t
+keeps-more own s t l b bs other k = record {
+  kept = λ m lt h. (h.0, ap (λ ks. expression_in (keyword_at ks m)) k ∙ h.1);
+  keywords = λ m level e o h. inl (by m level e (bound-more s.bindings l m b (binding.Macro level e) (ap (λ xs. bound_to xs m) (sym bs) ∙ h)));
+}
+  where
+    by : (m : Label) (level : ℕ) (e : Option PlainCore) → IsMacro s m level e ⊎ ((m ≡ l) × (b ≡ binding.Macro level e)) → IsMacro s m level e
+    by m level e (inl x) = x
+    by m level e (inr p) = absurd (other level e p.1)

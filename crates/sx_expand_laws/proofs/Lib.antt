@@ -4,6 +4,7 @@ pub mod Grows
 pub mod Shown
 pub mod Scope
 pub mod Later
+pub mod Kept
 pub mod Naming
 pub mod Compiled
 pub mod Moved
@@ -33,3 +34,13 @@ pub mod Records
 pub mod Serving
 pub mod AllServe
 pub mod Named
+pub mod Spent
+pub mod SpentOnStage
+pub mod SpentBinding
+pub mod Spares
+pub mod SparesBodies
+pub mod SparesItems
+pub mod SparesForms
+pub mod SparesAll
+pub mod GoodKeywords
+pub mod Replaced

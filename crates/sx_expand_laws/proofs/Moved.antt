@@ -1,5 +1,5 @@
 -- From states to later ones, action by action.
-use Rattle.std.proofs.Common.{◌≡◌, Bool, false, List, [], length, Result, arith}
+use Rattle.std.proofs.Common.{◌≡◌, false, List, [], length, Result, arith}
 use Rattle.sx_base.specs.Act.{after, each}
 use Rattle.sx_base.specs.declared.fault.Fault.{Fault}
 use Rattle.sx_base.specs.declared.library.LibName.{LibName}
@@ -7,7 +7,7 @@ use Rattle.sx_base.specs.declared.name.Label.{Label}
 use Rattle.sx_core_laws.specs.Templates.{Depths}
 use Rattle.sx_standing.specs.InScope.{cut}
 use Rattle.sx_standing.specs.State.{State, Does}
-use Rattle.sx_expand_laws.specs.States.{Adds, Later, LaterBut}
+use Rattle.sx_expand_laws.specs.States.{Keeps, Adds, Later, LaterBut}
 use Rattle.sx_expand_laws.proofs.Acts.{Gave, gave-after, gave-less, gave-each}
 use Rattle.sx_expand_laws.proofs.Later.{later-self, later-then, later-within}
 use Rattle.sx_expand_laws.proofs.Naming.{as_frame, counted, counted-later}
@@ -36,9 +36,9 @@ module _ (own : LibName) where
 
   -- labels that come into scope in a new frame, and then what is done there
   pub framed : {A B : Type 0} (labels : A → List Label) (depths : A → Depths) (s : State) (r : Result (A × State) Fault) (k : A → Does B) → Names s
-      → Gave (λ x u. LaterBut own (as_frame s.names) (counted s) u × Adds own false (labels x) (depths x) (counted s) u) r → ((x : A) (u : State) → Names u → Gave (Moved u) (k x u)) → Gave (Leaving s) (after r k)
+      → Gave (λ x u. LaterBut own (as_frame s.names) (counted s) u × (Adds own false (labels x) (depths x) (counted s) u × Keeps own (counted s) u)) r → ((x : A) (u : State) → Names u → Gave (Moved u) (k x u)) → Gave (Leaving s) (after r k)
   framed {A} labels depths s r k n h next = gave-after P (Leaving s) r k h
-      (λ x u e. gave-less (Moved u) (Leaving s) (k x u) (next x u e.0.next) (λ b v f. later-within own (as_frame s.names) (labels x) (depths x) s (counted s) u v (counted-later own s n) e.0 e.1 n (omega arith) f))
+      (λ x u e. gave-less (Moved u) (Leaving s) (k x u) (next x u e.0.next) (λ b v f. later-within own (as_frame s.names) (labels x) (depths x) s (counted s) u v (counted-later own s n) e.0 e.1.0 e.1.1 n (omega arith) f))
     where
       P : A → State → Type 0
-      P x u = LaterBut own (as_frame s.names) (counted s) u × Adds own false (labels x) (depths x) (counted s) u
+      P x u = LaterBut own (as_frame s.names) (counted s) u × (Adds own false (labels x) (depths x) (counted s) u × Keeps own (counted s) u)

@@ -22,12 +22,12 @@ use Rattle.sx_shapes.specs.Lists.{is_leaf}
 use Rattle.sx_standing.specs.Binders.{bind_variable, bind_as, row_put, put_variable, variable_for, index_at, next_index}
 use Rattle.sx_standing.specs.InScope.{with_local}
 use Rattle.sx_standing.specs.State.{State, fresh, fault_form}
-use Rattle.sx_expand_laws.specs.States.{IsOwn, IsAdded, IsTop, IsPattern, IsUnbound, IsNumbered, IndicesApart, Grows, Adds, Later, LaterBut}
+use Rattle.sx_expand_laws.specs.States.{IsOwn, IsAdded, IsTop, IsPattern, IsUnbound, IsNumbered, IndicesApart, Grows, Keeps, Adds, Later, LaterBut}
 use Rattle.sx_expand_laws.proofs.Acts.{Gave, gave-if}
 use Rattle.sx_expand_laws.proofs.Fresh.{Made, each-append, each-at, each-map, among-parts}
 use Rattle.sx_expand_laws.proofs.Grows.{grows-same, grows-then, row-kept, row-new}
 use Rattle.sx_expand_laws.proofs.Scope.{binder-behind}
-use Rattle.sx_expand_laws.proofs.Later.{bound-more, bound-kept, bound-last}
+use Rattle.sx_expand_laws.proofs.Later.{bound-more, bound-kept, bound-last, keeps-same, keeps-more}
 
 -- the state behind a new name
 abbrev pub counted : State → State
@@ -59,7 +59,7 @@ index-up level n = by (nat_eq level 0)
 
 module _ (own : LibName) where
   pub counted-later : (s : State) → s.names.library ≡ own → Later own s (counted s)
-  counted-later s n = record { here = refl; next = n; up = omega arith; same = λ f o. refl; grows = grows-same own s (counted s) refl refl refl (omega arith); scope = refl; tops = λ l v o b. b }
+  counted-later s n = record { here = refl; next = n; up = omega arith; same = λ f o. refl; grows = grows-same own s (counted s) refl refl refl (omega arith); scope = refl; tops = λ l v o b. b; keeps = keeps-same own s (counted s) refl refl }
 
   -- a new name is one of the library
   pub next-made : (s : State) → s.names.library ≡ own → Made own s.names.number (s.names.number + 1) s.names
@@ -200,6 +200,7 @@ module _ (own : LibName) where
     pub label : l ≡ as_label s.names
     pub up : t.names.number ≡ s.names.number + 1
     pub adds : Adds own top (l ∷ []) [] s t
+    pub keeps : Keeps own s t
 
   variable-binds : (s : State) (f : FrameNo) (id : Tree) (v : VarInfo) → v.index ≡ index_at v.level s.index → (v.top ≡ true → v.level ≡ 0) → s.names.library ≡ own
       → Binds f v.top s (as_label s.names) (with_variable f id (as_label s.names) v (counted s))
@@ -215,6 +216,7 @@ module _ (own : LibName) where
         label = refl;
         up = refl;
         adds = variable-adds s f id v low n;
+        keeps = keeps-more own s (with_variable f id (as_label s.names) v (counted s)) (as_label s.names) (binding.Variable v) refl (λ level e x. absurd (cc)) refl;
       }
 
   pub binds : (f : FrameNo) (place : Span) (level : ℕ) (top : Bool) (id : Tree) (s : State) → (top ≡ true → level ≡ 0) → s.names.library ≡ own → Gave (Binds f top s) (bind_variable f place level top id s)

@@ -31,7 +31,7 @@ use Rattle.sx_heads.specs.declared.plan.Plan.TheVariants as plans
 use Rattle.sx_expand_laws.specs.States.{Later}
 use Rattle.sx_expand_laws.proofs.Acts.{Gave, gave-after, gave-less, gave-if}
 use Rattle.sx_expand_laws.proofs.Grows.{grows-same}
-use Rattle.sx_expand_laws.proofs.Later.{later-self}
+use Rattle.sx_expand_laws.proofs.Later.{keeps-same, later-self}
 use Rattle.sx_expand_laws.proofs.References.{Refers, AssignsBy, marked, reference-is, assign-is}
 
 -- a plan of forms alone, or a use
@@ -158,7 +158,7 @@ module _ (own : LibName) (place : Span) (level : ℕ) (s : State) (next : s.name
   Moves a t = Later own s t
 
   marked-later : (l : Label) → Later own s (marked l s)
-  marked-later l = record { here = refl; next = next; up = omega arith; same = λ f o. refl; grows = grows-same own s (marked l s) refl refl refl (omega arith); scope = refl; tops = λ m v o b. b }
+  marked-later l = record { here = refl; next = next; up = omega arith; same = λ f o. refl; grows = grows-same own s (marked l s) refl refl refl (omega arith); scope = refl; tops = λ m v o b. b; keeps = keeps-same own s (marked l s) refl refl }
 
   assigned-later : (id value : Tree) (st : Standing) (p : Plan) (u : State) → AssignsBy place level s id value st p u → Later own s u
   assigned-later id value standing.Nothing p u k = elim k [ ]

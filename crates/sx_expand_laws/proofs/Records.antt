@@ -37,12 +37,12 @@ use Rattle.sx_expand_laws.specs.Good.{RecordsAreGood}
 use Rattle.sx_expand_laws.specs.Indices.{bound_index}
 use Rattle.sx_expand_laws.proofs.Indices.{indices-once}
 use Rattle.sx_expand_laws.specs.Ready.{IsReady}
-use Rattle.sx_expand_laws.specs.States.{IsOwn, IsForeign, IsTop, Sound, Grows, Adds, Reach}
+use Rattle.sx_expand_laws.specs.States.{IsOwn, IsForeign, IsTop, Sound, Keeps, Grows, Adds, Reach}
 use Rattle.sx_expand_laws.proofs.Acts.{Gave, gave-after, gave-less}
 use Rattle.sx_expand_laws.proofs.Fresh.{Made, FreshLabels, each-map, among-parts, among-first, among-second}
 use Rattle.sx_expand_laws.proofs.Grows.{grows-same, grows-then}
 use Rattle.sx_expand_laws.proofs.Shown.{IsShown, shown-later}
-use Rattle.sx_expand_laws.proofs.Later.{sound-grown}
+use Rattle.sx_expand_laws.proofs.Later.{keeps-same, keeps-then, sound-grown}
 use Rattle.sx_expand_laws.proofs.Scope.{adds-then, adds-same}
 use Rattle.sx_expand_laws.proofs.Top.{GoodRun, SameScope, AreShown, kinds-defined, lines-closed, lines-well-made, lines-codes, run-binders, same-exports}
 use Rattle.sx_expand_laws.proofs.Good.{InTurn}
@@ -67,6 +67,7 @@ pub record Runs (own : LibName) (given : List Label) (start : State) (r : LibRec
   pub run : GoodRun own ended.bindings (given ++ defined r) first middle last r.run
   pub next : ended.names.library ≡ own
   pub grows : Grows own start ended
+  pub keeps : Keeps own start ended
   pub bindings : r.bindings ≡ own_bindings ended
   pub frames : r.frames ≡ rows_in r.name ended.frames
   pub exports : AreShown ended.frames r.exports
@@ -83,6 +84,7 @@ module _ (own : LibName) (given : List Label) (go : Inside) (safe : Safe own giv
     pub next : s.names.library ≡ own
     pub took : Took own Top start d s
     pub grows : Grows own start s
+    pub keeps : Keeps own start s
 
   -- the exports leave what was taken
   took-same : (d : Taken) (s t : State) → SameScope s t → Done d s → Done d t
@@ -96,6 +98,7 @@ module _ (own : LibName) (given : List Label) (go : Inside) (safe : Safe own giv
       value = k.took.value;
     };
     grows = grows-then own start s t k.grows grows;
+    keeps = keeps-then own start s t k.took.up (let e = ap (λ (n : Named). n.number) h.names in omega (arith, e)) k.keeps (keeps-same own s t h.bindings h.keywords);
   }
     where
       grows : Grows own s t
@@ -154,6 +157,7 @@ module _ (own : LibName) (given : List Label) (go : Inside) (safe : Safe own giv
         ended = v;
         next = k.later.next;
         grows = grows-then own start t v h.grows k.later.grows;
+        keeps = keeps-then own start t v took.up k.later.up h.keeps k.later.keeps;
         bindings = refl;
         frames = refl;
         exports = each-map (λ (e : List ℕ × Label). IsShown t.frames e.1) (λ (e : List ℕ × Label). IsShown v.frames e.1) es shown (λ e j. shown-later own t v e.1 k.later.grows j);
@@ -172,7 +176,7 @@ module _ (own : LibName) (given : List Label) (go : Inside) (safe : Safe own giv
       gave-after Done (λ r v. Runs own given start r) (splice go (body_at at start.library) 0 begun (map (stamp at.frame) forms) start) (finished go at es)
       (gave-less (Takes own at.frame Top start start) Done (splice go (body_at at start.library) 0 begun (map (stamp at.frame) forms) start)
       (first-takes own go safe.moves (body_at at start.library) 0 (map (stamp at.frame) forms) start sound.next (λ e. refl))
-      (λ d t k. record { here = k.later.here; next = k.later.next; took = k.took; grows = k.later.grows }))
+      (λ d t k. record { here = k.later.here; next = k.later.next; took = k.took; grows = k.later.grows; keeps = k.keeps }))
       (λ d t k. gives-finished at es d t k)
 
 in-record : (P : LibRecord → Type 0) (x : Result (LibRecord × State) Fault) (r : LibRecord) → Gave (λ y v. P y) x → record_in x ≡ Ok r → P r

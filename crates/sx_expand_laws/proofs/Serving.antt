@@ -1,5 +1,5 @@
 -- Records that serve those behind them.
-use Rattle.std.proofs.Common.{◌≡◌, ℕ, zero, suc, Bool, true, false, List, [], ◌∷◌, ◌++◌, map, Option, None, Some, refl, sym, ◌∙◌, ap, subst, inl, inr, if◌then◌else◌}
+use Rattle.std.proofs.Common.{◌≡◌, ℕ, zero, suc, Bool, true, false, List, [], ◌∷◌, ◌++◌, map, Option, None, Some, ◌<◌, refl, sym, ◌∙◌, subst, inl, inr, if◌then◌else◌}
 use Rattle.std.specs.Prelude.{◌⊎◌}
 use Rattle.std.specs.List.{flat_map}
 use Rattle.std.proofs.lemmas.Grind.{flat_map-append}
@@ -22,18 +22,17 @@ use Rattle.sx_core_laws.specs.Follows.{IsOwn, IsRecorded, IsKnown, Follows, name
 use Rattle.sx_core_laws.specs.Following.{AllFollow}
 use Rattle.sx_core.specs.Core.{PlainCore}
 use Rattle.sx_eval.specs.Codes.{Codes}
-use Rattle.sx_stage.specs.Stage.{expression_of}
 use Rattle.sx_standing.specs.Own.{completed, row_at, own_label, own_row, own_below, own_bindings}
 use Rattle.sx_standing.specs.Start.{started}
-use Rattle.sx_standing.specs.State.{State, stage_of}
+use Rattle.sx_standing.specs.State.{State}
 use Rattle.sx_expand_laws.specs.Ready.{IsReady}
 use Rattle.sx_expand_laws.specs.Serves.{IsThere, IsLabelThere, Serves, AllServe}
-use Rattle.sx_expand_laws.specs.Serving.{FollowersServe}
-use Rattle.sx_expand_laws.specs.States.{IsAdded}
+use Rattle.sx_expand_laws.specs.Serving.{FollowersServe, RecordsServe}
+use Rattle.sx_expand_laws.specs.States.{IsAdded, IsKept, IsMacro}
 use Rattle.sx_expand_laws.proofs.Fresh.{each-at, each-of, each-map, each-append, among-parts, among-first, among-second}
 use Rattle.sx_expand_laws.proofs.Shown.{IsShown, row-shown}
 use Rattle.sx_expand_laws.proofs.Started.{names-append, started-foreign, started-there}
-use Rattle.sx_expand_laws.proofs.Records.{Runs}
+use Rattle.sx_expand_laws.proofs.Records.{Runs, record-runs}
 
 -- Records that follow one another.
 
@@ -107,13 +106,9 @@ module _ (v : State) (P : Label × Binding → Type 0) (holds : (n : ℕ) (b : B
   unfolding own_bindings
   bindings-hold = below-holds v.names.number
 
--- each keyword of the library has its expression
-abbrev pub KeepsKeywords : State → Type 0
-KeepsKeywords v = (n level : ℕ) → bound_to v.bindings (own_label v n) ≡ Some (binding.Macro level None) → (c : PlainCore) × (expression_of (own_label v n) (stage_of v) ≡ Some c)
+-- The record that expansion gives.
 
--- The record that expansion gives, where its keywords have their expressions.
-
-module _ (own : LibName) (records : List LibRecord) (imports : List (List ℕ × Label)) (codes : Codes) (r : LibRecord) (ready : IsReady own records) (runs : Runs own (flat_map defined records) (started own records imports codes) r) (kept : KeepsKeywords runs.ended) where
+module _ (own : LibName) (records : List LibRecord) (imports : List (List ℕ × Label)) (codes : Codes) (r : LibRecord) (ready : IsReady own records) (runs : Runs own (flat_map defined records) (started own records imports codes) r) where
   abbrev l : ℕ → Label
   l n = own_label runs.ended n
 
@@ -125,10 +120,18 @@ module _ (own : LibName) (records : List LibRecord) (imports : List (List ℕ ×
       by (inl k) = absurd (started-foreign own records imports codes ready (l n) b k runs.next)
       by (inr k) = k.1
 
+  -- each keyword of the library has its expression
+  pub keyword-kept : (n level : ℕ) (e : Option PlainCore) → IsMacro runs.ended (l n) level e → IsKept runs.ended (l n)
+  keyword-kept n level e k = by (runs.keeps.keywords (l n) level e runs.next k)
+    where
+      by : IsMacro (started own records imports codes) (l n) level e ⊎ (IsKept runs.ended (l n) × ((l n).0.number < runs.ended.names.number)) → IsKept runs.ended (l n)
+      by (inl i) = absurd (started-foreign own records imports codes ready (l n) (binding.Macro level e) i runs.next)
+      by (inr p) = p.0
+
   recorded : (n : ℕ) (b : Binding) → bound_to runs.ended.bindings (l n) ≡ Some b → IsRecorded (l n, completed runs.ended (l n) b)
   recorded n (binding.Variable v) e = tt
   recorded n (binding.PatternVariable level depth) e = tt
-  recorded n (binding.Macro level None) e = let k = kept n level e in subst (λ (o : Option PlainCore). IsRecorded (l n, binding.Macro level o)) (sym k.1) tt
+  recorded n (binding.Macro level None) e = let k = keyword-kept n level None e in subst (λ (o : Option PlainCore). IsRecorded (l n, binding.Macro level o)) (sym k.1) tt
   recorded n (binding.Macro level (Some c)) e = elim (own-added n (binding.Macro level (Some c)) e) [ ]
   recorded n (binding.Core f) e = elim (own-added n (binding.Core f) e) [ ]
   recorded n (binding.Primitive o) e = elim (own-added n (binding.Primitive o) e) [ ]
@@ -179,3 +182,6 @@ module _ (own : LibName) (records : List LibRecord) (imports : List (List ℕ ×
       exports = each-mapped (IsLabelThere records r) (λ (e : List ℕ × Label). e.1) r.exports
           (each-map (λ (e : List ℕ × Label). IsShown runs.ended.frames e.1) (λ (e : List ℕ × Label). IsLabelThere records r e.1) r.exports runs.exports (λ e k. shown-there e.1 k));
     }
+
+pub records-serve : RecordsServe
+records-serve own path records imports version place exports forms codes r h there e = record-serves own records imports codes r h (record-runs own path records imports version place exports forms codes r h e) there

@@ -1,5 +1,5 @@
 -- How states change while forms are settled.
-use Rattle.std.proofs.Common.{◌≡◌, ℕ, zero, suc, Bool, true, false, List, [], ◌∷◌, Option, None, Some, refl, sym, subst, arith}
+use Rattle.std.proofs.Common.{ℕ, zero, suc, Bool, true, false, List, None}
 use Rattle.sx_base.specs.Act.{after}
 use Rattle.sx_base.specs.declared.library.LibName.{LibName}
 use Rattle.sx_base.specs.declared.name.Label.{Label}
@@ -15,7 +15,6 @@ use Rattle.sx_heads.specs.declared.plan.Plan.TheVariants as plans
 use Rattle.sx_expand.specs.Settle.{next_form, too_many, set_step, step_of, step, settled_by, settle_to}
 use Rattle.sx_expand.specs.declared.settle.Step.{Step}
 use Rattle.sx_expand.specs.declared.settle.Step.TheVariants as steps
-use Rattle.sx_expand_laws.specs.States.{Later}
 use Rattle.sx_expand_laws.proofs.Acts.{Gave}
 use Rattle.sx_expand_laws.proofs.Later.{later-self}
 use Rattle.sx_expand_laws.proofs.Moved.{Names, Moved, moved-after}

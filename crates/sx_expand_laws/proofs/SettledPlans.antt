@@ -1,5 +1,5 @@
 -- What is settled of a form is planned under what it may refer to.
-use Rattle.std.proofs.Common.{◌≡◌, ℕ, zero, suc, Bool, true, false, List, [], ◌∷◌, Option, None, Some, refl}
+use Rattle.std.proofs.Common.{ℕ, zero, suc, Bool, true, false, List, None}
 use Rattle.sx_base.specs.Act.{after}
 use Rattle.sx_base.specs.declared.library.LibName.{LibName}
 use Rattle.sx_base.specs.declared.name.Label.{Label}
@@ -20,7 +20,7 @@ use Rattle.sx_expand.specs.declared.settle.Step.TheVariants as steps
 use Rattle.sx_expand_laws.specs.States.{Later}
 use Rattle.sx_expand_laws.proofs.Acts.{Gave, gave-after, gave-less, gave-both}
 use Rattle.sx_expand_laws.proofs.Expand.{Starts, starts-later}
-use Rattle.sx_expand_laws.proofs.Later.{later-self, later-then}
+use Rattle.sx_expand_laws.proofs.Later.{later-then}
 use Rattle.sx_expand_laws.proofs.Meanings.{Planned, planned-of}
 use Rattle.sx_expand_laws.proofs.Plans.{plan-later}
 use Rattle.sx_expand_laws.proofs.Uses.{asks-later, next-later}

@@ -1,21 +1,17 @@
 -- What the template of a form is: its pattern variables are those that are bound, with their depths, and each ellipsis has a variable of
 -- depth before it.
 use Rattle.std.proofs.Common.{◌≡◌, ℕ, zero, suc, ◌+◌, ◌-◌, ◌≤◌, ◌<◌, Bool, true, false, List, [], ◌∷◌, ◌++◌, length, Option, None, Some, Result, Ok, Err, refl, sym, ◌∙◌, ap, subst, arith, inl, inr, slice_get, nat_lt, if◌then◌else◌}
-use Rattle.std.specs.Prelude.{◌⊎◌, ◌||◌, max, nat_eq}
+use Rattle.std.specs.Prelude.{◌⊎◌, max, nat_eq}
 use Rattle.std.specs.Cmp.{unsigned_Decides}
 use Rattle.std.proofs.lemmas.Bool.Decides.{nat_tests}
 use Rattle.sx_base.specs.Gives.{◌>>=◌}
-use Rattle.sx_base.specs.declared.fault.Bare.{Bare}
 use Rattle.sx_base.specs.declared.fault.Fault.{Fault}
 use Rattle.sx_base.specs.declared.name.Label.{Label}
 use Rattle.sx_base.specs.declared.span.Span.{Span}
-use Rattle.sx_tree.specs.Measures.{within}
 use Rattle.sx_tree.specs.Tree as tree
-use Rattle.sx_tree.specs.Tree.{Tree, list_of, vector_of}
-use Rattle.sx_frames.specs.Scope.{Scope}
+use Rattle.sx_tree.specs.Tree.{Tree}
 use Rattle.sx_scope.specs.Stands.{stands}
 use Rattle.sx_core.specs.Bindings.{bound_to}
-use Rattle.sx_core.specs.Labels.{has_label}
 use Rattle.sx_core.specs.Template.{PlainTemplate, variable, constant, list, vector, PlainItems, none, more}
 use Rattle.sx_core.specs.declared.binding.Binding.{Binding}
 use Rattle.sx_core.specs.declared.binding.Binding.TheVariants as binding
@@ -24,13 +20,56 @@ use Rattle.sx_core_laws.specs.Templates.{Depths, HasDepth, ItemHasDepth, Suits, 
 use Rattle.sx_core_laws.specs.Words.{Each, Among}
 use Rattle.sx_shapes.specs.Lists.{is_nil, tail_of}
 use Rattle.sx_standing.specs.Patterns.{has_variables, has_item_variables}
-use Rattle.sx_template.specs.Compile.{Context, variable_made, bound_made, label_made, is_special, leaf_made, Element, dots_behind, reach, with_ellipses, fitted, item_made, Walked, step, walked, constant_of, template_of, items_of, reaches, all_fixed, any_changed, trees, rebuilt, placed, fixed_list, list_joined, fixed_vector, vector_joined, escape_of, unescaped, list_parts, list_made, vector_made, template, elements_made, tail_made, compiled}
+use Rattle.sx_template.specs.Compile.{Context, variable_made, bound_made, label_made, is_special, leaf_made, Element, dots_behind, reach, with_ellipses, fitted, item_made, Walked, step, walked, constant_of, template_of, items_of, reaches, is_fixed, rebuilt, placed, fixed_list, list_joined, fixed_vector, vector_joined, escape_of, unescaped, list_parts, list_made, vector_made, template, elements_made, tail_made, compiled}
 use Rattle.sx_pattern.specs.Keywords.{is_ellipsis}
-use Rattle.sx_template.specs.declared.compile.Made.{Made}
-use Rattle.sx_template.specs.declared.compile.Made.TheVariants.{Fixed, Varied}
-use Rattle.sx_template.specs.declared.compile.MadeItem.{MadeItem}
+use Rattle.sx_expand_laws.proofs.Compiled.{Given}
 use Rattle.sx_expand_laws.proofs.Fresh.{each-append}
 use Rattle.sx_expand_laws.proofs.Scope.{label-there}
+
+-- The types of what is made of a form and of an item, which their crate keeps to itself. Of the first only what is said of it is
+-- known: whether it is fixed, its template, and how far it reaches.
+
+abbrev Member : {A B : Type 0} → (List A → B) → Type 0
+Member {A} {B} f = A
+
+abbrev Made : Type 0
+Made = Given reach
+
+abbrev MadeItem : Type 0
+MadeItem = Member items_of
+
+abbrev is_constant : PlainTemplate → Bool
+is_constant (variable l d) = false
+is_constant (constant t) = true
+is_constant (list is t) = false
+is_constant (vector is) = false
+
+fixed-constant : (m : Made) → is_fixed m ≡ true → is_constant (template_of m) ≡ true
+fixed-constant m h = grind (arith, template_of, constant_of, is_fixed, is_constant)
+
+fixed-reach : (m : Made) → is_fixed m ≡ true → reach m ≡ 0
+fixed-reach m h = grind (arith, is_fixed, reach)
+
+unescaped-fixed : (m : Made) → is_fixed (unescaped m) ≡ is_fixed m
+unescaped-fixed m = grind (arith, is_fixed, unescaped)
+
+unescaped-template : (m : Made) → is_fixed m ≡ false → template_of (unescaped m) ≡ template_of m
+unescaped-template m h = grind (arith, template_of, unescaped, is_fixed)
+
+unescaped-reach : (m : Made) → reach (unescaped m) ≡ reach m
+unescaped-reach m = grind (arith, reach, unescaped)
+
+list-template : (place : Span) (t : Tree) (is : List MadeItem) (m y : Made) → list_joined place t is m ≡ Ok y → is_fixed y ≡ false → template_of y ≡ list (items_of is) (template_of m)
+list-template place t is m y e h = grind (arith, list_joined, fixed_list, rebuilt, placed, ◌>>=◌, template_of, constant_of, is_fixed)
+
+list-reach : (place : Span) (t : Tree) (is : List MadeItem) (m y : Made) → list_joined place t is m ≡ Ok y → is_fixed y ≡ false → reach y ≡ max (reaches is) (reach m)
+list-reach place t is m y e h = grind (arith, list_joined, fixed_list, rebuilt, placed, ◌>>=◌, reach, is_fixed)
+
+vector-template : (place : Span) (t : Tree) (is : List MadeItem) (y : Made) → vector_joined place t is ≡ Ok y → is_fixed y ≡ false → template_of y ≡ vector (items_of is)
+vector-template place t is y e h = grind (arith, vector_joined, fixed_vector, rebuilt, placed, ◌>>=◌, template_of, is_fixed)
+
+vector-reach : (place : Span) (t : Tree) (is : List MadeItem) (y : Made) → vector_joined place t is ≡ Ok y → is_fixed y ≡ false → reach y ≡ reaches is
+vector-reach place t is y e h = grind (arith, vector_joined, fixed_vector, rebuilt, placed, ◌>>=◌, reach, is_fixed)
 
 -- where there is a value, this holds of it
 abbrev pub IfGood : {A : Type 0} → (A → Type 0) → Result A Fault → Type 0
@@ -44,6 +83,11 @@ good-then P Q (Err e) k h next = tt
 good-if : {A : Type 0} (P : A → Type 0) (b : Bool) (r q : Result A Fault) → (b ≡ true → IfGood P r) → (b ≡ false → IfGood P q) → IfGood P (if b then r else q)
 good-if P true r q h k = h refl
 good-if P false r q h k = k refl
+
+-- of a value that is there
+good-of : {A : Type 0} (P : A → Type 0) (r : Result A Fault) → ((a : A) → r ≡ Ok a → P a) → IfGood P r
+good-of P (Ok x) h = h x refl
+good-of P (Err e) h = tt
 
 -- Each variable is bound so, under at least as many ellipses as its depth, and each ellipsis has a variable of depth before it.
 module _ (Is : Label → ℕ → Type 0) where
@@ -63,8 +107,34 @@ module _ (Is : Label → ℕ → Type 0) where
   Reaches r t = (k : ℕ) → 1 ≤ k → k ≤ r → HasDepth k t
 
   abbrev MadeFits : ℕ → Made → Type 0
-  MadeFits n (Fixed changed t) = Unit {0}
-  MadeFits n (Varied t r) = TemplateFits n t × Reaches r t
+  MadeFits n m = TemplateFits n (template_of m) × Reaches (reach m) (template_of m)
+
+  constant-fits : (n : ℕ) (t : PlainTemplate) → is_constant t ≡ true → TemplateFits n t
+  constant-fits n (variable l d) e = absurd (cc)
+  constant-fits n (constant t) e = tt
+  constant-fits n (list is t) e = absurd (cc)
+  constant-fits n (vector is) e = absurd (cc)
+
+  -- what is fixed has no variables and reaches nothing
+  none-reached : (t : PlainTemplate) (r : ℕ) → r ≡ 0 → Reaches r t
+  none-reached t r e k one le = absurd (omega (arith, e, one, le))
+
+  form-fits : (k : ℕ) → 1 ≤ k → k ≤ 0 → ⊥
+  form-fits k one le = omega (arith, one, le)
+
+  fixed-fits : (n : ℕ) (m : Made) → is_fixed m ≡ true → MadeFits n m
+  fixed-fits n m e = (constant-fits n (template_of m) (fixed-constant m e), none-reached (template_of m) (reach m) (fixed-reach m e))
+
+  varied-fits : (n r : ℕ) (t : PlainTemplate) (m : Made) → template_of m ≡ t → reach m ≡ r → TemplateFits n t → Reaches r t → MadeFits n m
+  varied-fits n r t m e f h k = (subst (TemplateFits n) (sym e) h, (λ j one le. subst (HasDepth j) (sym e) (k j one (omega (arith, le, f)))))
+
+  -- fixed, or with this template and reach
+  either-fits : (n r : ℕ) (t : PlainTemplate) (m : Made) → (is_fixed m ≡ false → template_of m ≡ t) → (is_fixed m ≡ false → reach m ≡ r) → TemplateFits n t → Reaches r t → MadeFits n m
+  either-fits n r t m e f h k = by (is_fixed m) refl
+    where
+      by : (b : Bool) → is_fixed m ≡ b → MadeFits n m
+      by true is = fixed-fits n m is
+      by false is = varied-fits n r t m (e is) (f is) h k
 
   record ItemFits (n : ℕ) (i : MadeItem) : Type 0 where
     pub made : MadeFits (n + i.ellipses) i.made
@@ -72,22 +142,16 @@ module _ (Is : Label → ℕ → Type 0) where
 
   -- Items.
 
-  made-template : (n : ℕ) (m : Made) → MadeFits n m → TemplateFits n (template_of m)
-  made-template n (Fixed changed t) h = tt
-  made-template n (Varied t r) h = h.0
-
   made-depth : (n e : ℕ) (m : Made) → MadeFits n m → e ≤ reach m → (k : ℕ) → k < e → HasDepth (suc k) (template_of m)
-  made-depth n e (Fixed changed t) h le k lt = absurd (omega (arith, le, lt))
-  made-depth n e (Varied t r) h le k lt = h.1 (suc k) (omega arith) (omega (arith, le, lt))
+  made-depth n e m h le k lt = h.1 (suc k) (omega arith) (omega (arith, le, lt))
 
   items-fit : (n : ℕ) (is : List MadeItem) → Each (ItemFits n) is → ItemsFit n (items_of is)
   items-fit n [] h = tt
-  items-fit n (i ∷ is) h = (made-depth (n + i.ellipses) i.ellipses i.made h.0.made h.0.reached, (made-template (n + i.ellipses) i.made h.0.made, items-fit n is h.1))
+  items-fit n (i ∷ is) h = (made-depth (n + i.ellipses) i.ellipses i.made h.0.made h.0.reached, (h.0.made.0, items-fit n is h.1))
 
   -- by an item, or by one after it
   item-depth : (n e : ℕ) (m : Made) → MadeFits n m → (k : ℕ) → 1 ≤ k → k ≤ reach m - e → HasDepth (k + e) (template_of m)
-  item-depth n e (Fixed changed t) h k one le = absurd (omega (arith, one, le))
-  item-depth n e (Varied t r) h k one le = h.1 (k + e) (omega (arith, one)) (omega (arith, one, le))
+  item-depth n e m h k one le = h.1 (k + e) (omega (arith, one)) (omega (arith, one, le))
 
   max-parts : (a b k : ℕ) → k ≤ max a b → (k ≤ a) ⊎ (k ≤ b)
   max-parts a b k le = by (nat_lt a k) refl
@@ -106,33 +170,25 @@ module _ (Is : Label → ℕ → Type 0) where
 
   -- Lists and vectors.
 
-  rebuilt-fits : (n : ℕ) (place : Span) (t : Tree) (r : Result Tree Bare) → IfGood (MadeFits n) (rebuilt place t r)
-  rebuilt-fits n place t (Ok u) = tt
-  rebuilt-fits n place t (Err f) = tt
-
   list-joins : (n : ℕ) (place : Span) (t : Tree) (is : List MadeItem) (tail : Made) → Each (ItemFits n) is → MadeFits n tail → IfGood (MadeFits n) (list_joined place t is tail)
-  list-joins n place t is (Varied tail r) h k = ((items-fit n is h, k.0), depth)
+  list-joins n place t is tail h k =
+      good-of (MadeFits n) (list_joined place t is tail)
+      (λ y e. either-fits n (max (reaches is) (reach tail)) (list (items_of is) (template_of tail)) y (list-template place t is tail y e) (list-reach place t is tail y e) (items-fit n is h, k.0) depth)
     where
-      depth : (j : ℕ) → 1 ≤ j → j ≤ max (reaches is) r → HasDepth j (list (items_of is) tail)
-      depth j one le = by (max-parts (reaches is) r j le)
+      depth : (j : ℕ) → 1 ≤ j → j ≤ max (reaches is) (reach tail) → ItemHasDepth j (items_of is) ⊎ HasDepth j (template_of tail)
+      depth j one le = by (max-parts (reaches is) (reach tail) j le)
         where
-          by : (j ≤ reaches is) ⊎ (j ≤ r) → ItemHasDepth j (items_of is) ⊎ HasDepth j tail
+          by : (j ≤ reaches is) ⊎ (j ≤ reach tail) → ItemHasDepth j (items_of is) ⊎ HasDepth j (template_of tail)
           by (inl x) = inl (items-reach n is h j one x)
           by (inr x) = inr (k.1 j one x)
-  list-joins n place t is (Fixed changed tail) h k =
-      good-if (MadeFits n) (all_fixed is) (fixed_list place t is changed tail) _
-      (λ e. good-if (MadeFits n) (changed || any_changed is) (rebuilt place t (within (list_of (trees is) (Some tail)))) _ (λ x. rebuilt-fits n place t (within (list_of (trees is) (Some tail)))) (λ x. tt))
-      (λ e. ((items-fit n is h, tt), (λ j one le. inl (items-reach n is h j one le))))
 
   vector-joins : (n : ℕ) (place : Span) (t : Tree) (is : List MadeItem) → Each (ItemFits n) is → IfGood (MadeFits n) (vector_joined place t is)
   vector-joins n place t is h =
-      good-if (MadeFits n) (all_fixed is) (fixed_vector place t is) _
-      (λ e. good-if (MadeFits n) (any_changed is) (rebuilt place t (within (vector_of (trees is)))) _ (λ x. rebuilt-fits n place t (within (vector_of (trees is)))) (λ x. tt))
-      (λ e. (items-fit n is h, (λ j one le. items-reach n is h j one le)))
+      good-of (MadeFits n) (vector_joined place t is)
+      (λ y e. either-fits n (reaches is) (vector (items_of is)) y (vector-template place t is y e) (vector-reach place t is y e) (items-fit n is h) (λ j one le. items-reach n is h j one le))
 
   unescaped-fits : (n : ℕ) (m : Made) → MadeFits n m → MadeFits n (unescaped m)
-  unescaped-fits n (Fixed changed t) h = tt
-  unescaped-fits n (Varied t r) h = h
+  unescaped-fits n m h = either-fits n (reach m) (template_of m) (unescaped m) (λ e. unescaped-template m (sym (unescaped-fixed m) ∙ e)) (λ e. unescaped-reach m) h.0 h.1
 
   -- Forms.
 
@@ -154,15 +210,15 @@ module _ (Is : Label → ℕ → Type 0) where
         not-less m n h = grind (arith, nat_tests)
 
     bound-fits : (under : ℕ) (x : List ℕ) (t : Tree) (l : Label) (o : Option Binding) → bound_to c.bindings l ≡ o → IfGood (MadeFits under) (bound_made c under x t l o)
-    bound-fits under x t l None e = tt
-    bound-fits under x t l (Some (binding.Variable v)) e = tt
+    bound-fits under x t l None e = (tt, form-fits)
+    bound-fits under x t l (Some (binding.Variable v)) e = (tt, form-fits)
     bound-fits under x t l (Some (binding.PatternVariable level depth)) e = variable-fits under x t l level depth e
-    bound-fits under x t l (Some (binding.Macro level expression)) e = tt
-    bound-fits under x t l (Some (binding.Core f)) e = tt
-    bound-fits under x t l (Some (binding.Primitive o)) e = tt
+    bound-fits under x t l (Some (binding.Macro level expression)) e = (tt, form-fits)
+    bound-fits under x t l (Some (binding.Core f)) e = (tt, form-fits)
+    bound-fits under x t l (Some (binding.Primitive o)) e = (tt, form-fits)
 
     label-fits : (under : ℕ) (x : List ℕ) (t : Tree) (o : Option Label) → IfGood (MadeFits under) (label_made c under x t o)
-    label-fits under x t None = tt
+    label-fits under x t None = (tt, form-fits)
     label-fits under x t (Some l) = bound-fits under x t l (bound_to c.bindings l) refl
 
     leaf-fits : (escaped : Bool) (x : List ℕ) (t : Tree) (under : ℕ) → IfGood (MadeFits under) (leaf_made c escaped x t under)
@@ -228,7 +284,7 @@ module _ (Is : Label → ℕ → Type 0) where
 
     mutual
       template-fits : (t : Tree) (escaped : Bool) (under : ℕ) → IfGood (MadeFits under) (template c t escaped under)
-      template-fits (tree.atom s a) escaped under = tt
+      template-fits (tree.atom s a) escaped under = (tt, form-fits)
       template-fits (tree.leaf s x k) escaped under = leaf-fits escaped x (tree.leaf s x k) under
       template-fits (tree.pair s a d) escaped under =
           list-fits escaped (tree.pair s a d) ((a, template c a) ∷ elements_made c d) (tail_made c d) under (escape_of c.frames escaped ((a, template c a) ∷ elements_made c d) (is_nil (tail_of d)))
@@ -242,13 +298,13 @@ module _ (Is : Label → ℕ → Type 0) where
       elements-fit (tree.vector s d) = tt
 
       tail-fits : (t : Tree) (escaped : Bool) (under : ℕ) → IfGood (MadeFits under) (tail_made c t escaped under)
-      tail-fits (tree.atom s a) escaped under = tt
+      tail-fits (tree.atom s a) escaped under = (tt, form-fits)
       tail-fits (tree.leaf s x k) escaped under = leaf-fits escaped x (tree.leaf s x k) under
       tail-fits (tree.pair s a d) escaped under = tail-fits d escaped under
       tail-fits (tree.vector s d) escaped under = vector-fits escaped (tree.vector s d) (elements_made c d) under (elements-fit d)
 
     pub compiled-fits : (t : Tree) → IfGood (TemplateFits 0) (compiled c t)
-    compiled-fits t = good-then (MadeFits 0) (TemplateFits 0) (template c t false 0) (λ m. Ok (template_of m)) (template-fits t false 0) (λ m h. made-template 0 m h)
+    compiled-fits t = good-then (MadeFits 0) (TemplateFits 0) (template c t false 0) (λ m. Ok (template_of m)) (template-fits t false 0) (λ m h. h.0)
 
 -- Where what is bound so and in scope is among some pattern variables, the template suits them, and mentions only labels in scope.
 module _ (Is : Label → ℕ → Type 0) (scope : List Label) (vs : Depths) (there : (l : Label) (d : ℕ) → Among scope l → Is l d → Among vs (l, d)) where

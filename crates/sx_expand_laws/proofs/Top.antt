@@ -128,13 +128,14 @@ pub record SameScope (s t : State) : Type 0 where
   pub frames : t.frames ≡ s.frames
   pub bindings : t.bindings ≡ s.bindings
   pub index : t.index ≡ s.index
+  pub keywords : t.keywords ≡ s.keywords
   pub scope : t.scope ≡ s.scope
 
 same-self : (s : State) → SameScope s s
-same-self s = record { library = refl; names = refl; frames = refl; bindings = refl; index = refl; scope = refl }
+same-self s = record { library = refl; names = refl; frames = refl; bindings = refl; index = refl; keywords = refl; scope = refl }
 
 same-then : (s t u : State) → SameScope s t → SameScope t u → SameScope s u
-same-then s t u h k = record { library = k.library ∙ h.library; names = k.names ∙ h.names; frames = k.frames ∙ h.frames; bindings = k.bindings ∙ h.bindings; index = k.index ∙ h.index; scope = k.scope ∙ h.scope }
+same-then s t u h k = record { library = k.library ∙ h.library; names = k.names ∙ h.names; frames = k.frames ∙ h.frames; bindings = k.bindings ∙ h.bindings; index = k.index ∙ h.index; keywords = k.keywords ∙ h.keywords; scope = k.scope ∙ h.scope }
 
 -- the labels are shown
 abbrev pub AreShown : Scope → List (List ℕ × Label) → Type 0
@@ -155,4 +156,4 @@ same-exports at es s =
     (gave-each (export at) (λ e t x u. SameScope t u × IsShown t.frames x.1) (λ ys t xs u. SameScope t u × AreShown t.frames xs) (λ t. Unit {0})
     (λ t k. (same-self t, tt)) (λ e t k. same-export at e t) (λ e t u x k j. tt)
     (λ e ys t u v x xs k j a. (same-then t u v j.0 a.0, (j.1, subst (λ fs. AreShown fs xs) j.0.frames a.1))) es s tt)
-    (λ xs t k. (record { library = k.0.library; names = k.0.names; frames = k.0.frames; bindings = k.0.bindings; index = k.0.index; scope = k.0.scope }, k.1))
+    (λ xs t k. (record { library = k.0.library; names = k.0.names; frames = k.0.frames; bindings = k.0.bindings; index = k.0.index; keywords = k.0.keywords; scope = k.0.scope }, k.1))

@@ -1,5 +1,5 @@
 -- How states change where keywords are used and defined, and where patterns are compiled.
-use Rattle.std.proofs.Common.{◌≡◌, ℕ, Bool, List, [], ◌∷◌, Option, None, Some, Result, Ok, Err, refl, sym, ◌∙◌, ap, subst, arith}
+use Rattle.std.proofs.Common.{◌≡◌, ℕ, List, [], Option, Result, Ok, Err, refl, sym, ◌∙◌, ap, arith, inl}
 use Rattle.sx_base.specs.Named.{Named}
 use Rattle.sx_base.specs.declared.fault.Fault.{Fault}
 use Rattle.sx_base.specs.declared.library.LibName.{LibName}
@@ -20,15 +20,15 @@ use Rattle.sx_stage.specs.Transformers as stage
 use Rattle.sx_stage.specs.Uses.{used}
 use Rattle.sx_standing.specs.InScope.{apart, restoring}
 use Rattle.sx_standing.specs.Patterns.{pattern_of, check_literals}
-use Rattle.sx_standing.specs.State.{State, Does, stage_of, with_stage, staged, on_stage}
+use Rattle.sx_standing.specs.State.{State, Does, stage_of, with_stage, staged}
 use Rattle.sx_standing.specs.Uses.{use_keyword, asks_variable, macro_expression, finish_keyword}
 use Rattle.sx_expand.specs.Settle.{next_form}
-use Rattle.sx_expand_laws.specs.Stages.{StageLater, EndsLater}
-use Rattle.sx_expand_laws.specs.States.{IndicesApart, Later}
+use Rattle.sx_expand_laws.specs.Stages.{StageLater, EndsLater, EndsKept}
+use Rattle.sx_expand_laws.specs.States.{IsKept, IndicesApart, Later}
 use Rattle.sx_expand_laws.proofs.Acts.{Gave, gave-after, gave-less}
 use Rattle.sx_expand_laws.proofs.Compiled.{Compiles, GaveBy, compiles}
 use Rattle.sx_expand_laws.proofs.Grows.{grows-same}
-use Rattle.sx_expand_laws.proofs.Later.{later-self, later-then}
+use Rattle.sx_expand_laws.proofs.Later.{keeps-same, later-then}
 use Rattle.sx_expand_laws.proofs.Moved.{Names, Moved}
 use Rattle.sx_expand_laws.proofs.Stage.{stage-grows}
 
@@ -42,6 +42,7 @@ module _ (own : LibName) where
     grows = grows-same own s (with_stage g s) h.frames refl refl h.up;
     scope = refl;
     tops = λ l v o b. b;
+    keeps = record { kept = λ l lt k. h.kept l k; keywords = λ l level e o k. inl k };
   }
 
   pub staged-later : {A : Type 0} (s : State) (r : Result (A × PlainStage) Fault) → Names own s → EndsLater (stage_of s) r → Gave (Moved own s) (staged s r)
@@ -60,13 +61,18 @@ module _ (own : LibName) where
   unfolding finish_keyword
   finish-later rs place l c s n = staged-later s (stage.finish_keyword place rs l c (stage_of s)) n (stage-grows.finishes place rs l c (stage_of s))
 
-  pub begin-later : (place : Span) (l : Label) (s : State) → Names own s → Gave (Moved own s) (on_stage (stage.begin_keyword l place) s)
-  unfolding stage.begin_keyword
-  begin-later place l s n = stage-later s _ n (record { frames = refl; library = refl; up = omega arith })
+  -- the expression of a keyword is kept then
+  pub finish-kept : (rs : List LibRecord) (place : Span) (l : Label) (c : PlainCore) (s : State) → Gave (λ x u. IsKept u l) (finish_keyword rs place l c s)
+  unfolding finish_keyword
+  finish-kept rs place l c s = by (stage.finish_keyword place rs l c (stage_of s)) (stage-grows.keeps place rs l c (stage_of s))
+    where
+      by : (r : Result (Unit {0} × PlainStage) Fault) → EndsKept l r → Gave (λ x u. IsKept u l) (staged s r)
+      by (Ok p) h = h
+      by (Err f) h = tt
 
   -- with fewer uses left
   pub left-later : (left : ℕ) (s : State) → Names own s → Later own s (record s { uses_left = left })
-  left-later left s n = record { here = refl; next = n; up = omega arith; same = λ f o. refl; grows = grows-same own s (record s { uses_left = left }) refl refl refl (omega arith); scope = refl; tops = λ l v o b. b }
+  left-later left s n = record { here = refl; next = n; up = omega arith; same = λ f o. refl; grows = grows-same own s (record s { uses_left = left }) refl refl refl (omega arith); scope = refl; tops = λ l v o b. b; keeps = keeps-same own s (record s { uses_left = left }) refl refl }
 
   pub next-later : (rs : List LibRecord) (left : ℕ) (place : Span) (t : Tree) (l : Label) (frame : Option FrameNo) (s : State) → Names own s → Gave (Moved own s) (next_form rs left place t l frame s)
   unfolding next_form
@@ -88,7 +94,7 @@ module _ (own : LibName) where
     where
       by : (r : Result (Compiled × Named) Fault) → GaveBy (Compiles own s.names) r → Gave (Patterned s) (staged s (stage_patterns.named (stage_of s) r))
       by (Err e) h = tt
-      by (Ok p) h = record { later = stage-later s (record (stage_of s) { names = p.1 }) n (record { frames = refl; library = h.library ∙ sym n; up = h.up }); bindings = refl; compiles = h }
+      by (Ok p) h = record { later = stage-later s (record (stage_of s) { names = p.1 }) n (record { frames = refl; library = h.library ∙ sym n; up = h.up; kept = λ l k. k }); bindings = refl; compiles = h }
 
   pub literals-later : (literals : List Tree) (place : Span) (s : State) → Names own s → Gave (Moved own s) (check_literals place literals s)
   unfolding stage_patterns.check_literals
@@ -96,7 +102,7 @@ module _ (own : LibName) where
     where
       by : (r : Result (Unit {0}) Fault) → Gave (Moved own s) (staged s (stage_patterns.unchanged (stage_of s) r))
       by (Err e) = tt
-      by (Ok x) = stage-later s (stage_of s) n (record { frames = refl; library = refl; up = omega arith })
+      by (Ok x) = stage-later s (stage_of s) n (record { frames = refl; library = refl; up = omega arith; kept = λ l k. k })
 
   -- Apart from what is in scope.
 
@@ -109,6 +115,7 @@ module _ (own : LibName) where
     grows = record { kept = h.grows.kept; rows = h.grows.rows; bindings = h.grows.bindings; bound = h.grows.bound; indices = indices; numbered = h.grows.numbered };
     scope = refl;
     tops = h.tops;
+    keeps = record { kept = h.keeps.kept; keywords = h.keeps.keywords };
   }
     where
       indices : IndicesApart own s → IndicesApart own (record t { scope = s.scope })

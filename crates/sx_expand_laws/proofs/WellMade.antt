@@ -1,21 +1,18 @@
 -- Good core code is well made.
-use Rattle.std.proofs.Common.{◌≡◌, ℕ, ◌<◌, true, false, List, [], ◌∷◌, ◌++◌, map, Some, refl, sym, ◌∙◌, subst, inl, inr}
+use Rattle.std.proofs.Common.{ℕ, ◌<◌, true, false, List, [], ◌∷◌, ◌++◌, sym, ◌∙◌, inl, inr}
 use Rattle.std.specs.Prelude.{◌⊎◌}
 use Rattle.std.specs.List.{flat_map}
 use Rattle.sx_base.specs.declared.library.LibName.{LibName}
 use Rattle.sx_base.specs.declared.name.Label.{Label}
-use Rattle.sx_tree.specs.Tree.{Tree}
-use Rattle.sx_core.specs.Bindings.{bound_to}
 use Rattle.sx_core.specs.Core.{PlainCore, quoted, variable, primitive, one_armed, two_armed, assignment, sequence, procedure, letrec, call, instance, matching}
 use Rattle.sx_core.specs.Core.{PlainCores, none, more, PlainInits, no_init, init, PlainCases, no_case, case, PlainClauses, no_clause, clause, fended}
 use Rattle.sx_core.specs.Pattern.{PlainPattern}
 use Rattle.sx_core.specs.References.{mentions, all_mentions, init_mentions, case_mentions, clause_mentions, variables}
-use Rattle.sx_core.specs.declared.binding.Binding.TheVariants as binding
 use Rattle.sx_core_laws.specs.Words.{Each, Among}
 use Rattle.sx_core_laws.specs.Parts.{parts, all_parts, init_parts, case_parts, clause_parts, literals, own_op, own_patterns, patterns, pattern_variables}
 use Rattle.sx_core_laws.specs.Templates.{Depths}
 use Rattle.sx_core_laws.specs.WellMade.{IsLeaf, HasForm, IsWellMade, given_labels}
-use Rattle.sx_expand_laws.proofs.Fresh.{each-append, each-map, each-of, each-at, among-parts}
+use Rattle.sx_expand_laws.proofs.Fresh.{each-append, each-map, each-at, among-parts}
 use Rattle.sx_expand_laws.proofs.Good.{Bindings, IsVariableIn, IsPatternIn, PatternFits, IsBasic, Good}
 
 module _ (bs : Bindings) where

@@ -9,3 +9,4 @@ pub mod Keywords
 pub mod Serving
 pub mod Named
 pub mod InScope
+pub mod Uses

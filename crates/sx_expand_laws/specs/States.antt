@@ -1,5 +1,5 @@
 -- The states of an expansion, and how they change.
-use Rattle.std.specs.Prelude.{◌≡◌, ◌≤◌, ◌<◌, ◌⊎◌, ℕ, Bool, true, List, ◌++◌, Some, None}
+use Rattle.std.specs.Prelude.{◌≡◌, ◌≤◌, ◌<◌, ◌⊎◌, ℕ, Bool, true, List, ◌++◌, Option, Some, None}
 use Rattle.sx_base.specs.Named.{Named}
 use Rattle.sx_base.specs.declared.library.LibName.{LibName}
 use Rattle.sx_base.specs.declared.name.FrameNo.{FrameNo}
@@ -8,12 +8,14 @@ use Rattle.sx_base.specs.declared.op.Op.{Op}
 use Rattle.sx_frames.specs.Rows.{Row}
 use Rattle.sx_frames.specs.Scope.{rows_at}
 use Rattle.sx_core.specs.Bindings.{bound_to}
+use Rattle.sx_core.specs.Core.{PlainCore}
 use Rattle.sx_core.specs.declared.binding.Binding.{Binding}
 use Rattle.sx_core.specs.declared.binding.Binding.TheVariants as binding
 use Rattle.sx_core.specs.declared.binding.VarInfo.{VarInfo}
 use Rattle.sx_core_laws.specs.Words.{Each, Among}
 use Rattle.sx_core_laws.specs.Templates.{Depths}
-use Rattle.sx_standing.specs.State.{State}
+use Rattle.sx_stage.specs.Stage.{expression_of}
+use Rattle.sx_standing.specs.State.{State, stage_of}
 
 abbrev pub IsOwn : LibName → Named → Type 0
 IsOwn own n = n.library ≡ own
@@ -31,6 +33,14 @@ IsUnbound s l = (b : Binding) → bound_to s.bindings l ≡ Some b → ⊥
 -- a label is bound to a pattern variable
 abbrev pub IsPattern : State → Label → ℕ → ℕ → Type 0
 IsPattern s l level depth = bound_to s.bindings l ≡ Some (binding.PatternVariable level depth)
+
+-- a keyword whose expression is kept
+abbrev pub IsKept : State → Label → Type 0
+IsKept s l = (c : PlainCore) × (expression_of l (stage_of s) ≡ Some c)
+
+-- a label is bound to a keyword
+abbrev pub IsMacro : State → Label → ℕ → Option PlainCore → Type 0
+IsMacro s l level e = bound_to s.bindings l ≡ Some (binding.Macro level e)
 
 -- the labels of the library that are bound were made before the next name
 abbrev pub IsNumbered : LibName → State → Type 0
@@ -99,8 +109,13 @@ pub record Adds (own : LibName) (top : Bool) (ls : List Label) (ds : Depths) (s 
   pub patterns : Each (IsBound s) s.scope → IsNumbered own s → (l : Label) (level depth : ℕ) → Among t.scope l → IsPattern t l level depth
       → (Among s.scope l × IsPattern s l level depth) ⊎ Among ds (l, depth)
 
--- From a state to a later one: frames that were there have the rows that they had, the same is in scope, and there are no new
--- variables of the top.
+-- Of the keywords whose labels were made, those that are kept stay kept; and each keyword of the library that comes is kept.
+pub record Keeps (own : LibName) (s t : State) : Type 0 where
+  pub kept : (l : Label) → l.0.number < s.names.number → IsKept s l → IsKept t l
+  pub keywords : (l : Label) (level : ℕ) (e : Option PlainCore) → IsOwn own l.0 → IsMacro t l level e → IsMacro s l level e ⊎ (IsKept t l × (l.0.number < t.names.number))
+
+-- From a state to a later one: frames that were there have the rows that they had, the same is in scope, there are no new
+-- variables of the top, and keywords that come are kept.
 pub record Later (own : LibName) (s t : State) : Type 0 where
   pub here : t.library ≡ s.library
   pub next : t.names.library ≡ own
@@ -109,6 +124,7 @@ pub record Later (own : LibName) (s t : State) : Type 0 where
   pub grows : Grows own s t
   pub scope : t.scope ≡ s.scope
   pub tops : (l : Label) (v : VarInfo) → IsOwn own l.0 → IsTop t l v → IsTop s l v
+  pub keeps : Keeps own s t
 
 -- from a state to a later one: but for one frame, those that were there have the rows that they had
 pub record LaterBut (own : LibName) (g : FrameNo) (s t : State) : Type 0 where

@@ -2,12 +2,20 @@
 
 ghost use Rattle.sx_expand_laws.specs.Good.{RecordsAreGood};
 ghost use Rattle.sx_expand_laws.specs.InScope.{ScopeStays};
+ghost use Rattle.sx_expand_laws.specs.Keywords.{KeywordsAreGood};
 ghost use Rattle.sx_expand_laws.specs.Serving.{FollowersServe, RecordsServe};
+ghost use Rattle.sx_expand_laws.specs.Uses.{UsesAreReplaced, BodyUsesAreReplaced};
 ghost use Rattle.sx_expand_laws.specs.Named.{ReferencesNameBinders, AssignmentsNameBinders, BindersAreFound, BindersStay};
 
 /// Every record that expansion gives is closed, bound once and well made.
 pub fn records_are_good()
     ensures { RecordsAreGood }
+{}
+
+/// So are its keywords: each has its expression, which is well made and closed under what the records before it define, and no two of
+/// its lines and keywords bind one label or number two codes alike.
+pub fn keywords_are_good()
+    ensures { KeywordsAreGood }
 {}
 
 /// What a record leaves to those behind it: records that follow one another serve, and so does every record
@@ -26,6 +34,12 @@ pub fn references_name_binders()
     ensures assignments { AssignmentsNameBinders }
     ensures binders { BindersAreFound }
     ensures stay { BindersStay }
+{}
+
+/// A use of a keyword expands to what the form expands to that its transformer gives, and in a body it is taken as that form.
+pub fn uses_are_replaced()
+    ensures expressions { UsesAreReplaced }
+    ensures bodies { BodyUsesAreReplaced }
 {}
 
 /// What comes into scope in an expression is out of scope after it.

@@ -25,6 +25,10 @@
 //! what a form gives: where a state is `Sound`, its core code is closed under the labels that the state reaches,
 //! and its templates suit the pattern variables in scope (`Reach`). Names are made from one counter, so what was
 //! made between two states is disjoint from what was made before and after.
+//!
+//! Keywords are finished while the forms round them are expanded, so their expressions take names from among those
+//! that these forms take. A third induction tells that core code shares no name with the expression of a keyword
+//! (`specs/Keywords`): when a name is new, no keyword that is kept has it, and what is kept later has later names.
 #![tactic(auto)]
 
 pub mod laws;

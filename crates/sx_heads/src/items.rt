@@ -147,12 +147,7 @@ fn keep(state: &mut Expansion, taken: &mut Taken, id: &Syn) -> Result<(), Stop>
 
 /// The definition of a variable must not change what a head before it stands for, if that was a keyword.
 #[tactic(auto, unfolding(crate::specs::Items::in_time))]
-fn in_time(
-    state: &mut Expansion,
-    at: &BodyAt,
-    taken: &mut Taken,
-    id: &Syn,
-) -> Result<(), Stop>
+fn in_time(state: &mut Expansion, at: &BodyAt, taken: &mut Taken, id: &Syn) -> Result<(), Stop>
     ensures { GivesAfter (λ _. taken.new) result state.new (in_time at.now taken.old id.now state.old) }
 {
     let symbol = symbol_in(state.alloc(), id)?;
@@ -166,12 +161,7 @@ fn in_time(
 
 /// The definition of a keyword must not stand behind any head that stands for another label now.
 #[tactic(auto, unfolding(crate::specs::Items::keyword_in_time))]
-fn keyword_in_time(
-    state: &mut Expansion,
-    at: &BodyAt,
-    taken: &Taken,
-    id: &Syn,
-) -> Result<(), Stop>
+fn keyword_in_time(state: &mut Expansion, at: &BodyAt, taken: &Taken, id: &Syn) -> Result<(), Stop>
     ensures { GivesAfter (λ _. tt) result state.new (keyword_in_time at.now taken.now id.now state.old) }
 {
     if taken.moved {
@@ -347,11 +337,7 @@ fn keywords_item(
 {
     match shape {
         Shape::DefineSyntax(id, init) => Ok(Item::Keyword(BindingSpec { id, init })),
-        Shape::LetSyntax(specs, forms) => Ok(Item::Keywords(
-            is_letrec_syntax(which),
-            specs,
-            forms,
-        )),
+        Shape::LetSyntax(specs, forms) => Ok(Item::Keywords(is_letrec_syntax(which), specs, forms)),
         _ => Err(state.fault_form(FaultKind::BadForm, form, &at.place)),
     }
 }

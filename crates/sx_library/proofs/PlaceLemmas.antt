@@ -1,9 +1,10 @@
 -- The places of marks, one mark after another.
-use Rattle.std.proofs.Common.{◌≡◌, ℕ, suc, ◌+◌, ◌<◌, ◌≤◌, Bool, true, false, cond, List, [], ◌∷◌, length, get_or, drop, refl, ap, ◌∙◌, add-one, drop-cons}
+use Rattle.std.proofs.Common.{◌≡◌, ℕ, suc, ◌+◌, ◌<◌, ◌≤◌, Bool, true, false, cond, List, [], ◌∷◌, length, get_or, drop, refl, ap, sym, ◌∙◌, add-one, drop-cons}
 use Rattle.std.specs.Prelude.{slice_get, if◌then◌else◌}
 use Rattle.std.proofs.lemmas.List.{drop_all}
 use Rattle.sx_core.specs.declared.record.LibRecord.{LibRecord}
 use Rattle.sx_load.specs.Found.{places_from}
+use Rattle.sx_stage.specs.Libraries as stage
 use Rattle.sx_standing.specs.Ready as of_marks
 use Rattle.sx_standing.specs.Start.{or_skip, records_at}
 
@@ -42,3 +43,17 @@ at_marks (m ∷ ms) (r ∷ rs) = by m (places_behind r rs 0 ms ∙ at_marks ms r
         → records_at (r ∷ rs) (cond b (0 ∷ places_from 1 ms) (places_from 1 ms)) ≡ cond b (r ∷ of_marks.needed_records ms rs) (of_marks.needed_records ms rs)
     by true h = ap (λ (x : List LibRecord). r ∷ x) h
     by false h = h
+
+same_marked : (ms : List Bool) (rs : List LibRecord) → stage.needed_records ms rs ≡ of_marks.needed_records ms rs
+same_marked [] rs = refl
+same_marked (m ∷ ms) [] = refl
+same_marked (m ∷ ms) (r ∷ rs) = by m (same_marked ms rs)
+  where
+    by : (b : Bool) → stage.needed_records ms rs ≡ of_marks.needed_records ms rs
+        → cond b (r ∷ stage.needed_records ms rs) (stage.needed_records ms rs) ≡ cond b (r ∷ of_marks.needed_records ms rs) (of_marks.needed_records ms rs)
+    by true h = ap (λ (x : List LibRecord). r ∷ x) h
+    by false h = h
+
+-- what an evaluation takes for the records before a library
+pub at_stage : (ms : List Bool) (rs : List LibRecord) → stage.needed_records ms rs ≡ records_at rs (places_from 0 ms)
+at_stage ms rs = same_marked ms rs ∙ sym (at_marks ms rs)

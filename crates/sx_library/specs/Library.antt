@@ -5,6 +5,7 @@ use Rattle.sx_base.specs.Gives.{◌>>=◌}
 use Rattle.sx_base.specs.declared.fault.Bare.{Bare}
 use Rattle.sx_base.specs.declared.fault.Fault.{Fault}
 use Rattle.sx_base.specs.declared.span.Span.{Span}
+use Rattle.sx_base.specs.declared.name.Label.{Label}
 use Rattle.sx_tree.specs.Context.{blank}
 use Rattle.sx_tree.specs.Measures.{within}
 use Rattle.sx_tree.specs.Tree.{Tree, leaf}
@@ -13,7 +14,8 @@ use Rattle.sx_core.specs.declared.record.LibRecord.{LibRecord}
 use Rattle.sx_import.specs.declared.set.NameAt.{NameAt}
 use Rattle.sx_forms.specs.declared.form.LibraryForm.{LibraryForm}
 use Rattle.sx_eval.specs.Codes.{Codes}
-use Rattle.sx_expand.specs.Expanding.{ready, library_record}
+use Rattle.sx_base.specs.declared.library.LibName.{LibName}
+use Rattle.sx_expand.specs.Expanding.{Expanding, ready, library_record}
 use Rattle.sx_library.specs.Imports.{form_names}
 
 -- ---- what stands in the file, as syntax trees
@@ -43,10 +45,14 @@ export_tree e = (e.0, leaf (Some e.1.span) e.1.name blank)
 
 -- ---- the record
 
--- the names that the form imports, then its body, after these records; what procedures mean that are texts is given
+-- an expander behind these records, which knows what the procedures mean that are texts
+abbrev pub expander_of : Result Codes Fault → LibName → List ℕ → List LibRecord → List (List ℕ × Label) → Result Expanding Fault
+expander_of prelude name path records names = prelude >>= (λ codes. Ok (ready name path records names codes))
+
+-- the names that the form imports, the forms of its body, what procedures mean that are texts, and then the body, after these records
 unfoldable pub expand_library : Result Codes Fault → List LibRecord → List ℕ → LibraryForm → List PlainDatum → Result LibRecord Fault
 expand_library prelude records path form body =
     form_names records form.imports >>= (λ names.
-    prelude >>= (λ codes.
     trees_at form.name_span [] body >>= (λ forms.
-    library_record (ready form.name path records names codes) records form.version form.name_span (map export_tree form.exports) forms)))
+    expander_of prelude form.name path records names >>= (λ e.
+    library_record e records form.version form.name_span (map export_tree form.exports) forms)))

@@ -1,12 +1,12 @@
 //! The record of a library or a program.
 
-ghost use Rattle.std.specs.Prelude.{◌≡◌, [], IfOk, Ok, map};
+ghost use Rattle.std.specs.Prelude.{◌≡◌, [], false, IfOk, Ok, map};
 ghost use Rattle.sx_base.specs.Gives.{Gives, StopsWith};
 ghost use Rattle.sx_eval.specs.Codes as table;
-ghost use Rattle.sx_expand.specs.Expanding.{ready};
+ghost use Rattle.sx_expand.specs.Expanding.{ready, library_record};
 ghost use Rattle.sx_prelude.specs.Prelude.{kept};
 ghost use Rattle.sx_library.specs.Records.{needed_records};
-ghost use Rattle.sx_library.specs.Library.{at_datum, tree_at, trees_at, export_tree, expand_library};
+ghost use Rattle.sx_library.specs.Library.{at_datum, tree_at, trees_at, export_tree, expander_of, expand_library};
 
 use crate::imports::form_names;
 use crate::records::Records;
@@ -54,29 +54,64 @@ pub fn expand_library<N: Ledger, L: Ledger>(
 ) -> Result<LibRecord, Stop>
     ensures { Gives (λ r. r) result (expand_library (kept prelude.now) (needed_records records.now needs.now) path.now form.now body.now) }
 {
-    let place = &form.name_span;
     let names = form_names(alloc, records, needs, form.imports.as_slice())?;
-    let codes = prelude.codes(alloc)?;
-    let forms = trees_at(alloc, place, body)?;
     let names = rows(alloc, &names)?;
+    let forms = trees_at(alloc, &form.name_span, body)?;
     let exports = export_trees(alloc, &form.exports)?;
-    let name = share_library(alloc, &form.name)?;
     let version = share_version(alloc, form.version.as_slice())?;
+    let begun = expander_of(alloc, prelude, form, path, records, needs, names.as_slice())?;
+    record_behind(
+        begun,
+        records,
+        needs,
+        forms.as_slice(),
+        &form.name_span,
+        exports.as_slice(),
+        version,
+        prims,
+        counts,
+    )
+}
+
+// An expander behind the records that are marked, which knows what the procedures mean that are texts.
+fn expander_of(
+    alloc: Global,
+    prelude: &Prelude,
+    form: &LibraryForm,
+    path: &Symbol,
+    records: &Records,
+    needs: &[bool],
+    names: &[(Symbol, Label)],
+) -> Result<Expander, Stop>
+    ensures { Gives (λ e. e) result (expander_of (kept prelude.now) form.now.name path.now (needed_records records.now needs.now) names.now) }
+{
+    let name = share_library(alloc, &form.name)?;
     let path = path.share()?;
-    let expander = expander_behind(alloc, name, path, records, needs, names.as_slice(), codes)?;
+    let codes = prelude.codes(alloc)?;
+    expander_behind(alloc, name, path, records, needs, names, codes)
+}
+
+// The record of a library, from its exports, its version and the forms of its body.
+fn record_behind<N: Ledger, L: Ledger>(
+    begun: Expander,
+    records: &Records,
+    needs: &[bool],
+    forms: &[Syn],
+    place: &Span,
+    exports: &[(Symbol, Syn)],
+    version: Items<u64>,
+    prims: &PrimTable,
+    counts: &mut Counts<N, L>,
+) -> Result<LibRecord, Stop>
+    requires { begun.failed ≡ false }
+    ensures { Gives (λ r. r) result (library_record begun (needed_records records.now needs.now) version place.now exports.now forms.now) }
+{
     let earlier = Earlier {
         records: records.ready().as_slice(),
         needs,
     };
     let means = Means { earlier, prims };
-    expander.top(
-        forms.as_slice(),
-        place,
-        exports.as_slice(),
-        version,
-        &means,
-        counts,
-    )
+    begun.top(forms, place, exports, version, &means, counts)
 }
 
 // An expander behind the records that are marked.

@@ -1,9 +1,5 @@
-//! Tests of loading: programs of several files, and the core text or the first fault of each.
+//! Tests of loading: how many libraries a program may load, and how many bytes.
 #![tactic(auto)]
 
 #[cfg(test)]
-mod files;
-#[cfg(test)]
 mod limits;
-#[cfg(test)]
-mod rows;

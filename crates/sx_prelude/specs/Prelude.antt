@@ -8,6 +8,7 @@ use Rattle.sx_base.specs.Same.{same_library}
 use Rattle.sx_base.specs.declared.fault.Bare.{Bare}
 use Rattle.sx_base.specs.declared.fault.Fault.{Fault}
 use Rattle.sx_base.specs.declared.fault.FaultKind.TheVariants as kind
+use Rattle.sx_base.specs.declared.library.LibName.{LibName}
 use Rattle.sx_base.specs.declared.library.LibName.TheVariants as library
 use Rattle.sx_base.specs.declared.name.CodeNo.{CodeNo}
 use Rattle.sx_base.specs.declared.name.Label.{Label}
@@ -17,11 +18,11 @@ use Rattle.sx_builtin.specs.Prelude.{prelude_text}
 use Rattle.sx_core.specs.Core.{PlainCore, PlainCode, no_case, case}
 use Rattle.sx_core.specs.declared.formals.Formals.{Formals}
 use Rattle.sx_eval.specs.Codes.{Codes, with_procedure}
-use Rattle.sx_expand.specs.Expanding.{expression}
+use Rattle.sx_expand.specs.Expanding.{expression, ready}
 use Rattle.sx_prelude.specs.declared.prelude.Prelude.{Prelude}
 use Rattle.sx_prelude.specs.declared.prelude.Prelude.TheVariants as preludes
-use Rattle.sx_reader.specs.Reading.{data_of}
-use Rattle.sx_standing.specs.Start.{started, first_frame}
+use Rattle.sx_reader.specs.Read.{data_of}
+use Rattle.sx_standing.specs.Start.{first_frame}
 use Rattle.sx_standing.specs.State.{State, Does}
 use Rattle.sx_tree.specs.Changes.{stamp}
 use Rattle.sx_tree.specs.Context.{blank}
@@ -42,8 +43,11 @@ abbrev pub core_names : Option (List (List ℕ × Label)) → List (List ℕ × 
 core_names None = []
 core_names (Some es) = filter is_core es
 
+unfoldable pub names_of : LibName → List (List ℕ × Label)
+names_of l = core_names (exports l)
+
 abbrev pub names : List (List ℕ × Label)
-names = core_names (exports (library.User (codes "rnrs" ∷ [])))
+names = names_of (library.User (codes "rnrs" ∷ []))
 
 -- One text.
 
@@ -85,7 +89,7 @@ without_state (Err f) = Err f
 
 -- all of them, expanded one after the other in a library of their own
 unfoldable pub prelude_codes : Result (List PlainCode) Fault
-prelude_codes = without_state (each text_code [] procedures (started library.Prelude [] names []))
+prelude_codes = without_state (each text_code [] procedures (ready library.Prelude (codes "(prelude)") [] names []).state)
 
 -- The table that they make, with the codes inside them.
 abbrev pub filled : Codes → List PlainCode → Codes

@@ -1,12 +1,14 @@
 //! The codes of the texts.
 
-ghost use Rattle.std.specs.Prelude.{◌≡◌, [], ◌<◌, false, filter, map, IfOk, OnOk};
+ghost use Rattle.std.specs.Prelude.{◌≡◌, [], false, filter, map, codes, IfOk, OnOk, Ok};
 ghost use Rattle.sx_base.specs.Act.{GivesAfter, each};
 ghost use Rattle.sx_base.specs.Gives.{Gives};
+ghost use Rattle.sx_base.specs.Op.{op_text};
 ghost use Rattle.sx_base.specs.declared.library.LibName.TheVariants as library;
+ghost use Rattle.sx_expand.specs.Expanding.{ready};
 ghost use Rattle.sx_stage.specs.Libraries.{earlier_in};
 ghost use Rattle.sx_standing.specs.Start.{first_frame};
-ghost use Rattle.sx_prelude.specs.Prelude.{is_core, procedures, names, path_of, place_of, first_tree, tree_in, procedure_of, text_code, prelude_codes};
+ghost use Rattle.sx_prelude.specs.Prelude.{is_core, core_names, names, names_of, path_of, place_of, first_tree, tree_in, procedure_of, text_code, prelude_codes};
 
 use indexmap::IndexMap;
 use std::alloc::Global;
@@ -31,7 +33,19 @@ use sx_standing::means::{Counts, Means};
 use sx_standing::ready::ReadyRecords;
 use sx_syntax::syn::Syn;
 
-const PROCEDURES: [u16; 10] = [133, 110, 192, 193, 194, 198, 191, 202, 196, 197];
+// In this order: `map for-each for-all exists filter remp find memp fold-left fold-right`.
+const PROCEDURES: [Op; 10] = [
+    Op(133),
+    Op(110),
+    Op(192),
+    Op(193),
+    Op(194),
+    Op(198),
+    Op(191),
+    Op(202),
+    Op(196),
+    Op(197),
+];
 
 /// The names of `(rnrs)`, but those that the derived library defines.
 fn names(alloc: Global) -> Result<Items<(Symbol, Label)>, Memory>
@@ -39,13 +53,29 @@ fn names(alloc: Global) -> Result<Items<(Symbol, Label)>, Memory>
 {
     let mut parts = Items::new(alloc);
     parts.push(Symbol::new(alloc, "rnrs")?)?;
-    match exports(alloc, &LibName::User(parts))? {
+    names_of(alloc, &LibName::User(parts))
+}
+
+#[tactic(auto, unfolding(crate::specs::Prelude::names_of))]
+fn names_of(alloc: Global, library: &LibName) -> Result<Items<(Symbol, Label)>, Memory>
+    ensures { IfOk result (λ es. es ≡ names_of library.now) }
+{
+    core_names(alloc, exports(alloc, library)?)
+}
+
+fn core_names(
+    alloc: Global,
+    exported: Option<Items<(Symbol, Label)>>,
+) -> Result<Items<(Symbol, Label)>, Memory>
+    ensures { IfOk result (λ es. es ≡ core_names exported) }
+{
+    match exported {
         None => Ok(Items::new(alloc)),
-        Some(all) => core_names(alloc, all.as_slice()),
+        Some(all) => only_core(alloc, all.as_slice()),
     }
 }
 
-fn core_names(alloc: Global, all: &[(Symbol, Label)]) -> Result<Items<(Symbol, Label)>, Memory>
+fn only_core(alloc: Global, all: &[(Symbol, Label)]) -> Result<Items<(Symbol, Label)>, Memory>
     ensures { IfOk result (λ es. es ≡ filter (λ e. is_core e) all.now) }
 {
     let mut names = Items::new(alloc);
@@ -57,19 +87,24 @@ fn core_names(alloc: Global, all: &[(Symbol, Label)]) -> Result<Items<(Symbol, L
     Ok(names)
 }
 
+// The report name of an op; past the last there is none.
+fn name_of(op: &Op) -> &'static str
+    ensures { result.now ≡ op_text op.now.0 }
+{
+    if op.0 < 301 { op_text(op) } else { "" }
+}
+
 fn path_of(alloc: Global, op: &Op) -> Result<Symbol, Memory>
-    requires { op.now.0 < 301 }
     ensures { IfOk result (λ p. p ≡ path_of op.now.0) }
 {
     let mut path = String::new(alloc);
     path.push_str("(prelude ")?;
-    path.push_str(op_text(op))?;
+    path.push_str(name_of(op))?;
     path.push_str(")")?;
     Symbol::from_string(path)
 }
 
 fn place_of(alloc: Global, op: &Op) -> Result<Span, Memory>
-    requires { op.now.0 < 301 }
     ensures { IfOk result (λ s. s ≡ place_of op.now.0) }
 {
     let file = path_of(alloc, op)?;
@@ -81,10 +116,10 @@ fn place_of(alloc: Global, op: &Op) -> Result<Span, Memory>
 }
 
 /// The first datum as a tree.
-fn first_tree(alloc: Global, data: &[Datum], place: &Span) -> Result<Syn, Stop>
-    ensures { Gives (λ t. t) result (first_tree place.now data.now) }
+fn first_tree(alloc: Global, forms: &[Datum], place: &Span) -> Result<Syn, Stop>
+    ensures { Gives (λ t. t) result (first_tree place.now forms.now) }
 {
-    let Some(datum) = data.first() else {
+    let Some(datum) = forms.first() else {
         return Err(Stop::Fault(Fault {
             kind: FaultKind::NoExpression,
             span: place.share()?,
@@ -103,7 +138,6 @@ fn first_tree(alloc: Global, data: &[Datum], place: &Span) -> Result<Syn, Stop>
 }
 
 fn tree_in(alloc: Global, op: Op, place: &Span) -> Result<Syn, Stop>
-    requires known { op.0 < 301 }
     requires place { place.now ≡ place_of op.0 }
     ensures { Gives (λ t. t) result (tree_in op.0) }
 {
@@ -111,8 +145,8 @@ fn tree_in(alloc: Global, op: Op, place: &Span) -> Result<Syn, Stop>
         Some(text) => text,
         None => &[],
     };
-    let data = read_all(alloc, &place.file, text)?;
-    first_tree(alloc, &data, place)
+    let found = read_all(alloc, &place.file, text)?;
+    first_tree(alloc, &found, place)
 }
 
 /// A procedure without arguments, whose body is the text.
@@ -154,25 +188,41 @@ fn frame(alloc: Global) -> Result<FrameNo, Memory>
 fn text_code<N: Ledger, L: Ledger>(
     alloc: Global,
     expander: &mut Expander,
-    op: Op,
+    op: &Op,
     means: &Means,
     counts: &mut Counts<N, L>,
 ) -> Result<Rc<Code>, Stop>
-    requires known { op.0 < 301 }
     requires none { earlier_in means.now.earlier ≡ [] }
     requires open { expander.old.failed ≡ false }
-    ensures given { GivesAfter (λ c. c.value) result expander.new.state (text_code op.0 expander.old.state) }
+    ensures given { GivesAfter (λ c. c.value) result expander.new.state (text_code op.now.0 expander.old.state) }
     ensures open { OnOk result (expander.new.failed ≡ false) }
 {
-    let place = place_of(alloc, &op)?;
-    let tree = tree_in(alloc, op, &place)?;
+    let place = place_of(alloc, op)?;
+    let tree = tree_in(alloc, *op, &place)?;
     let tree = tree.stamp(alloc, frame(alloc)?, counts.nodes)?;
     let core = expander.expression(&tree, &place, 0, means, counts)?;
-    Ok(procedure_of(alloc, op, core)?)
+    Ok(procedure_of(alloc, *op, core)?)
+}
+
+// An expander that is ready for the first text.
+fn start(alloc: Global) -> Result<Expander, Stop>
+    ensures { Gives (λ e. e) result (Ok (ready library.Prelude (codes "(prelude)") [] names [])) }
+{
+    let records = ReadyRecords::new(alloc)?;
+    let names = names(alloc)?;
+    let path = Symbol::new(alloc, "(prelude)")?;
+    Expander::new(
+        alloc,
+        LibName::Prelude,
+        path,
+        &records,
+        &[],
+        names.as_slice(),
+        IndexMap::new(alloc),
+    )
 }
 
 /// The codes of all texts, in the order of `PROCEDURES`. `means` has no records; its primitives are asked for nothing.
-#[tactic(auto, unfolding(crate::specs::Prelude::prelude_codes))]
 pub fn prelude_codes<N: Ledger, L: Ledger>(
     alloc: Global,
     means: &Means,
@@ -181,34 +231,24 @@ pub fn prelude_codes<N: Ledger, L: Ledger>(
     requires { earlier_in means.now.earlier ≡ [] }
     ensures { Gives (λ cs. map (λ c. c.value) cs) result prelude_codes }
 {
-    let records = ReadyRecords::new(alloc)?;
-    let names = names(alloc)?;
-    let path = Symbol::new(alloc, "(prelude)")?;
-    let mut expander = Expander::new(
-        alloc,
-        LibName::Prelude,
-        path,
-        &records,
-        &[],
-        names.as_slice(),
-        IndexMap::new(alloc),
-    )?;
-    all_texts(alloc, &mut expander, means, counts)
+    let mut expander = start(alloc)?;
+    all_texts(alloc, &mut expander, &PROCEDURES, means, counts)
 }
 
 fn all_texts<N: Ledger, L: Ledger>(
     alloc: Global,
     expander: &mut Expander,
+    ops: &[Op],
     means: &Means,
     counts: &mut Counts<N, L>,
 ) -> Result<Items<Rc<Code>>, Stop>
     requires none { earlier_in means.now.earlier ≡ [] }
     requires open { expander.old.failed ≡ false }
-    ensures { GivesAfter (λ cs. map (λ c. c.value) cs) result expander.new.state (each text_code [] procedures expander.old.state) }
+    ensures { GivesAfter (λ cs. map (λ c. c.value) cs) result expander.new.state (each text_code [] (map (λ o. o.0) ops.now) expander.old.state) }
 {
     let mut codes = Items::new(alloc);
-    for number in &PROCEDURES {
-        let code = text_code(alloc, expander, Op(*number), means, counts)?;
+    for op in ops {
+        let code = text_code(alloc, expander, op, means, counts)?;
         codes.push(code)?;
     }
     Ok(codes)

@@ -27,10 +27,7 @@ pub enum Prelude {
 }
 
 // The table that the codes make.
-fn filled(
-    alloc: Global,
-    codes: &[Rc<Code>],
-) -> Result<IndexMap<CodeNo, Rc<Code>>, Memory>
+fn filled(alloc: Global, codes: &[Rc<Code>]) -> Result<IndexMap<CodeNo, Rc<Code>>, Memory>
     ensures { IfOk result (λ cs. table.seen cs.entries ≡ filled [] (map (λ c. c.value) codes.now)) }
 {
     let mut table = IndexMap::new(alloc);

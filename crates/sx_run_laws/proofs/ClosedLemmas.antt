@@ -67,5 +67,5 @@ all_standing found s records program h = record {
         standing records (needed x.0.1) x.0.1.opened.form.name r (h.each i x.0.0 x.0.1 r x.1 e)
 
 pub runs_are_closed_once : RunsAreClosedOnce
-runs_are_closed_once files roots path found s records program run =
-    text-is-closed-once records program (all_standing found s records program (all_records_stand files roots path found s records program run))
+runs_are_closed_once prelude files roots path found s records program run =
+    text-is-closed-once records program (all_standing found s records program (all_records_stand prelude files roots path found s records program run))

@@ -1,11 +1,13 @@
 -- In a run each record stands behind those that its library needs.
-use Rattle.std.proofs.Common.{◌≡◌, ℕ, zero, suc, ◌+◌, ◌<◌, Bool, true, false, List, [], ◌∷◌, ◌++◌, length, Option, Some, None, Ok, refl, sym, ap, subst, ◌∙◌, inl, inr, arith}
+use Rattle.std.proofs.Common.{◌≡◌, ℕ, zero, suc, ◌+◌, ◌<◌, Bool, true, false, List, [], ◌∷◌, ◌++◌, length, Option, Some, None, Result, Ok, refl, sym, ap, subst, ◌∙◌, inl, inr, arith}
 use Rattle.std.specs.Prelude.{◌⊎◌, slice_get}
+use Rattle.sx_base.specs.declared.fault.Fault.{Fault}
 use Rattle.sx_base.specs.declared.library.LibName.{LibName}
 use Rattle.sx_base.specs.declared.library.LibName.TheVariants as library
 use Rattle.sx_core.specs.declared.record.LibRecord.{LibRecord}
 use Rattle.sx_core_laws.specs.Follows.{names_of}
 use Rattle.sx_core_laws.specs.Words.{Among, Once}
+use Rattle.sx_eval.specs.Codes.{Codes}
 use Rattle.sx_expand_laws.specs.Serves.{Serves, AllServe}
 use Rattle.sx_expand_laws.proofs.AllServe.{serves-names}
 use Rattle.sx_file_names.specs.File.{file_of}
@@ -42,8 +44,8 @@ same_place (a ∷ xs) (b ∷ ys) (suc i) x e h = same_place xs ys i x (omega (ar
 user_no_program : (n : LibName) → IsUser n → n ≡ library.Program → ⊥
 user_no_program n u e = subst IsUser e u
 
-module _ (files : Paths) (roots : List (List ℕ)) (path : List ℕ) (found : Found) (s : Loading)
-    (records : List LibRecord) (program : LibRecord) (run : IsRun files roots path found s records program) where
+module _ (prelude : Result Codes Fault) (files : Paths) (roots : List (List ℕ)) (path : List ℕ) (found : Found) (s : Loading)
+    (records : List LibRecord) (program : LibRecord) (run : IsRun prelude files roots path found s records program) where
   whole : IsWhole (found, s)
   whole = loads_all files roots path found s run.loaded
 
@@ -157,13 +159,13 @@ module _ (files : Paths) (roots : List (List ℕ)) (path : List ℕ) (found : Fo
 
     stands_here : (r : LibRecord) → slice_get records i ≡ Some r → Stands (records_at records (needed f)) f.opened.form.name r
     stands_here r there =
-        let m = made_at s.done records run.recorded i file f r at there in
+        let m = made_at prelude s.done records run.recorded i file f r at there in
         let many = m.many in
         let low : (p : ℕ) → slice_get f.needs p ≡ Some true → zero + p < length m.before = λ p h. let l = (closed p h).before in omega (arith, l, many, place) in
         let same : records_at records (needed f) ≡ records_at m.before (needed f) =
         ap (λ (rs : List LibRecord). records_at rs (needed f)) m.parts ∙ first_records m.before m.after zero f.needs low in
-        library_stands (records_at records (needed f)) (all_serve f closed before) f.opened.path f.opened.form is_new (library_body f.opened.«data») r
-        (subst (λ (rs : List LibRecord). expand_library rs f.opened.path f.opened.form (library_body f.opened.«data») ≡ Ok r) (sym same) m.made)
+        library_stands (records_at records (needed f)) (all_serve f closed before) f.opened.path f.opened.form is_new (library_body f.opened.«data») r prelude
+        (subst (λ (rs : List LibRecord). expand_library prelude rs f.opened.path f.opened.form (library_body f.opened.«data») ≡ Ok r) (sym same) m.made)
 
   stands_below : (n i : ℕ) → i < n → StandsAt i
   stands_below zero i less = absurd (omega (arith, less))
@@ -185,12 +187,12 @@ module _ (files : Paths) (roots : List (List ℕ)) (path : List ℕ) (found : Fo
   program_stands : Stands (records_at records (needed found)) library.Program program
   program_stands = subst (λ (n : LibName). Stands (records_at records (needed found)) n program) program_is
       (library_stands (records_at records (needed found)) (all_serve found whole.stands.closed (λ j less. stands_at j)) found.opened.path found.opened.form program_new
-      (program_body found.opened.«data») program run.expanded)
+      (program_body found.opened.«data») program prelude run.expanded)
 
   -- ---- each name once
 
   as_many : length records ≡ length s.done
-  as_many = as_many_records s.done records run.recorded
+  as_many = as_many_records prelude s.done records run.recorded
 
   -- the library of a record
   record IsRecordOf (i : ℕ) (r : LibRecord) : Type 0 where
@@ -237,4 +239,4 @@ module _ (files : Paths) (roots : List (List ℕ)) (path : List ℕ) (found : Fo
   all_stand = record { as_many = as_many; each = stands_at; last = program_stands; once = names_once }
 
 pub all_records_stand : RecordsStand
-all_records_stand files roots path found s records program run = all_stand files roots path found s records program run
+all_records_stand prelude files roots path found s records program run = all_stand prelude files roots path found s records program run

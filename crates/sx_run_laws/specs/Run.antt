@@ -1,11 +1,14 @@
 -- A run: how its records stand behind one another, and what holds of its text.
-use Rattle.std.specs.Prelude.{◌≡◌, ℕ, List, [], ◌∷◌, ◌++◌, length, Some, slice_get, Ok}
+use Rattle.std.specs.Prelude.{◌≡◌, ℕ, List, [], ◌∷◌, ◌++◌, length, Some, slice_get, Result, Ok}
+use Rattle.sx_base.specs.declared.fault.Fault.{Fault}
 use Rattle.sx_base.specs.declared.library.LibName.{LibName}
 use Rattle.sx_base.specs.declared.library.LibName.TheVariants as library
 use Rattle.sx_core.specs.declared.record.LibRecord.{LibRecord}
 use Rattle.sx_core_laws.specs.Follows.{names_of}
 use Rattle.sx_core_laws.specs.Words.{Once}
+use Rattle.sx_eval.specs.Codes.{Codes}
 use Rattle.sx_expand_laws.specs.Good.{IsGood}
+use Rattle.sx_expand_laws.specs.Keywords.{HasGoodKeywords}
 use Rattle.sx_expand_laws.specs.Serves.{Serves}
 use Rattle.sx_forms.specs.Form.{program_body}
 use Rattle.sx_library.specs.Loaded.{all_records, expand_found}
@@ -18,16 +21,18 @@ use Rattle.sx_outside.specs.Contents.{Paths}
 use Rattle.sx_standing.specs.Start.{records_at}
 use Rattle.sx_text_laws.specs.Text.{text_of, IsClosedOnce}
 
--- a program is loaded with all that it imports, directly or not; each library is expanded, and then the program
-pub record IsRun (files : Paths) (roots : List (List ℕ)) (path : List ℕ) (found : Found) (s : Loading) (records : List LibRecord) (program : LibRecord) : Type 0 where
+-- a program is loaded with all that it imports, directly or not; each library is expanded, and then the program. What procedures mean that
+-- are texts is given.
+pub record IsRun (prelude : Result Codes Fault) (files : Paths) (roots : List (List ℕ)) (path : List ℕ) (found : Found) (s : Loading) (records : List LibRecord) (program : LibRecord) : Type 0 where
   pub loaded : load files roots path ≡ Ok (found, s)
-  pub recorded : all_records s.done ≡ Ok records
-  pub expanded : expand_found records found (program_body found.opened.«data») ≡ Ok program
+  pub recorded : all_records prelude s.done ≡ Ok records
+  pub expanded : expand_found prelude records found (program_body found.opened.«data») ≡ Ok program
 
 -- The record of a library, behind those that it needs: what expansion promises of it holds.
 pub record Stands (earlier : List LibRecord) (name : LibName) (r : LibRecord) : Type 0 where
   pub named : r.name ≡ name
   pub good : IsGood earlier r
+  pub keywords : HasGoodKeywords earlier r
   pub serves : Serves earlier r
 
 -- the records of libraries that were loaded, and of the program
@@ -41,10 +46,10 @@ pub record AllStand (found : Found) (s : Loading) (records : List LibRecord) (pr
 
 -- so it is in every run
 abbrev pub RecordsStand : Type 0
-RecordsStand = (files : Paths) (roots : List (List ℕ)) (path : List ℕ) (found : Found) (s : Loading) (records : List LibRecord) (program : LibRecord)
-    → IsRun files roots path found s records program → AllStand found s records program
+RecordsStand = (prelude : Result Codes Fault) (files : Paths) (roots : List (List ℕ)) (path : List ℕ) (found : Found) (s : Loading) (records : List LibRecord) (program : LibRecord)
+    → IsRun prelude files roots path found s records program → AllStand found s records program
 
 -- and the text of every run is closed, and bound once
 abbrev pub RunsAreClosedOnce : Type 0
-RunsAreClosedOnce = (files : Paths) (roots : List (List ℕ)) (path : List ℕ) (found : Found) (s : Loading) (records : List LibRecord) (program : LibRecord)
-    → IsRun files roots path found s records program → IsClosedOnce (text_of records program)
+RunsAreClosedOnce = (prelude : Result Codes Fault) (files : Paths) (roots : List (List ℕ)) (path : List ℕ) (found : Found) (s : Loading) (records : List LibRecord) (program : LibRecord)
+    → IsRun prelude files roots path found s records program → IsClosedOnce (text_of records program)

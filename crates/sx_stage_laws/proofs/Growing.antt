@@ -143,7 +143,7 @@ stays_need place rs c s = by_if Stays s (has_all s.evaluated (libraries_of c)) _
 stays_only : (place : Span) (v : Value) (s : PlainStage) → By Stays s (transformer_only place v s)
 stays_only place v s = by_if Stays s (is_transformer v) _ _ (stays_refl s) tt
 
-stays_transformer : (place : Span) (rs : List LibRecord) (c : PlainCore) (s : PlainStage) → By Stays s (transformer place rs c s)
+pub stays_transformer : (place : Span) (rs : List LibRecord) (c : PlainCore) (s : PlainStage) → By Stays s (transformer place rs c s)
 unfolding transformer
 stays_transformer place rs c s =
     by_after Stays stays_then s (need place rs c s) (λ _ t. after (evaluate place c t) (λ p. transformer_only place p.0)) (stays_need place rs c s)

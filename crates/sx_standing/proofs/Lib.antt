@@ -2,3 +2,4 @@ pub mod Rows
 pub mod Adopted
 pub mod Starts
 pub mod Staged
+pub mod Outside

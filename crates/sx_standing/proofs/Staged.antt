@@ -1,5 +1,5 @@
 -- What a call gives on the stage, it gives in the state.
-use Rattle.std.proofs.Common.{◌≡◌, Result, Ok, Err, ap}
+use Rattle.std.proofs.Common.{Result, Ok, Err, ap}
 use Rattle.sx_base.specs.Act.{GivesAfter}
 use Rattle.sx_base.specs.declared.fault.Fault.{Fault}
 use Rattle.sx_base.specs.declared.fault.Stop.{Stop}

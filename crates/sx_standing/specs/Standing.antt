@@ -1,5 +1,5 @@
 -- What an identifier stands for.
-use Rattle.std.specs.Prelude.{ℕ, Bool, true, false, nat_lt, Option, None, Some, if◌then◌else◌}
+use Rattle.std.specs.Prelude.{Bool, true, false, nat_lt, Option, None, Some, if◌then◌else◌}
 use Rattle.sx_base.specs.Op.{is_keyword}
 use Rattle.sx_base.specs.Same.{same_library}
 use Rattle.sx_base.specs.declared.library.LibName.TheVariants as library

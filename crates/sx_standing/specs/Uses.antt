@@ -18,7 +18,7 @@ use Rattle.sx_shapes.specs.declared.shape.BindingSpec.{BindingSpec}
 use Rattle.sx_stage.specs.Transformers as stage
 use Rattle.sx_stage.specs.Uses.{used}
 use Rattle.sx_standing.specs.Binders.{put_row}
-use Rattle.sx_standing.specs.State.{State, Does, on_stage, fresh, fault_form}
+use Rattle.sx_standing.specs.State.{Does, on_stage, fresh, fault_form}
 use Rattle.sx_standing.specs.declared.binders.BoundSpec.{BoundSpec}
 
 -- the expression of a keyword's record; an own keyword's stands on the stage

@@ -28,22 +28,22 @@ fn has_variables(scope: &InScope, template: &Template) -> bool
     match &template.node {
         TemplateNode::Variable(label, _) => scope.has(label),
         TemplateNode::Constant(_) => true,
-        TemplateNode::List(items, tail) => {
-            if has_item_variables(scope, items) {
+        TemplateNode::List(list, tail) => {
+            if has_item_variables(scope, list) {
                 has_variables(scope, tail)
             } else {
                 false
             }
         }
-        TemplateNode::Vector(items) => has_item_variables(scope, items),
+        TemplateNode::Vector(list) => has_item_variables(scope, list),
     }
 }
 
 #[cycle(has)]
-fn has_item_variables(scope: &InScope, items: &[Item]) -> bool
-    ensures { result ≡ has_item_variables scope.now (items items.now) }
+fn has_item_variables(scope: &InScope, list: &[Item]) -> bool
+    ensures { result ≡ has_item_variables scope.now (items list.now) }
 {
-    for item in items {
+    for item in list {
         if !has_variables(scope, &item.template) {
             return false;
         }
@@ -121,6 +121,7 @@ impl Expansion {
     }
 
     #[cycle(outside)]
+    #[tactic(auto, using(crate::proofs::Outside::outside_atom, crate::proofs::Outside::outside_leaf, crate::proofs::Outside::outside_vector, sx_pattern::proofs::Levels::pair_opened))]
     fn first_outside(&mut self, form: &Syn) -> Result<Option<Syn>, Memory>
         ensures first { IfOk result (λ t. t ≡ first_outside self.old form.now) }
         ensures unchanged { self.new ≡ self.old }
@@ -145,6 +146,7 @@ impl Expansion {
     }
 
     #[cycle(outside)]
+    #[tactic(auto, using(crate::proofs::Outside::outside_list, sx_pattern::proofs::Sizes::elements_within, sx_pattern::proofs::Sizes::tail_smaller))]
     fn list_outside(&mut self, form: &Syn) -> Result<Option<Syn>, Memory>
         requires { is_pair form.now ≡ true }
         ensures first { IfOk result (λ t. t ≡ first_outside self.old form.now) }
@@ -158,6 +160,7 @@ impl Expansion {
     }
 
     #[cycle(outside)]
+    #[tactic(auto, using(crate::proofs::Outside::form_smaller))]
     fn all_outside(&mut self, forms: &[Syn]) -> Result<Option<Syn>, Memory>
         ensures first { IfOk result (λ t. t ≡ all_outside self.old forms.now) }
         ensures unchanged { self.new ≡ self.old }

@@ -1,10 +1,10 @@
 //! The state that the expansion of a library begins with (R6RS 7.1).
 
-ghost use Rattle.std.specs.Prelude.{◌≡◌, IfOk, OnOk, map};
+ghost use Rattle.std.specs.Prelude.{◌≡◌, ◌++◌, [], IfOk, OnOk, map};
 ghost use Rattle.sx_frames.specs.Scope.{adopted};
 ghost use Rattle.sx_eval.specs.Codes as table;
 ghost use Rattle.sx_standing.specs.Ready.{needed_records};
-ghost use Rattle.sx_standing.specs.Start.{second_name, first_frame, import_row, started};
+ghost use Rattle.sx_standing.specs.Start.{second_name, first_frame, import_row, rows_of, bindings_of, started};
 
 use crate::expansion::Expansion;
 use crate::in_scope::InScope;
@@ -19,6 +19,7 @@ use sx_base::name::{CodeNo, FrameNo, Label, Name, Names};
 use sx_base::symbol::Symbol;
 use sx_core::code::Code;
 use sx_core::labels::Labels;
+use sx_known::known::KnownBindings;
 use sx_scope::scope::Frames;
 use sx_stage::stage::Stage;
 use sx_tree::frame_row::FrameRow;
@@ -108,11 +109,91 @@ fn names_of(library: &Rc<LibName>) -> Result<Names, Memory>
     Ok(names)
 }
 
+/// What an expansion begins with, but for the codes.
+#[derive(Drop)]
+struct Beginning {
+    library: Rc<LibName>,
+    names: Names,
+    frames: Frames,
+    bindings: KnownBindings,
+}
+
+#[tactic(auto, using(crate::proofs::Adopted::adopted_append))]
+fn begin(
+    alloc: Global,
+    library: LibName,
+    earlier: &ReadyRecords,
+    needs: &[bool],
+    imports: &[(Symbol, Label)],
+) -> Result<Beginning, Memory>
+    ensures library { IfOk result (λ b. b.library.value ≡ library) }
+    ensures names { IfOk result (λ b. b.names ≡ second_name library) }
+    ensures frames { IfOk result (λ b. b.frames ≡ adopted [] (rows_of (needed_records needs.now earlier.now) ++ map (import_row (first_frame library)) imports.now)) }
+    ensures bindings { IfOk result (λ b. b.bindings ≡ bindings_of (needed_records needs.now earlier.now)) }
+{
+    let library = Rc::new(alloc, library)?;
+    let names = names_of(&library)?;
+    let frame = frame_of(&library)?;
+    let marks = marks_of(alloc, needs)?;
+    let mut frames = earlier.frames(alloc, marks.clone()?)?;
+    let bindings = earlier.bindings(alloc, marks)?;
+    adopt_imports(alloc, &mut frames, &frame, imports)?;
+    Ok(Beginning {
+        library,
+        names,
+        frames,
+        bindings,
+    })
+}
+
+/// The state before the first form. It takes no memory.
+fn expansion_with(
+    alloc: Global,
+    beginning: Beginning,
+    codes: IndexMap<CodeNo, Rc<Code>>,
+) -> Expansion
+    ensures { result ≡ record {
+      library = beginning.library.value;
+      names = beginning.names;
+      frames = beginning.frames;
+      bindings = beginning.bindings;
+      exports = [];
+      assigned = [];
+      uses_left = 1000000;
+      index = 0;
+      scope = [];
+      cells = [];
+      codes = table.seen codes.entries;
+      globals = [];
+      evaluated = [];
+      keywords = [];
+      spent = 0;
+    } }
+{
+    let Beginning {
+        library,
+        names,
+        frames,
+        bindings,
+    } = beginning;
+    Expansion {
+        alloc,
+        library,
+        stage: Stage::new(alloc, names, frames, codes),
+        bindings,
+        exports: Labels::new(alloc),
+        assigned: Labels::new(alloc),
+        uses_left: MOST_USES,
+        index: 0,
+        scope: InScope::new(alloc),
+    }
+}
+
 impl Expansion {
     /// The state that the expansion of a library begins with. The records before the library are those of the
     /// earlier ones that are marked, and the imports are names with their labels. The codes are those of procedures
     /// that are texts. Two imports of one name are refused as want of memory is.
-    #[tactic(auto, unfolding(crate::specs::Start::started), using(crate::proofs::Adopted::adopted_append))]
+    #[tactic(auto, unfolding(crate::specs::Start::started))]
     pub fn start(
         alloc: Global,
         library: LibName,
@@ -123,24 +204,10 @@ impl Expansion {
     ) -> Result<Expansion, Memory>
         ensures { IfOk result (λ e. e ≡ started library (needed_records needs.now earlier.now) imports.now (table.seen codes.entries)) }
     {
-        let library = Rc::new(alloc, library)?;
-        let names = names_of(&library)?;
-        let frame = frame_of(&library)?;
-        let marks = marks_of(alloc, needs)?;
-        let mut frames = earlier.frames(alloc, marks.clone()?)?;
-        let bindings = earlier.bindings(alloc, marks)?;
-        adopt_imports(alloc, &mut frames, &frame, imports)?;
-        Ok(Expansion {
-            alloc,
-            library,
-            stage: Stage::new(alloc, names, frames, codes),
-            bindings,
-            exports: Labels::new(alloc),
-            assigned: Labels::new(alloc),
-            uses_left: MOST_USES,
-            index: 0,
-            scope: InScope::new(alloc),
-        })
+        match begin(alloc, library, earlier, needs, imports) {
+            Ok(beginning) => Ok(expansion_with(alloc, beginning, codes)),
+            Err(memory) => Err(memory),
+        }
     }
 
     /// The library's frame, which holds imports and definitions.

@@ -2,82 +2,112 @@ use Rattle.std.proofs.Common.{◌≡◌, refl}
 use Rattle.std.proofs.lemmas.Result.{err_from_is_err_and}
 use Rattle.std.proofs.lemmas.List.{map-id}
 use Rattle.sx_base.proofs.Loops.{each_on, each_stops, each_done, gather_on, gather_stops, gather_done}
-use Rattle.sx_stage.specs.Libraries.{earlier_in}
 use Rattle.sx_expand.specs.Body.{finish_one}
-use Rattle.sx_expand.specs.Expression.{inside, one_case, one_init}
+use Rattle.sx_expand.specs.Expression.{inside, one_case, one_init, pattern_clause}
+use Rattle.sx_expand.specs.Keywords.{keyword_in}
 use Rattle.sx_expand.proofs.+form.Goals as goal
 
 pub expression::in_order-loop-form-init : goal.expression::in_order-loop-form-init
-expression::in_order-loop-form-init g h t c = rw (c.new-done.ensures.items, map-id c.args.forms.now) refl
+expression::in_order-loop-form-init g t c = rw (c.new-done.ensures.items, map-id c.args.forms.now) refl
 
 pub expression::in_order-returns-in_err-core : goal.expression::in_order-returns-in_err-core
-expression::in_order-returns-in_err-core g h t c =
+expression::in_order-returns-in_err-core g t c =
     let p = err_from_is_err_and c.from_residual.result c.from_residual.ensures.1 in
-    rw (p.1, p.2) (each_stops (λ x. x) ((inside (earlier_in c.args.means.now.earlier) c.args.room).form c.args.place.now c.args.level c.args.depth) c.loop-form.done.items c.args.forms.now c.loop-form.form-index c.form-item.result c.loop-form.state _ c.in_err-core.field-0.0 c.loop-form-test.true c.form-item.is c.in_err-core.ensures c.loop-form.invariant)
+    rw (p.1, p.2) (each_stops (λ x. x) ((inside (g.M.Transformers.records c.args.means.now) c.args.room).form c.args.place.now c.args.level c.args.depth) c.loop-form.done.items c.args.forms.now c.loop-form.form-index c.form-item.result c.loop-form.state _ c.in_err-core.field-0.0 c.loop-form-test.true c.form-item.is c.in_err-core.ensures c.loop-form.invariant)
 
 pub expression::in_order-loop-form-preserved : goal.expression::in_order-loop-form-preserved
-expression::in_order-loop-form-preserved g h t c =
-    rw c.in_ok-push.ensures.items (each_on (λ x. x) ((inside (earlier_in c.args.means.now.earlier) c.args.room).form c.args.place.now c.args.level c.args.depth) c.loop-form.done.items c.args.forms.now c.loop-form.form-index c.form-item.result c.loop-form.state _ c.in_ok-core.core c.expression.new.state c.loop-form-test.true c.form-item.is c.in_ok-core.ensures c.loop-form.invariant)
+expression::in_order-loop-form-preserved g t c =
+    rw c.in_ok-push.ensures.items (each_on (λ x. x) ((inside (g.M.Transformers.records c.args.means.now) c.args.room).form c.args.place.now c.args.level c.args.depth) c.loop-form.done.items c.args.forms.now c.loop-form.form-index c.form-item.result c.loop-form.state _ c.in_ok-core.core c.expression.new.state c.loop-form-test.true c.form-item.is c.in_ok-core.ensures c.loop-form.invariant)
 
 pub expression::in_order-returns : goal.expression::in_order-returns
-expression::in_order-returns g h t c = each_done (λ x. x) ((inside (earlier_in c.args.means.now.earlier) c.args.room).form c.args.place.now c.args.level c.args.depth) c.loop-form.done.items c.args.forms.now c.loop-form.form-index c.loop-form.state _ c.loop-form-test.false c.loop-form.invariant
+expression::in_order-returns g t c = each_done (λ x. x) ((inside (g.M.Transformers.records c.args.means.now) c.args.room).form c.args.place.now c.args.level c.args.depth) c.loop-form.done.items c.args.forms.now c.loop-form.form-index c.loop-form.state _ c.loop-form-test.false c.loop-form.invariant
 
 pub expression::all_cases-loop-case-init : goal.expression::all_cases-loop-case-init
-expression::all_cases-loop-case-init g h t c = rw (c.new-done.ensures.items, map-id c.args.cases.now) refl
+expression::all_cases-loop-case-init g t c = rw (c.new-done.ensures.items, map-id c.args.cases.now) refl
 
 pub expression::all_cases-returns-in_err-one : goal.expression::all_cases-returns-in_err-one
-expression::all_cases-returns-in_err-one g h t c =
+expression::all_cases-returns-in_err-one g t c =
     let p = err_from_is_err_and c.from_residual.result c.from_residual.ensures.1 in
-    rw (p.1, p.2) (each_stops (λ x. x) (one_case (inside (earlier_in c.args.means.now.earlier) c.args.room) c.args.place.now c.args.level c.args.depth c.args.form.now) c.loop-case.done.items c.args.cases.now c.loop-case.case-index c.case-item.result c.loop-case.state _ c.in_err-one.field-0.0 c.loop-case-test.true c.case-item.is (rw c.as_slice.ensures at c.in_err-one.ensures) c.loop-case.invariant)
+    rw (p.1, p.2) (each_stops (λ x. x) (one_case (inside (g.M.Transformers.records c.args.means.now) c.args.room) c.args.place.now c.args.level c.args.depth c.args.form.now) c.loop-case.done.items c.args.cases.now c.loop-case.case-index c.case-item.result c.loop-case.state _ c.in_err-one.field-0.0 c.loop-case-test.true c.case-item.is (rw c.as_slice.ensures at c.in_err-one.ensures) c.loop-case.invariant)
 
 pub expression::all_cases-loop-case-preserved : goal.expression::all_cases-loop-case-preserved
-expression::all_cases-loop-case-preserved g h t c =
-    rw c.in_ok-push.ensures.items (each_on (λ x. x) (one_case (inside (earlier_in c.args.means.now.earlier) c.args.room) c.args.place.now c.args.level c.args.depth c.args.form.now) c.loop-case.done.items c.args.cases.now c.loop-case.case-index c.case-item.result c.loop-case.state _ c.in_ok-one.one c.lambda_case.new.state c.loop-case-test.true c.case-item.is (rw c.as_slice.ensures at c.in_ok-one.ensures) c.loop-case.invariant)
+expression::all_cases-loop-case-preserved g t c =
+    rw c.in_ok-push.ensures.items (each_on (λ x. x) (one_case (inside (g.M.Transformers.records c.args.means.now) c.args.room) c.args.place.now c.args.level c.args.depth c.args.form.now) c.loop-case.done.items c.args.cases.now c.loop-case.case-index c.case-item.result c.loop-case.state _ c.in_ok-one.one c.lambda_case.new.state c.loop-case-test.true c.case-item.is (rw c.as_slice.ensures at c.in_ok-one.ensures) c.loop-case.invariant)
 
 pub expression::all_cases-returns : goal.expression::all_cases-returns
-expression::all_cases-returns g h t c = each_done (λ x. x) (one_case (inside (earlier_in c.args.means.now.earlier) c.args.room) c.args.place.now c.args.level c.args.depth c.args.form.now) c.loop-case.done.items c.args.cases.now c.loop-case.case-index c.loop-case.state _ c.loop-case-test.false c.loop-case.invariant
+expression::all_cases-returns g t c = each_done (λ x. x) (one_case (inside (g.M.Transformers.records c.args.means.now) c.args.room) c.args.place.now c.args.level c.args.depth c.args.form.now) c.loop-case.done.items c.args.cases.now c.loop-case.case-index c.loop-case.state _ c.loop-case-test.false c.loop-case.invariant
 
 pub expression::all_inits-loop-one-init : goal.expression::all_inits-loop-one-init
-expression::all_inits-loop-one-init g h t c = rw (c.new-done.ensures.items, map-id c.args.bound.now) refl
+expression::all_inits-loop-one-init g t c = rw (c.new-done.ensures.items, map-id c.args.bound.now) refl
 
 pub expression::all_inits-returns-in_err-init : goal.expression::all_inits-returns-in_err-init
-expression::all_inits-returns-in_err-init g h t c =
+expression::all_inits-returns-in_err-init g t c =
     let p = err_from_is_err_and c.from_residual.result c.from_residual.ensures.1 in
-    rw (p.1, p.2) (each_stops (λ x. x) (one_init (inside (earlier_in c.args.means.now.earlier) c.args.room) c.args.place.now c.args.level c.args.depth c.args.frame.now) c.loop-one.done.items c.args.bound.now c.loop-one.one-index c.one-item.result c.loop-one.state _ c.in_err-init.field-0.0 c.loop-one-test.true c.one-item.is c.in_err-init.ensures c.loop-one.invariant)
+    rw (p.1, p.2) (each_stops (λ x. x) (one_init (inside (g.M.Transformers.records c.args.means.now) c.args.room) c.args.place.now c.args.level c.args.depth c.args.frame.now) c.loop-one.done.items c.args.bound.now c.loop-one.one-index c.one-item.result c.loop-one.state _ c.in_err-init.field-0.0 c.loop-one-test.true c.one-item.is c.in_err-init.ensures c.loop-one.invariant)
 
 pub expression::all_inits-loop-one-preserved : goal.expression::all_inits-loop-one-preserved
-expression::all_inits-loop-one-preserved g h t c =
-    rw c.in_ok-push.ensures.items (each_on (λ x. x) (one_init (inside (earlier_in c.args.means.now.earlier) c.args.room) c.args.place.now c.args.level c.args.depth c.args.frame.now) c.loop-one.done.items c.args.bound.now c.loop-one.one-index c.one-item.result c.loop-one.state _ c.in_ok-init.init c.one_init.new.state c.loop-one-test.true c.one-item.is c.in_ok-init.ensures c.loop-one.invariant)
+expression::all_inits-loop-one-preserved g t c =
+    rw c.in_ok-push.ensures.items (each_on (λ x. x) (one_init (inside (g.M.Transformers.records c.args.means.now) c.args.room) c.args.place.now c.args.level c.args.depth c.args.frame.now) c.loop-one.done.items c.args.bound.now c.loop-one.one-index c.one-item.result c.loop-one.state _ c.in_ok-init.init c.one_init.new.state c.loop-one-test.true c.one-item.is c.in_ok-init.ensures c.loop-one.invariant)
 
 pub expression::all_inits-returns : goal.expression::all_inits-returns
-expression::all_inits-returns g h t c = each_done (λ x. x) (one_init (inside (earlier_in c.args.means.now.earlier) c.args.room) c.args.place.now c.args.level c.args.depth c.args.frame.now) c.loop-one.done.items c.args.bound.now c.loop-one.one-index c.loop-one.state _ c.loop-one-test.false c.loop-one.invariant
+expression::all_inits-returns g t c = each_done (λ x. x) (one_init (inside (g.M.Transformers.records c.args.means.now) c.args.room) c.args.place.now c.args.level c.args.depth c.args.frame.now) c.loop-one.done.items c.args.bound.now c.loop-one.one-index c.loop-one.state _ c.loop-one-test.false c.loop-one.invariant
 
 pub body::finish_all-loop-one-init : goal.body::finish_all-loop-one-init
-body::finish_all-loop-one-init g h t c = rw (c.new-lines.ensures.items, map-id c.args.waiting.now) refl
+body::finish_all-loop-one-init g t c = rw (c.new-lines.ensures.items, map-id c.args.waiting.now) refl
 
 pub body::finish_all-returns-in_err-line : goal.body::finish_all-returns-in_err-line
-body::finish_all-returns-in_err-line g h t c =
+body::finish_all-returns-in_err-line g t c =
     let p = err_from_is_err_and c.from_residual.result c.from_residual.ensures.1 in
-    rw (p.1, p.2) (each_stops (λ x. x) (finish_one (inside (earlier_in c.args.means.now.earlier) c.args.room) c.args.level) c.loop-one.lines.items c.args.waiting.now c.loop-one.one-index c.one-item.result c.loop-one.state _ c.in_err-line.field-0.0 c.loop-one-test.true c.one-item.is c.in_err-line.ensures c.loop-one.invariant)
+    rw (p.1, p.2) (each_stops (λ x. x) (finish_one (inside (g.M.Transformers.records c.args.means.now) c.args.room) c.args.level) c.loop-one.lines.items c.args.waiting.now c.loop-one.one-index c.one-item.result c.loop-one.state _ c.in_err-line.field-0.0 c.loop-one-test.true c.one-item.is c.in_err-line.ensures c.loop-one.invariant)
 
 pub body::finish_all-loop-one-preserved : goal.body::finish_all-loop-one-preserved
-body::finish_all-loop-one-preserved g h t c =
-    rw c.in_ok-push.ensures.items (each_on (λ x. x) (finish_one (inside (earlier_in c.args.means.now.earlier) c.args.room) c.args.level) c.loop-one.lines.items c.args.waiting.now c.loop-one.one-index c.one-item.result c.loop-one.state _ c.in_ok-line.line c.finish_one.new.state c.loop-one-test.true c.one-item.is c.in_ok-line.ensures c.loop-one.invariant)
+body::finish_all-loop-one-preserved g t c =
+    rw c.in_ok-push.ensures.items (each_on (λ x. x) (finish_one (inside (g.M.Transformers.records c.args.means.now) c.args.room) c.args.level) c.loop-one.lines.items c.args.waiting.now c.loop-one.one-index c.one-item.result c.loop-one.state _ c.in_ok-line.line c.finish_one.new.state c.loop-one-test.true c.one-item.is c.in_ok-line.ensures c.loop-one.invariant)
 
 pub body::finish_all-returns : goal.body::finish_all-returns
-body::finish_all-returns g h t c = each_done (λ x. x) (finish_one (inside (earlier_in c.args.means.now.earlier) c.args.room) c.args.level) c.loop-one.lines.items c.args.waiting.now c.loop-one.one-index c.loop-one.state _ c.loop-one-test.false c.loop-one.invariant
+body::finish_all-returns g t c = each_done (λ x. x) (finish_one (inside (g.M.Transformers.records c.args.means.now) c.args.room) c.args.level) c.loop-one.lines.items c.args.waiting.now c.loop-one.one-index c.loop-one.state _ c.loop-one-test.false c.loop-one.invariant
 
 pub body::splice-loop-form-init : goal.body::splice-loop-form-init
-body::splice-loop-form-init g h t c = rw (map-id c.args.forms.now) refl
+body::splice-loop-form-init g t c = rw (map-id c.args.forms.now) refl
 
 pub body::splice-returns-in_err-item : goal.body::splice-returns-in_err-item
-body::splice-returns-in_err-item g h t c =
+body::splice-returns-in_err-item g t c =
     let p = err_from_is_err_and c.from_residual.result c.from_residual.ensures.1 in
-    rw (p.1, p.2) (gather_stops (λ x. x) ((inside (earlier_in c.args.means.now.earlier) c.args.room).item c.args.at.now c.args.depth) c.args.forms.now c.loop-form.form-index c.form-item.result c.loop-form.taken c.loop-form.state _ c.in_err-item.field-0.0 c.loop-form-test.true c.form-item.is c.in_err-item.ensures c.loop-form.invariant)
+    rw (p.1, p.2) (gather_stops (λ x. x) ((inside (g.M.Transformers.records c.args.means.now) c.args.room).item c.args.at.now c.args.depth) c.args.forms.now c.loop-form.form-index c.form-item.result c.loop-form.taken c.loop-form.state _ c.in_err-item.field-0.0 c.loop-form-test.true c.form-item.is c.in_err-item.ensures c.loop-form.invariant)
 
 pub body::splice-loop-form-preserved : goal.body::splice-loop-form-preserved
-body::splice-loop-form-preserved g h t c =
-    gather_on (λ x. x) ((inside (earlier_in c.args.means.now.earlier) c.args.room).item c.args.at.now c.args.depth) c.args.forms.now c.loop-form.form-index c.form-item.result c.loop-form.taken c.loop-form.state _ c.item.new.taken c.item.new.state c.loop-form-test.true c.form-item.is c.in_ok-item.ensures c.loop-form.invariant
+body::splice-loop-form-preserved g t c =
+    gather_on (λ x. x) ((inside (g.M.Transformers.records c.args.means.now) c.args.room).item c.args.at.now c.args.depth) c.args.forms.now c.loop-form.form-index c.form-item.result c.loop-form.taken c.loop-form.state _ c.item.new.taken c.item.new.state c.loop-form-test.true c.form-item.is c.in_ok-item.ensures c.loop-form.invariant
 
 pub body::splice-returns : goal.body::splice-returns
-body::splice-returns g h t c = gather_done (λ x. x) ((inside (earlier_in c.args.means.now.earlier) c.args.room).item c.args.at.now c.args.depth) c.args.forms.now c.loop-form.form-index c.loop-form.taken c.loop-form.state _ c.loop-form-test.false c.loop-form.invariant
+body::splice-returns g t c = gather_done (λ x. x) ((inside (g.M.Transformers.records c.args.means.now) c.args.room).item c.args.at.now c.args.depth) c.args.forms.now c.loop-form.form-index c.loop-form.taken c.loop-form.state _ c.loop-form-test.false c.loop-form.invariant
+
+pub keywords::all_keywords-loop-one-init : goal.keywords::all_keywords-loop-one-init
+keywords::all_keywords-loop-one-init g t c = rw (map-id c.args.bound.now) refl
+
+pub keywords::all_keywords-returns-in_err-keyword_in : goal.keywords::all_keywords-returns-in_err-keyword_in
+keywords::all_keywords-returns-in_err-keyword_in g t c =
+    let p = err_from_is_err_and c.from_residual.result c.from_residual.ensures.1 in
+    rw (p.1, p.2) (gather_stops (λ x. x) (keyword_in (inside (g.M.Transformers.records c.args.means.now) c.args.room) c.args.place.now c.args.level c.args.depth c.args.recursive c.args.frame.now) c.args.bound.now c.loop-one.one-index c.one-item.result tt c.loop-one.state _ c.in_err-keyword_in.field-0.0 c.loop-one-test.true c.one-item.is c.in_err-keyword_in.ensures c.loop-one.invariant)
+
+pub keywords::all_keywords-loop-one-preserved : goal.keywords::all_keywords-loop-one-preserved
+keywords::all_keywords-loop-one-preserved g t c =
+    gather_on (λ x. x) (keyword_in (inside (g.M.Transformers.records c.args.means.now) c.args.room) c.args.place.now c.args.level c.args.depth c.args.recursive c.args.frame.now) c.args.bound.now c.loop-one.one-index c.one-item.result tt c.loop-one.state _ tt c.keyword_in.new.state c.loop-one-test.true c.one-item.is c.in_ok-keyword_in.ensures c.loop-one.invariant
+
+pub keywords::all_keywords-returns : goal.keywords::all_keywords-returns
+keywords::all_keywords-returns g t c = gather_done (λ x. x) (keyword_in (inside (g.M.Transformers.records c.args.means.now) c.args.room) c.args.place.now c.args.level c.args.depth c.args.recursive c.args.frame.now) c.args.bound.now c.loop-one.one-index tt c.loop-one.state _ c.loop-one-test.false c.loop-one.invariant
+
+pub patterns::all_clauses-loop-case-init : goal.patterns::all_clauses-loop-case-init
+patterns::all_clauses-loop-case-init g t c = rw (c.new-done.ensures.items, map-id c.args.cases.now) refl
+
+pub patterns::all_clauses-returns-in_err-one : goal.patterns::all_clauses-returns-in_err-one
+patterns::all_clauses-returns-in_err-one g t c =
+    let p = err_from_is_err_and c.from_residual.result c.from_residual.ensures.1 in
+    rw (p.1, p.2) (each_stops (λ x. x) (pattern_clause (inside (g.M.Transformers.records c.args.means.now) c.args.room) c.args.place.now c.args.level c.args.depth c.args.literals.now) c.loop-case.done.items c.args.cases.now c.loop-case.case-index c.case-item.result c.loop-case.state _ c.in_err-one.field-0.0 c.loop-case-test.true c.case-item.is c.in_err-one.ensures c.loop-case.invariant)
+
+pub patterns::all_clauses-loop-case-preserved : goal.patterns::all_clauses-loop-case-preserved
+patterns::all_clauses-loop-case-preserved g t c =
+    rw c.in_ok-push.ensures.items (each_on (λ x. x) (pattern_clause (inside (g.M.Transformers.records c.args.means.now) c.args.room) c.args.place.now c.args.level c.args.depth c.args.literals.now) c.loop-case.done.items c.args.cases.now c.loop-case.case-index c.case-item.result c.loop-case.state _ c.in_ok-one.one c.pattern_clause.new.state c.loop-case-test.true c.case-item.is c.in_ok-one.ensures c.loop-case.invariant)
+
+pub patterns::all_clauses-returns : goal.patterns::all_clauses-returns
+patterns::all_clauses-returns g t c = each_done (λ x. x) (pattern_clause (inside (g.M.Transformers.records c.args.means.now) c.args.room) c.args.place.now c.args.level c.args.depth c.args.literals.now) c.loop-case.done.items c.args.cases.now c.loop-case.case-index c.loop-case.state _ c.loop-case-test.false c.loop-case.invariant

@@ -1,139 +1,138 @@
 use Rattle.std.proofs.Common.{◌≡◌, ◌+◌, ◌*◌, drop, map}
 use Rattle.sx_base.specs.Act.{each, gather}
 use Rattle.sx_expand.specs.Body.{splice, finish_one, finish_all}
-use Rattle.sx_stage.specs.Libraries.{earlier_in}
 use Rattle.sx_expand.specs.Expression.{inside, in_order, one_case, all_cases, one_init, all_inits, pattern_clause, all_clauses}
 use Rattle.sx_expand.specs.Keywords.{keyword_in, all_keywords}
 use Rattle.sx_expand.proofs.+form.Given as goal
 
 abbrev pub invariant-expression::in_order-loop-form : goal.invariant-expression::in_order-loop-form
-invariant-expression::in_order-loop-form g h l = each ((inside (earlier_in l.means.earlier) l.room).form l.place l.level l.depth) l.done.items (map (λ t. t) (drop l.form-index l.forms)) l.state ≡ in_order (inside (earlier_in l.means.earlier) l.room) l.place l.level l.depth l.forms l.fn.state
+invariant-expression::in_order-loop-form g l = each ((inside (g.M.Transformers.records l.means) l.room).form l.place l.level l.depth) l.done.items (map (λ t. t) (drop l.form-index l.forms)) l.state ≡ in_order (inside (g.M.Transformers.records l.means) l.room) l.place l.level l.depth l.forms l.fn.state
 
 abbrev pub invariant-expression::all_cases-loop-case : goal.invariant-expression::all_cases-loop-case
-invariant-expression::all_cases-loop-case g h l = each (one_case (inside (earlier_in l.means.earlier) l.room) l.place l.level l.depth l.form) l.done.items (map (λ c. c) (drop l.case-index l.cases)) l.state ≡ all_cases (inside (earlier_in l.means.earlier) l.room) l.place l.level l.depth l.form l.cases l.fn.state
+invariant-expression::all_cases-loop-case g l = each (one_case (inside (g.M.Transformers.records l.means) l.room) l.place l.level l.depth l.form) l.done.items (map (λ c. c) (drop l.case-index l.cases)) l.state ≡ all_cases (inside (g.M.Transformers.records l.means) l.room) l.place l.level l.depth l.form l.cases l.fn.state
 
 abbrev pub invariant-expression::all_inits-loop-one : goal.invariant-expression::all_inits-loop-one
-invariant-expression::all_inits-loop-one g h l = each (one_init (inside (earlier_in l.means.earlier) l.room) l.place l.level l.depth l.frame) l.done.items (map (λ b. b) (drop l.one-index l.bound)) l.state ≡ all_inits (inside (earlier_in l.means.earlier) l.room) l.place l.level l.depth l.frame l.bound l.fn.state
+invariant-expression::all_inits-loop-one g l = each (one_init (inside (g.M.Transformers.records l.means) l.room) l.place l.level l.depth l.frame) l.done.items (map (λ b. b) (drop l.one-index l.bound)) l.state ≡ all_inits (inside (g.M.Transformers.records l.means) l.room) l.place l.level l.depth l.frame l.bound l.fn.state
 
 abbrev pub invariant-body::finish_all-loop-one : goal.invariant-body::finish_all-loop-one
-invariant-body::finish_all-loop-one g h l = each (finish_one (inside (earlier_in l.means.earlier) l.room) l.level) l.lines.items (map (λ w. w) (drop l.one-index l.waiting)) l.state ≡ finish_all (inside (earlier_in l.means.earlier) l.room) l.level l.waiting l.fn.state
+invariant-body::finish_all-loop-one g l = each (finish_one (inside (g.M.Transformers.records l.means) l.room) l.level) l.lines.items (map (λ w. w) (drop l.one-index l.waiting)) l.state ≡ finish_all (inside (g.M.Transformers.records l.means) l.room) l.level l.waiting l.fn.state
 
 abbrev pub decreases-expression::expression : goal.decreases-expression::expression
-decreases-expression::expression g h l = 32 * l.room + 0
+decreases-expression::expression g l = 32 * l.room + 0
 
 abbrev pub decreases-expression::procedure : goal.decreases-expression::procedure
-decreases-expression::procedure g h l = 32 * l.room + 0
+decreases-expression::procedure g l = 32 * l.room + 0
 
 abbrev pub decreases-expression::in_order : goal.decreases-expression::in_order
-decreases-expression::in_order g h l = 32 * l.room + 1
+decreases-expression::in_order g l = 32 * l.room + 1
 
 abbrev pub decreases-expression::application : goal.decreases-expression::application
-decreases-expression::application g h l = 32 * l.room + 2
+decreases-expression::application g l = 32 * l.room + 2
 
 abbrev pub decreases-expression::alternate : goal.decreases-expression::alternate
-decreases-expression::alternate g h l = 32 * l.room + 1
+decreases-expression::alternate g l = 32 * l.room + 1
 
 abbrev pub decreases-expression::conditional : goal.decreases-expression::conditional
-decreases-expression::conditional g h l = 32 * l.room + 2
+decreases-expression::conditional g l = 32 * l.room + 2
 
 abbrev pub decreases-expression::set : goal.decreases-expression::set
-decreases-expression::set g h l = 32 * l.room + 1
+decreases-expression::set g l = 32 * l.room + 1
 
 abbrev pub decreases-expression::in_sequence : goal.decreases-expression::in_sequence
-decreases-expression::in_sequence g h l = 32 * l.room + 2
+decreases-expression::in_sequence g l = 32 * l.room + 2
 
 abbrev pub decreases-expression::all_inits : goal.decreases-expression::all_inits
-decreases-expression::all_inits g h l = 32 * l.room + 2
+decreases-expression::all_inits g l = 32 * l.room + 2
 
 abbrev pub decreases-expression::one_init : goal.decreases-expression::one_init
-decreases-expression::one_init g h l = 32 * l.room + 1
+decreases-expression::one_init g l = 32 * l.room + 1
 
 abbrev pub decreases-body::finish_one : goal.decreases-body::finish_one
-decreases-body::finish_one g h l = 32 * l.room + 2
+decreases-body::finish_one g l = 32 * l.room + 2
 
 abbrev pub decreases-body::value_of : goal.decreases-body::value_of
-decreases-body::value_of g h l = 32 * l.room + 1
+decreases-body::value_of g l = 32 * l.room + 1
 
 abbrev pub decreases-body::finish_all : goal.decreases-body::finish_all
-decreases-body::finish_all g h l = 32 * l.room + 3
+decreases-body::finish_all g l = 32 * l.room + 3
 
 abbrev pub decreases-body::finish : goal.decreases-body::finish
-decreases-body::finish g h l = 32 * l.room + 4
+decreases-body::finish g l = 32 * l.room + 4
 
 abbrev pub decreases-body::body : goal.decreases-body::body
-decreases-body::body g h l = 32 * l.room + 5
+decreases-body::body g l = 32 * l.room + 5
 
 abbrev pub decreases-expression::lambda_case : goal.decreases-expression::lambda_case
-decreases-expression::lambda_case g h l = 32 * l.room + 6
+decreases-expression::lambda_case g l = 32 * l.room + 6
 
 abbrev pub decreases-expression::all_cases : goal.decreases-expression::all_cases
-decreases-expression::all_cases g h l = 32 * l.room + 7
+decreases-expression::all_cases g l = 32 * l.room + 7
 
 abbrev pub decreases-expression::case_lambda : goal.decreases-expression::case_lambda
-decreases-expression::case_lambda g h l = 32 * l.room + 8
+decreases-expression::case_lambda g l = 32 * l.room + 8
 
 abbrev pub decreases-expression::lambda : goal.decreases-expression::lambda
-decreases-expression::lambda g h l = 32 * l.room + 8
+decreases-expression::lambda g l = 32 * l.room + 8
 
 abbrev pub decreases-expression::letrec_form : goal.decreases-expression::letrec_form
-decreases-expression::letrec_form g h l = 32 * l.room + 8
+decreases-expression::letrec_form g l = 32 * l.room + 8
 
 abbrev pub decreases-expression::perform : goal.decreases-expression::perform
-decreases-expression::perform g h l = 32 * l.room + 10
+decreases-expression::perform g l = 32 * l.room + 10
 
 abbrev pub decreases-expression::form_at : goal.decreases-expression::form_at
-decreases-expression::form_at g h l = 32 * l.room + 11
+decreases-expression::form_at g l = 32 * l.room + 11
 
 abbrev pub invariant-body::splice-loop-form : goal.invariant-body::splice-loop-form
-invariant-body::splice-loop-form g h l = gather ((inside (earlier_in l.means.earlier) l.room).item l.at l.depth) l.taken (map (λ t. t) (drop l.form-index l.forms)) l.state ≡ splice (inside (earlier_in l.means.earlier) l.room) l.at l.depth l.fn.taken l.forms l.fn.state
+invariant-body::splice-loop-form g l = gather ((inside (g.M.Transformers.records l.means) l.room).item l.at l.depth) l.taken (map (λ t. t) (drop l.form-index l.forms)) l.state ≡ splice (inside (g.M.Transformers.records l.means) l.room) l.at l.depth l.fn.taken l.forms l.fn.state
 
 abbrev pub decreases-body::item : goal.decreases-body::item
-decreases-body::item g h l = 32 * l.room + 0
+decreases-body::item g l = 32 * l.room + 0
 
 abbrev pub decreases-body::splice : goal.decreases-body::splice
-decreases-body::splice g h l = 32 * l.room + 1
+decreases-body::splice g l = 32 * l.room + 1
 
 abbrev pub decreases-body::item_at : goal.decreases-body::item_at
-decreases-body::item_at g h l = 32 * l.room + 8
+decreases-body::item_at g l = 32 * l.room + 8
 
 abbrev pub decreases-body::perform_item : goal.decreases-body::perform_item
-decreases-body::perform_item g h l = 32 * l.room + 7
+decreases-body::perform_item g l = 32 * l.room + 7
 
 abbrev pub decreases-keywords::keyword : goal.decreases-keywords::keyword
-decreases-keywords::keyword g h l = 32 * l.room + 1
+decreases-keywords::keyword g l = 32 * l.room + 1
 
 abbrev pub decreases-keywords::keyword_in : goal.decreases-keywords::keyword_in
-decreases-keywords::keyword_in g h l = 32 * l.room + 2
+decreases-keywords::keyword_in g l = 32 * l.room + 2
 
 abbrev pub decreases-keywords::all_keywords : goal.decreases-keywords::all_keywords
-decreases-keywords::all_keywords g h l = 32 * l.room + 3
+decreases-keywords::all_keywords g l = 32 * l.room + 3
 
 abbrev pub decreases-keywords::keywords : goal.decreases-keywords::keywords
-decreases-keywords::keywords g h l = 32 * l.room + 4
+decreases-keywords::keywords g l = 32 * l.room + 4
 
 abbrev pub decreases-keywords::with_keywords : goal.decreases-keywords::with_keywords
-decreases-keywords::with_keywords g h l = 32 * l.room + 5
+decreases-keywords::with_keywords g l = 32 * l.room + 5
 
 abbrev pub decreases-keywords::keywords_form : goal.decreases-keywords::keywords_form
-decreases-keywords::keywords_form g h l = 32 * l.room + 6
+decreases-keywords::keywords_form g l = 32 * l.room + 6
 
 abbrev pub decreases-keywords::define_syntax : goal.decreases-keywords::define_syntax
-decreases-keywords::define_syntax g h l = 32 * l.room + 2
+decreases-keywords::define_syntax g l = 32 * l.room + 2
 
 abbrev pub decreases-patterns::fender : goal.decreases-patterns::fender
-decreases-patterns::fender g h l = 32 * l.room + 1
+decreases-patterns::fender g l = 32 * l.room + 1
 
 abbrev pub decreases-patterns::pattern_clause : goal.decreases-patterns::pattern_clause
-decreases-patterns::pattern_clause g h l = 32 * l.room + 2
+decreases-patterns::pattern_clause g l = 32 * l.room + 2
 
 abbrev pub decreases-patterns::all_clauses : goal.decreases-patterns::all_clauses
-decreases-patterns::all_clauses g h l = 32 * l.room + 3
+decreases-patterns::all_clauses g l = 32 * l.room + 3
 
 abbrev pub decreases-patterns::syntax_case : goal.decreases-patterns::syntax_case
-decreases-patterns::syntax_case g h l = 32 * l.room + 4
+decreases-patterns::syntax_case g l = 32 * l.room + 4
 
 abbrev pub invariant-keywords::all_keywords-loop-one : goal.invariant-keywords::all_keywords-loop-one
-invariant-keywords::all_keywords-loop-one g h l = gather (keyword_in (inside (earlier_in l.means.earlier) l.room) l.place l.level l.depth l.recursive l.frame) tt (map (λ b. b) (drop l.one-index l.bound)) l.state ≡ all_keywords (inside (earlier_in l.means.earlier) l.room) l.place l.level l.depth l.recursive l.frame l.bound l.fn.state
+invariant-keywords::all_keywords-loop-one g l = gather (keyword_in (inside (g.M.Transformers.records l.means) l.room) l.place l.level l.depth l.recursive l.frame) tt (map (λ b. b) (drop l.one-index l.bound)) l.state ≡ all_keywords (inside (g.M.Transformers.records l.means) l.room) l.place l.level l.depth l.recursive l.frame l.bound l.fn.state
 
 abbrev pub invariant-patterns::all_clauses-loop-case : goal.invariant-patterns::all_clauses-loop-case
-invariant-patterns::all_clauses-loop-case g h l = each (pattern_clause (inside (earlier_in l.means.earlier) l.room) l.place l.level l.depth l.literals) l.done.items (map (λ c. c) (drop l.case-index l.cases)) l.state ≡ all_clauses (inside (earlier_in l.means.earlier) l.room) l.place l.level l.depth l.literals l.cases l.fn.state
+invariant-patterns::all_clauses-loop-case g l = each (pattern_clause (inside (g.M.Transformers.records l.means) l.room) l.place l.level l.depth l.literals) l.done.items (map (λ c. c) (drop l.case-index l.cases)) l.state ≡ all_clauses (inside (g.M.Transformers.records l.means) l.room) l.place l.level l.depth l.literals l.cases l.fn.state

@@ -1,6 +1,7 @@
 use Rattle.std.proofs.Common.{List, Ok, ap, subst, sym, ◌∙◌}
 use Rattle.sx_base.specs.Gives.{Gives}
 use Rattle.sx_core.specs.declared.record.LibRecord.{LibRecord}
+use Rattle.sx_eval.specs.Codes.{seen}
 use Rattle.sx_expand.specs.Expanding.{Expanding, ready}
 use Rattle.sx_standing.specs.Ready.{needed_records}
 use Rattle.sx_library.proofs.PlaceLemmas.{at_marks}
@@ -8,5 +9,5 @@ use Rattle.sx_library.proofs.library.expander_behind.Goals as goal
 
 pub returns : goal.returns
 returns c =
-    subst (λ (rs : List LibRecord). Gives (λ (e : Expanding). e) c.new.result (Ok (ready c.args.name c.args.path rs c.args.names.now)))
+    subst (λ (rs : List LibRecord). Gives (λ (e : Expanding). e) c.new.result (Ok (ready c.args.name c.args.path rs c.args.names.now (seen c.args.codes.entries))))
     (ap (needed_records c.args.needs.now) c.ready.ensures ∙ sym (at_marks c.args.needs.now c.args.records.now)) c.new.ensures

@@ -1,0 +1,30 @@
+//! Whole programs, and what is to come of each.
+//!
+//! A table is a text of cases, one empty line between two. A case has lines of comment that begin with `#`, the
+//! program `p.sps`, and behind `=> ` its core text without the first line, or the name of its fault and the words:
+//!
+//! ```text
+//! # a reference to a template's binder (libraries report 12.1)
+//! (import (rnrs))
+//! (define-syntax m (lambda (s) #'(lambda (x) x)))
+//! (list (m) §x)
+//! => Unbound x
+//! ```
+//!
+//! The sign `§`, which is no part of the text, stands before the place of the fault. Where there are more files, each
+//! stands under a line `file NAME`; a line `root DIR ..` names the directories in which libraries are looked for.
+//!
+//! What is expected was derived by hand from R6RS and from docs/DECISIONS.md. `case` reads a case, `outcome`
+//! runs its program through loading, expansion and core text over files in memory, and `checks` compares the two.
+#![tactic(auto)]
+
+#[cfg(test)]
+mod case;
+#[cfg(test)]
+mod checks;
+#[cfg(test)]
+mod outcome;
+#[cfg(test)]
+mod primitives;
+#[cfg(test)]
+mod tables;

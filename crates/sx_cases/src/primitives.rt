@@ -1,0 +1,55 @@
+use std::alloc::Global;
+use sx_base::memory::Memory;
+use sx_ops::basics::basics;
+use sx_ops::characters::characters;
+use sx_ops::data::{data, trees};
+use sx_ops::equality::equality;
+use sx_ops::lists::{appended, gathered, indexed, lists};
+use sx_ops::numbers::numbers;
+use sx_ops::parts::{parts, unpacked};
+use sx_ops::raised::raising;
+use sx_ops::strings::{number_strings, string_comparisons, strings};
+use sx_ops::syntax::{identifiers, temporaries};
+use sx_prims::table::{PrimRow, PrimTable};
+
+// The rows of data and numbers, each with its function.
+fn first_rows(alloc: Global, rows: &mut Vec<PrimRow>) -> Result<(), Memory> {
+    rows.push(PrimRow::new(0, Box::new(alloc, basics)?))?;
+    rows.push(PrimRow::new(1, Box::new(alloc, numbers)?))?;
+    rows.push(PrimRow::new(2, Box::new(alloc, characters)?))?;
+    rows.push(PrimRow::new(3, Box::new(alloc, parts)?))?;
+    rows.push(PrimRow::new(4, Box::new(alloc, gathered)?))?;
+    rows.push(PrimRow::new(5, Box::new(alloc, lists)?))?;
+    Ok(())
+}
+
+// The rows of lists, vectors and strings.
+fn middle_rows(alloc: Global, rows: &mut Vec<PrimRow>) -> Result<(), Memory> {
+    rows.push(PrimRow::new(6, Box::new(alloc, appended)?))?;
+    rows.push(PrimRow::new(7, Box::new(alloc, indexed)?))?;
+    rows.push(PrimRow::new(8, Box::new(alloc, unpacked)?))?;
+    rows.push(PrimRow::new(9, Box::new(alloc, strings)?))?;
+    rows.push(PrimRow::new(10, Box::new(alloc, number_strings)?))?;
+    rows.push(PrimRow::new(11, Box::new(alloc, string_comparisons)?))?;
+    Ok(())
+}
+
+// The rows of equality and syntax objects.
+fn last_rows(alloc: Global, rows: &mut Vec<PrimRow>) -> Result<(), Memory> {
+    rows.push(PrimRow::new(12, Box::new(alloc, equality)?))?;
+    rows.push(PrimRow::new(13, Box::new(alloc, identifiers)?))?;
+    rows.push(PrimRow::new(14, Box::new(alloc, data)?))?;
+    rows.push(PrimRow::new(15, Box::new(alloc, trees)?))?;
+    rows.push(PrimRow::new(16, Box::new(alloc, temporaries)?))?;
+    rows.push(PrimRow::new(17, Box::new(alloc, raising)?))?;
+    Ok(())
+}
+
+/// All primitives, or nothing where the rows are out of order.
+pub fn primitives(alloc: Global) -> Result<Option<PrimTable>, Memory> {
+    let mut rows = Vec::new(alloc);
+    first_rows(alloc, &mut rows)?;
+    middle_rows(alloc, &mut rows)?;
+    last_rows(alloc, &mut rows)?;
+    Ok(PrimTable::fill(rows).ok())
+}

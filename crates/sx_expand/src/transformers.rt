@@ -1,0 +1,95 @@
+//! What evaluates transformers during an expansion.
+
+ghost use Rattle.std.specs.Prelude.{List};
+ghost use Rattle.sx_base.specs.Act.{GivesAfter};
+ghost use Rattle.sx_core.specs.declared.record.LibRecord.{LibRecord};
+ghost use Rattle.sx_stage.specs.Libraries.{earlier_in};
+ghost use Rattle.sx_standing.specs.Uses.{use_keyword, asks_variable, finish_keyword};
+
+use std::sync::ledger::Ledger;
+use sx_base::fault::Stop;
+use sx_base::name::{FrameNo, Label};
+use sx_base::span::Span;
+use sx_core::code::Core;
+use sx_standing::expansion::Expansion;
+use sx_standing::means::{Counts, Means};
+use sx_syntax::syn::Syn;
+
+/// What has the transformers of keywords evaluated and called (R6RS libraries 12.3). Expansion asks for no more of
+/// the primitives than this: its functions call one another, and the check takes no boxed closure in such a
+/// cycle.
+pub trait Transformers {
+    /// The records before the library.
+    ghost records: { Self → List LibRecord };
+
+    /// What comes of a use of a keyword, with the frame of a body where it stands in one. Faults of evaluation
+    /// stand at the place.
+    fn use_keyword<N: Ledger, L: Ledger>(
+        &self,
+        state: &mut Expansion,
+        form: &Syn,
+        place: &Span,
+        label: &Label,
+        frame: Option<FrameNo>,
+        counts: &mut Counts<N, L>,
+    ) -> Result<Syn, Stop>
+        ensures { GivesAfter (λ t. t) result state.new (use_keyword (records self.now) place.now form.now label.now frame state.old) };
+
+    /// Whether an assignment to a keyword is a use of it.
+    fn asks_variable<N: Ledger, L: Ledger>(
+        &self,
+        state: &mut Expansion,
+        place: &Span,
+        label: &Label,
+        counts: &mut Counts<N, L>,
+    ) -> Result<bool, Stop>
+        ensures { GivesAfter (λ b. b) result state.new (asks_variable (records self.now) place.now label.now state.old) };
+
+    /// Evaluates the expression of a keyword, which stands at the place, and keeps what it gives.
+    fn finish_keyword<N: Ledger, L: Ledger>(
+        &self,
+        state: &mut Expansion,
+        place: &Span,
+        label: &Label,
+        code: Core,
+        counts: &mut Counts<N, L>,
+    ) -> Result<(), Stop>
+        ensures { GivesAfter (λ _. tt) result state.new (finish_keyword (records self.now) place.now label.now code state.old) };
+}
+
+impl<'a> Transformers for Means<'a> {
+    ghost records = { λ m. earlier_in m.earlier };
+
+    fn use_keyword<N: Ledger, L: Ledger>(
+        &self,
+        state: &mut Expansion,
+        form: &Syn,
+        place: &Span,
+        label: &Label,
+        frame: Option<FrameNo>,
+        counts: &mut Counts<N, L>,
+    ) -> Result<Syn, Stop> {
+        state.use_keyword(form, place, label, frame, self, counts)
+    }
+
+    fn asks_variable<N: Ledger, L: Ledger>(
+        &self,
+        state: &mut Expansion,
+        place: &Span,
+        label: &Label,
+        counts: &mut Counts<N, L>,
+    ) -> Result<bool, Stop> {
+        state.asks_variable(place, label, self, counts)
+    }
+
+    fn finish_keyword<N: Ledger, L: Ledger>(
+        &self,
+        state: &mut Expansion,
+        place: &Span,
+        label: &Label,
+        code: Core,
+        counts: &mut Counts<N, L>,
+    ) -> Result<(), Stop> {
+        state.finish_keyword(place, label, code, self, counts)
+    }
+}

@@ -1,0 +1,45 @@
+-- A use of a keyword is replaced by the form that its transformer gives (R6RS 9).
+use Rattle.std.specs.Prelude.{◌≡◌, ◌≤◌, ℕ, suc, true, List, None, Some}
+use Rattle.sx_base.specs.Act.{after}
+use Rattle.sx_base.specs.declared.name.Label.{Label}
+use Rattle.sx_base.specs.declared.span.Span.{Span}
+use Rattle.sx_tree.specs.Tree.{Tree, atom, leaf, pair, vector}
+use Rattle.sx_core.specs.declared.record.LibRecord.{LibRecord}
+use Rattle.sx_shapes.specs.At.{place_of}
+use Rattle.sx_shapes.specs.Lists.{is_leaf}
+use Rattle.sx_standing.specs.Standing.{standing_of}
+use Rattle.sx_standing.specs.State.{State}
+use Rattle.sx_standing.specs.declared.standing.Standing.TheVariants as standing
+use Rattle.sx_heads.specs.Items.{kept_head}
+use Rattle.sx_heads.specs.Kept.{with_head}
+use Rattle.sx_heads.specs.declared.taken.BodyAt.{BodyAt}
+use Rattle.sx_heads.specs.declared.taken.Taken.{Taken}
+use Rattle.sx_expand.specs.Expression.{inside}
+use Rattle.sx_expand.specs.Settle.{next_form, at_use}
+
+-- a form is a use of a keyword: it is an identifier that stands for the keyword, or a list that begins with one
+abbrev pub IsUseOf : State → Label → Tree → Type 0
+IsUseOf s l (atom r a) = ⊥
+IsUseOf s l (leaf r x c) = standing_of s (leaf r x c) ≡ standing.Keyword l
+IsUseOf s l (pair r a d) = (is_leaf a ≡ true) × (standing_of s a ≡ standing.Keyword l)
+IsUseOf s l (vector r d) = ⊥
+
+-- It expands to what that form expands to, which has the place of the use where it has none itself. One use less is left then.
+abbrev pub UsesAreReplaced : Type 0
+UsesAreReplaced = (records : List LibRecord) (room left : ℕ) (place : Span) (level depth : ℕ) (t : Tree) (l : Label) (s : State) → IsUseOf s l t → s.uses_left ≡ suc left → depth ≤ 600
+    → (inside records (suc room)).form place level depth t s ≡ after (next_form records left place t l None s) ((inside records (suc room)).form (place_of t place) level depth)
+
+-- the identifier of the keyword
+abbrev pub head_of : Tree → Tree
+head_of (atom r a) = atom r a
+head_of (leaf r x c) = leaf r x c
+head_of (pair r a d) = a
+head_of (vector r d) = vector r d
+
+abbrev pub with_head_of : State → Taken → Tree → Taken
+with_head_of s done t = record done { kept = with_head done.kept (kept_head s (head_of t)) }
+
+-- So it is in a body. There the form that comes has the body's frame, and what the keyword stood for is kept.
+abbrev pub BodyUsesAreReplaced : Type 0
+BodyUsesAreReplaced = (records : List LibRecord) (room left : ℕ) (at : BodyAt) (depth : ℕ) (done : Taken) (t : Tree) (l : Label) (s : State) → IsUseOf s l t → s.uses_left ≡ suc left → depth ≤ 600
+    → (inside records (suc room)).item at depth done t s ≡ after (next_form records left at.place t l (Some at.frame) s) ((inside records (suc room)).item (at_use at t) depth (with_head_of s done t))

@@ -1,0 +1,12 @@
+use Rattle.std.proofs.Common.{List, ap, subst, ◌∙◌}
+use Rattle.sx_base.specs.Gives.{Gives}
+use Rattle.sx_core.specs.declared.record.LibRecord.{LibRecord}
+use Rattle.sx_expand.specs.Expanding.{library_record}
+use Rattle.sx_stage.specs.Libraries.{needed_records}
+use Rattle.sx_library.proofs.PlaceLemmas.{at_stage}
+use Rattle.sx_library.proofs.library.record_behind.Goals as goal
+
+pub returns : goal.returns
+returns g c =
+    subst (λ (rs : List LibRecord). Gives (λ (r : LibRecord). r) c.top.result (library_record c.args.begun rs c.args.version c.args.place.now c.args.exports.now c.args.forms.now))
+    (ap (needed_records c.args.needs.now) (c.as_slice.ensures ∙ c.ready.ensures) ∙ at_stage c.args.needs.now c.args.records.now) c.top.ensures

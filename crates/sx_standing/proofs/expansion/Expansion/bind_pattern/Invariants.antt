@@ -1,0 +1,7 @@
+use Rattle.std.proofs.Common.{◌≡◌, drop, map}
+use Rattle.sx_base.specs.Act.{gather}
+use Rattle.sx_standing.specs.Patterns.{bind_next, bind_pattern}
+use Rattle.sx_standing.proofs.expansion.Expansion.bind_pattern.Given as goal
+
+abbrev pub invariant-loop-variable : goal.invariant-loop-variable
+invariant-loop-variable l = gather (bind_next l.frame l.place l.level) tt (map (λ v. v) (drop l.variable-index l.variables)) l.self ≡ bind_pattern l.frame l.place l.level l.variables l.fn.self
