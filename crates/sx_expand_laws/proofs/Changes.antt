@@ -38,7 +38,8 @@ use Rattle.sx_heads.specs.declared.taken.Waits.TheVariants as waits
 use Rattle.sx_expand.specs.Body as expand_body
 use Rattle.sx_expand.specs.Body.{splice, perform_item, item, value_of, finish_as, finish_one, finish_all, body_core, finish, lambda_at, body_in, body, sequence_of}
 use Rattle.sx_expand.specs.Expression.{in_order, case_in, lambda_case, lambda, one_case, all_cases, case_lambda, one_init, all_inits, letrec_in, letrec_form, application, alternate, conditional, set, in_sequence, fender, clause_in, pattern_clause, all_clauses, syntax_case, keywords_form, perform, perform_settled, form_at, inside}
-use Rattle.sx_expand.specs.Inside.{Inside, deeper}
+use Rattle.sx_heads.specs.Depth.{deeper}
+use Rattle.sx_expand.specs.Inside.{Inside}
 use Rattle.sx_expand.specs.Keywords.{keyword, seen_in, keyword_in, all_keywords, keywords, with_keywords, define_syntax}
 use Rattle.sx_expand.specs.Settle.{settle, settle_item}
 use Rattle.sx_expand_laws.specs.InScope.{ScopeStays}

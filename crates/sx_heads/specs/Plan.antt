@@ -1,5 +1,5 @@
 -- What is to be done with a form: what its head stands for decides (R6RS 10 and 11). Nothing in it is expanded yet.
-use Rattle.std.specs.Prelude.{ℕ, ◌+◌, Bool, true, false, nat_eq, List, [], ◌∷◌, ◌++◌, codes, Option, None, Some, Result, Ok, Err, if◌then◌else◌}
+use Rattle.std.specs.Prelude.{ℕ, ◌+◌, Bool, true, false, nat_eq, List, [], ◌∷◌, ◌++◌, Option, None, Some, Result, Ok, Err, if◌then◌else◌}
 use Rattle.sx_base.specs.Act.{after, give}
 use Rattle.sx_base.specs.declared.fault.Fault.{Fault}
 use Rattle.sx_base.specs.declared.fault.FaultKind.TheVariants as kind
@@ -11,11 +11,6 @@ use Rattle.sx_core.specs.Core.{PlainCore, quoted, variable, primitive, instance}
 use Rattle.sx_core.specs.Labels.{has_label}
 use Rattle.sx_core.specs.declared.core_form.CoreForm.{CoreForm}
 use Rattle.sx_core.specs.declared.core_form.CoreForm.TheVariants as core_forms
-use Rattle.sx_quasi.specs.Plan.{PlainQuasi}
-use Rattle.sx_quasi.specs.Quasi.{quasi}
-use Rattle.sx_quasi.specs.QuasiSyntax.{core_mark, quasi_syntax}
-use Rattle.sx_quasi.specs.Words.{word_of}
-use Rattle.sx_quasi.specs.declared.quasi_syntax.QuasiSyntax.{QuasiSyntax}
 use Rattle.sx_quasi.specs.declared.word.Family.TheVariants as family
 use Rattle.sx_shapes.specs.At.{place_of}
 use Rattle.sx_shapes.specs.Lists.{is_leaf, is_nil_atom, proper_elements}
@@ -120,31 +115,11 @@ abbrev pub keywords_plan : Span → Tree → CoreForm → List BindingSpec → L
 keywords_plan place t f bs [] = fault_form kind.NoExpression t place
 keywords_plan place t f bs (x ∷ xs) = give (plans.Keywords (is_letrec_syntax f) bs (x ∷ xs))
 
--- `quasiquote` and `quasisyntax`
-
-abbrev pub quasi_by : Result PlainQuasi Fault → Does Plan
-quasi_by (Err f) s = Err f
-quasi_by (Ok q) s = give (plans.Quasi q) s
-
-abbrev pub quasi_plan : Span → Tree → Tree → Does Plan
-quasi_plan place t operand s = quasi_by (quasi (word_of family.Quote s.frames) operand t place) s
-
--- the identifier that stands for the ellipsis among the inserts of `quasisyntax`
-abbrev pub dots : Tree
-dots = leaf None (codes "...") (record { marks = core_mark 0 ∷ []; stamps = [] })
-
-abbrev pub quasi_syntax_by : Span → Result QuasiSyntax Fault → Does Plan
-quasi_syntax_by span (Err f) s = Err f
-quasi_syntax_by span (Ok q) s = give (plans.QuasiSyntax q span) s
-
-abbrev pub quasi_syntax_plan : Span → Tree → Tree → Does Plan
-quasi_syntax_plan place t operand s =
-    quasi_syntax_by (place_of t place) (quasi_syntax (record { words = word_of family.Syntax s.frames; dots = dots }) operand t place) s
-
+-- `syntax`, `quasiquote` and `quasisyntax`
 abbrev pub operand_plan : Span → ℕ → Tree → CoreForm → Tree → Does Plan
 operand_plan place level t core_forms.Syntax operand s = after (template_of place level operand s) (λ x. done (instance x (place_of t place)))
-operand_plan place level t core_forms.Quasiquote operand s = quasi_plan place t operand s
-operand_plan place level t core_forms.Quasisyntax operand s = quasi_syntax_plan place t operand s
+operand_plan place level t core_forms.Quasiquote operand s = give (plans.Quasi family.Quote operand) s
+operand_plan place level t core_forms.Quasisyntax operand s = give (plans.Quasi family.Syntax operand) s
 operand_plan place level t _ operand s = fault_form kind.NotBuilt t place s
 
 -- by the shape of a core form

@@ -1,6 +1,6 @@
 //! What is to be done with a form.
 
-ghost use Rattle.std.specs.Prelude.{◌≡◌, ◌∷◌, [], IfOk};
+ghost use Rattle.std.specs.Prelude.{◌≡◌, ◌∷◌, []};
 ghost use Rattle.sx_base.specs.Act.{GivesAfter, give};
 ghost use Rattle.sx_core.specs.Core.{variable, quoted};
 ghost use Rattle.sx_core.specs.declared.core_form.CoreForm.TheVariants as core_forms;
@@ -10,23 +10,16 @@ ghost use Rattle.sx_shapes.specs.Forms.{shape};
 ghost use Rattle.sx_shapes.specs.Lists.{is_nil_atom};
 ghost use Rattle.sx_tree.specs.Leaves.{strip};
 ghost use Rattle.sx_heads.specs.declared.plan.Plan.TheVariants as plans;
-ghost use Rattle.sx_heads.specs.Plan.{done, plan_of, list_plan, by_head, keyword_plan, with_shape, shape_plan, application, in_sequence, assign, is_star, is_letrec_syntax, keywords_plan, operand_plan, quasi_plan, quasi_syntax_plan, dots, reference, refer, variable_at, constant, target_by, target_variable};
+ghost use Rattle.sx_heads.specs.Plan.{done, plan_of, list_plan, by_head, keyword_plan, with_shape, shape_plan, application, in_sequence, assign, is_star, is_letrec_syntax, keywords_plan, operand_plan, reference, refer, variable_at, constant, target_by, target_variable};
 
-use std::alloc::Global;
-use std::rc::Rc;
 use sx_base::atom::Atom;
 use sx_base::fault::{FaultKind, Stop};
 use sx_base::items::Items;
-use sx_base::library::LibName;
-use sx_base::memory::Memory;
-use sx_base::name::{Label, Mark, Name};
+use sx_base::name::Label;
 use sx_base::span::Span;
-use sx_base::symbol::Symbol;
 use sx_core::code::{Core, CoreNode};
 use sx_core::core_form::CoreForm;
-use sx_quasi::plan::Quasi;
-use sx_quasi::quasi::quasi;
-use sx_quasi::quasi_syntax::{QuasiSyntax, quasi_syntax};
+use sx_quasi::word::Family;
 use sx_shapes::at::place_of;
 use sx_shapes::forms::shape;
 use sx_shapes::lists::{is_id, is_nil_atom, proper};
@@ -55,23 +48,12 @@ pub enum Plan {
     Matching(Syn, Items<Syn>, Items<PatternCase>, Span),
     /// `let-syntax`, or `letrec-syntax` where the flag is true: keywords, and expressions.
     Keywords(bool, Items<BindingSpec>, Items<Syn>),
-    /// `quasiquote`: a tree of constants, expressions and calls.
-    Quasi(Quasi),
-    /// `quasisyntax`: a template with its inserts, and where the form stands.
-    QuasiSyntax(QuasiSyntax, Span),
+    /// `quasiquote` or `quasisyntax`: the template.
+    Quasi(Family, Syn),
     /// A use of a keyword: the form is to be replaced by what its transformer gives.
     Use(Label),
     /// An assignment to a keyword, and its target: a use if the keyword is a variable transformer.
     SetUse(Label, Syn),
-}
-
-/// The identifier that stands for the ellipsis among the inserts of `quasisyntax`: its mark is no other leaf's.
-pub fn dots(alloc: Global) -> Result<Syn, Memory>
-    ensures { IfOk result (λ t. t ≡ dots) }
-{
-    let library = Rc::new(alloc, LibName::Core)?;
-    let symbol = Symbol::new(alloc, "...")?;
-    Syn::leaf(alloc, &symbol, Mark(Name { library, number: 0 }))
 }
 
 /// Whether it is `letrec*`.
@@ -301,34 +283,6 @@ fn syntax_plan(
     done(state, CoreNode::Syntax(template, span))
 }
 
-/// `quasiquote`.
-fn quasi_plan(
-    state: &Expansion,
-    form: &Syn,
-    operand: &Syn,
-    place: &Span,
-) -> Result<Plan, Stop>
-    ensures { GivesAfter (λ p. p) result state.now (quasi_plan place.now form.now operand.now state.now) }
-{
-    let quasi = quasi(state.alloc(), operand, form, place, state.frames())?;
-    Ok(Plan::Quasi(quasi))
-}
-
-/// `quasisyntax`.
-fn quasi_syntax_plan(
-    state: &Expansion,
-    form: &Syn,
-    operand: &Syn,
-    place: &Span,
-) -> Result<Plan, Stop>
-    ensures { GivesAfter (λ p. p) result state.now (quasi_syntax_plan place.now form.now operand.now state.now) }
-{
-    let dots = dots(state.alloc())?;
-    let quasi = quasi_syntax(state.alloc(), operand, &dots, form, place, state.frames())?;
-    let span = place_of(form, place)?;
-    Ok(Plan::QuasiSyntax(quasi, span))
-}
-
 fn operand_plan(
     state: &mut Expansion,
     form: &Syn,
@@ -341,8 +295,8 @@ fn operand_plan(
 {
     match which {
         CoreForm::Syntax => syntax_plan(state, form, operand, place, level),
-        CoreForm::Quasiquote => quasi_plan(state, form, operand, place),
-        CoreForm::Quasisyntax => quasi_syntax_plan(state, form, operand, place),
+        CoreForm::Quasiquote => Ok(Plan::Quasi(Family::Quote, operand.share()?)),
+        CoreForm::Quasisyntax => Ok(Plan::Quasi(Family::Syntax, operand.share()?)),
         _ => Err(state.fault_form(FaultKind::NotBuilt, form, place)),
     }
 }
