@@ -52,13 +52,18 @@ insert_variables is = each insert_variable [] is
 abbrev pub nothing_behind : PlainPattern
 nothing_behind = pattern.atom atoms.Nil
 
--- a variable, or a list of what it takes
-abbrev pub pattern_at : ℕ → Label → PlainPattern
-pattern_at zero l = pattern.variable l
-pattern_at (suc n) l = pattern.list (pattern.dots (pattern.variable l) pattern.none) nothing_behind
+-- lists whose elements the pattern takes
+abbrev pub listed : PlainPattern → PlainPattern
+listed p = pattern.list (pattern.dots p pattern.none) nothing_behind
 
+-- under so many ellipses
+abbrev pub pattern_under : ℕ → PlainPattern → PlainPattern
+pattern_under zero p = p
+pattern_under (suc n) p = pattern_under n (listed p)
+
+-- a variable; that of a splice stands under an ellipsis
 abbrev pub insert_pattern : PatternVariable → PlainPattern
-insert_pattern v = pattern_at v.depth v.label
+insert_pattern v = pattern_under v.depth (pattern.variable v.label)
 
 abbrev pub inserts_pattern : List PatternVariable → PlainPattern
 inserts_pattern vs = pattern.list (pattern.patterns (map insert_pattern vs)) nothing_behind

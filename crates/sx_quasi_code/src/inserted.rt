@@ -2,7 +2,7 @@
 
 ghost use Rattle.std.specs.Prelude.{◌≡◌, map, IfOk};
 ghost use Rattle.sx_base.specs.Act.{GivesAfter};
-ghost use Rattle.sx_quasi_code.specs.Inserted.{dots, ellipsis, insert_variable, insert_variables, nothing_behind, insert_pattern, inserts_pattern, match_of, bind_inserts, inserted_in, inserted, plain_instance};
+ghost use Rattle.sx_quasi_code.specs.Inserted.{dots, ellipsis, insert_variable, insert_variables, nothing_behind, listed, insert_pattern, inserts_pattern, match_of, bind_inserts, inserted_in, inserted, plain_instance};
 
 use crate::filled::call_of;
 use std::alloc::Global;
@@ -82,19 +82,12 @@ fn nothing_behind(alloc: Global) -> Result<Box<Pattern>, Memory>
     Ok(nil)
 }
 
-/// A variable, or a list of what it takes.
-fn insert_pattern(alloc: Global, variable: &PatternVariable) -> Result<Pattern, Memory>
-    ensures { IfOk result (λ p. p ≡ insert_pattern variable.now) }
+/// The pattern of lists whose elements this one takes.
+fn listed(alloc: Global, pattern: Pattern) -> Result<Pattern, Memory>
+    ensures { IfOk result (λ p. p ≡ listed pattern) }
 {
-    let label = variable.label.share()?;
-    let taken = Pattern {
-        node: PatternNode::Variable(label),
-    };
-    if variable.depth == 0 {
-        return Ok(taken);
-    }
     let repeated = Repeated {
-        pattern: Box::new(alloc, taken)?,
+        pattern: Box::new(alloc, pattern)?,
         after: Vec::new(alloc),
     };
     let elements = Elements {
@@ -105,6 +98,22 @@ fn insert_pattern(alloc: Global, variable: &PatternVariable) -> Result<Pattern, 
     Ok(Pattern {
         node: PatternNode::List(elements, tail),
     })
+}
+
+/// A variable; that of a splice stands under an ellipsis.
+fn insert_pattern(alloc: Global, variable: &PatternVariable) -> Result<Pattern, Memory>
+    ensures { IfOk result (λ p. p ≡ insert_pattern variable.now) }
+{
+    let label = variable.label.share()?;
+    let mut pattern = Pattern {
+        node: PatternNode::Variable(label),
+    };
+    let mut left = variable.depth;
+    while left > 0 {
+        pattern = listed(alloc, pattern)?;
+        left -= 1;
+    }
+    Ok(pattern)
 }
 
 fn insert_patterns(alloc: Global, variables: &[PatternVariable]) -> Result<Vec<Pattern>, Memory>
