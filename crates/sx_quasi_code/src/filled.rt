@@ -93,6 +93,7 @@ pub(crate) fn filled(alloc: Global, quasi: &Quasi, codes: &mut Codes) -> Result<
 }
 
 #[cycle(filled)]
+#[tactic(auto, using(crate::proofs::Walks::filled_on))]
 fn all_filled(alloc: Global, parts: &[Quasi], codes: &mut Codes) -> Result<Vec<Core>, Memory>
     ensures { IfOk result (λ cs. (cs.items, codes.new) ≡ all_filled [] (quasis parts.now) codes.old) }
 {

@@ -101,6 +101,7 @@ fn listed(alloc: Global, pattern: Pattern) -> Result<Pattern, Memory>
 }
 
 /// A variable; that of a splice stands under an ellipsis.
+#[tactic(auto, using(crate::proofs::Walks::under_on, crate::proofs::Walks::under_none))]
 fn insert_pattern(alloc: Global, variable: &PatternVariable) -> Result<Pattern, Memory>
     ensures { IfOk result (λ p. p ≡ insert_pattern variable.now) }
 {

@@ -59,6 +59,7 @@ pub(crate) fn push_quasi(
 }
 
 #[cycle(parts)]
+#[tactic(auto, using(crate::proofs::Walks::parts_on))]
 fn push_all_quasi(
     form: &Syn,
     list: &[Quasi],
