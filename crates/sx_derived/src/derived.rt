@@ -1,10 +1,19 @@
 //! The record of the derived library.
 
-ghost use Rattle.std.specs.Prelude.{◌≡◌, [], ◌∷◌, ◌++◌, IfOk, OnOk, Ok};
+ghost use Rattle.std.specs.Prelude.{◌≡◌, [], false, IfOk, Ok};
+ghost use Rattle.std.specs.Map.{lookup};
 ghost use Rattle.sx_base.specs.Gives.{Gives};
+ghost use Rattle.sx_base.specs.Same.{same_text};
+ghost use Rattle.sx_base.specs.declared.library.LibName.TheVariants as library;
+ghost use Rattle.sx_builtin.specs.Exports.{derived};
+ghost use Rattle.sx_eval.specs.Codes as table;
+ghost use Rattle.sx_expand.specs.Expanding.{ready, library_record};
 ghost use Rattle.sx_prelude.specs.Prelude.{kept};
-ghost use Rattle.sx_derived.specs.Derived.{path, start, names, exports_of, trees, at_start, derived_record, relabelled_in};
+ghost use Rattle.sx_derived.specs.Names.{path, start, names, exports_of};
+ghost use Rattle.sx_derived.specs.Derived.{tree_at, trees, forms_of, record_of, derived_record, label_or, relabelled_in};
 
+use crate::names::{exports_of, names, path, start};
+use indexmap::IndexMap;
 use std::alloc::Global;
 use std::rc::Rc;
 use std::sync::ledger::Ledger;
@@ -13,12 +22,12 @@ use sx_base::fault::{Bare, BareStop, Fault, Stop};
 use sx_base::items::Items;
 use sx_base::library::LibName;
 use sx_base::memory::Memory;
-use sx_base::name::{Label, Name};
-use sx_base::op::{Op, op_text};
+use sx_base::name::{CodeNo, Label};
 use sx_base::span::Span;
 use sx_base::symbol::Symbol;
 use sx_builtin::derived::derived_source;
 use sx_builtin::exports::DERIVED;
+use sx_core::code::Code;
 use sx_core::record::LibRecord;
 use sx_expand::expander::Expander;
 use sx_prelude::prelude::Prelude;
@@ -28,71 +37,11 @@ use sx_stage::earlier::Earlier;
 use sx_standing::means::{Counts, Means};
 use sx_standing::ready::ReadyRecords;
 use sx_syntax::syn::Syn;
-use sx_tree::marks::Marks;
 
-fn start(alloc: Global) -> Result<Span, Memory>
-    ensures { IfOk result (λ s. s ≡ start) }
+fn tree_at(alloc: Global, place: &Span, datum: &Datum) -> Result<Syn, Stop>
+    requires { place.now ≡ start }
+    ensures { Gives (λ t. t) result (tree_at datum.now) }
 {
-    let file = Symbol::new(alloc, "(derived)")?;
-    Ok(Span {
-        file,
-        from: 0,
-        to: 0,
-    })
-}
-
-// Whether the derived library defines the name with this number.
-fn is_derived(number: u16) -> bool {
-    for definition in &DERIVED {
-        if *definition == Some(number) {
-            return true;
-        }
-    }
-    false
-}
-
-// All names of the implementation that the library doesn't define.
-fn names(alloc: Global) -> Result<Items<(Symbol, Label)>, Memory>
-    ensures { IfOk result (λ es. es ≡ names) }
-{
-    let core = Rc::new(alloc, LibName::Core)?;
-    let mut all = Items::new(alloc);
-    for number in 0..301_u16 {
-        if !is_derived(number) {
-            let symbol = Symbol::new(alloc, op_text(&Op(number)))?;
-            let library = core.clone()?;
-            all.push((
-                symbol,
-                Label(Name {
-                    library,
-                    number: number as u64,
-                }),
-            ))?;
-        }
-    }
-    Ok(all)
-}
-
-fn exports(alloc: Global) -> Result<Items<(Symbol, Syn)>, Memory> {
-    let mut all = Items::new(alloc);
-    for definition in &DERIVED {
-        if let Some(number) = definition {
-            let symbol = Symbol::new(alloc, op_text(&Op(*number)))?;
-            let place = start(alloc)?;
-            let leaf = Syn::whole_leaf(
-                alloc,
-                Some(place),
-                &symbol,
-                Marks::new(alloc),
-                Vec::new(alloc),
-            )?;
-            all.push((symbol, leaf))?;
-        }
-    }
-    Ok(all)
-}
-
-fn tree(alloc: Global, place: &Span, datum: &Datum) -> Result<Syn, Stop> {
     match Syn::of_datum(alloc, datum) {
         Ok(tree) => Ok(tree),
         Err(BareStop::Fault(Bare { kind, words })) => Err(Stop::Fault(Fault {
@@ -104,13 +53,89 @@ fn tree(alloc: Global, place: &Span, datum: &Datum) -> Result<Syn, Stop> {
     }
 }
 
-fn trees(alloc: Global, place: &Span, data: &[Datum]) -> Result<Items<Syn>, Stop> {
-    let mut all = Items::new(alloc);
+fn trees(alloc: Global, place: &Span, data: &[Datum]) -> Result<Items<Syn>, Stop>
+    requires { place.now ≡ start }
+    ensures { Gives (λ ts. ts) result (trees [] data.now) }
+{
+    let mut done = Items::new(alloc);
     for datum in data {
-        let tree = tree(alloc, place, datum)?;
-        all.push(tree)?;
+        let tree = tree_at(alloc, place, datum)?;
+        done.push(tree)?;
     }
-    Ok(all)
+    Ok(done)
+}
+
+// The forms of a text.
+#[tactic(auto, unfolding(crate::specs::Derived::forms_of))]
+fn forms_of(alloc: Global, place: &Span, text: &[u8]) -> Result<Items<Syn>, Stop>
+    requires { place.now ≡ start }
+    ensures { Gives (λ ts. ts) result (forms_of text.now) }
+{
+    let data = read_all(alloc, &place.file, text)?;
+    trees(alloc, place, &data)
+}
+
+// An expander behind no records.
+fn expander_of(
+    alloc: Global,
+    names: &[(Symbol, Label)],
+    codes: IndexMap<CodeNo, Rc<Code>>,
+) -> Result<Expander, Stop>
+    ensures { Gives (λ e. e) result (Ok (ready library.Derived path [] names.now (table.seen codes.entries))) }
+{
+    let path = path(alloc)?;
+    let records = ReadyRecords::new(alloc)?;
+    Expander::new(
+        alloc,
+        LibName::Derived,
+        path,
+        &records,
+        &[],
+        names,
+        codes,
+    )
+}
+
+// The record of these forms.
+fn record_by<N: Ledger, L: Ledger>(
+    alloc: Global,
+    begun: Expander,
+    exports: &[(Symbol, Syn)],
+    forms: &[Syn],
+    place: &Span,
+    prims: &PrimTable,
+    counts: &mut Counts<N, L>,
+) -> Result<LibRecord, Stop>
+    requires { begun.failed ≡ false }
+    ensures { Gives (λ r. r) result (library_record begun [] [] place.now exports.now forms.now) }
+{
+    let earlier = Earlier {
+        records: &[],
+        needs: &[],
+    };
+    let means = Means { earlier, prims };
+    begun.top(forms, place, exports, Items::new(alloc), &means, counts)
+}
+
+// The record of these forms, where this is what the procedures mean that are texts.
+#[tactic(auto, unfolding(crate::specs::Derived::record_of))]
+fn record_of<N: Ledger, L: Ledger>(
+    alloc: Global,
+    codes: IndexMap<CodeNo, Rc<Code>>,
+    names: &[(Symbol, Label)],
+    exports: &[(Symbol, Syn)],
+    forms: &[Syn],
+    place: &Span,
+    prims: &PrimTable,
+    counts: &mut Counts<N, L>,
+) -> Result<LibRecord, Stop>
+    requires names { names.now ≡ names }
+    requires exports { exports.now ≡ exports_of derived }
+    requires place { place.now ≡ start }
+    ensures { Gives (λ r. r) result (record_of (table.seen codes.entries) forms.now) }
+{
+    let begun = expander_of(alloc, names, codes)?;
+    record_by(alloc, begun, exports, forms, place, prims, counts)
 }
 
 /// The record of the derived library. It is expanded behind no other.
@@ -123,49 +148,46 @@ pub fn derived_record<N: Ledger, L: Ledger>(
 ) -> Result<LibRecord, Stop>
     ensures { Gives (λ r. r) result (derived_record (kept prelude.now)) }
 {
-    let codes = prelude.codes(alloc)?;
     let place = start(alloc)?;
-    let data = read_all(alloc, &place.file, derived_source())?;
-    let forms = trees(alloc, &place, &data)?;
+    let forms = forms_of(alloc, &place, derived_source())?;
     let names = names(alloc)?;
-    let exports = exports(alloc)?;
-    let records = ReadyRecords::new(alloc)?;
-    let path = place.file.share()?;
-    let expander = Expander::new(
+    let exports = exports_of(alloc, &DERIVED)?;
+    let codes = prelude.codes(alloc)?;
+    record_of(
         alloc,
-        LibName::Derived,
-        path,
-        &records,
-        &[],
-        names.as_slice(),
         codes,
-    )?;
-    let earlier = Earlier {
-        records: &[],
-        needs: &[],
-    };
-    let means = Means { earlier, prims };
-    expander.top(
+        names.as_slice(),
+        exports.as_slice(),
         forms.as_slice(),
         &place,
-        exports.as_slice(),
-        Items::new(alloc),
-        &means,
+        prims,
         counts,
     )
 }
 
+// The label under which a record exports a name, or another.
+fn label_in(record: &LibRecord, name: &Symbol, label: Label) -> Result<Label, Memory>
+    ensures { IfOk result (λ l. l ≡ label_or label (lookup (same_text name.now) record.now.exports)) }
+{
+    for (exported, own) in record.exports.as_slice() {
+        if *exported == *name {
+            return own.share();
+        }
+    }
+    Ok(label)
+}
+
 /// A name of the implementation with what it stands for: a derived one for the label under which the record exports it.
-pub fn relabelled(derived: &LibRecord, name: Symbol, label: Label) -> Result<(Symbol, Label), Memory>
+pub fn relabelled(
+    derived: &LibRecord,
+    name: Symbol,
+    label: Label,
+) -> Result<(Symbol, Label), Memory>
     ensures { IfOk result (λ e. e ≡ relabelled_in derived.now (name, label)) }
 {
     if *label.0.library != LibName::Derived {
         return Ok((name, label));
     }
-    for (exported, own) in derived.exports.as_slice() {
-        if *exported == name {
-            return Ok((name, own.share()?));
-        }
-    }
+    let label = label_in(derived, &name, label)?;
     Ok((name, label))
 }

@@ -9,9 +9,11 @@
 //!   ((_) #f) ((_ e) e) ((_ e1 e2 ...) (let ((t e1)) (if t t (or e2 ...))))))
 //! ```
 //!
-//! A program's `or` stands for the label under which that record exports it.
+//! It imports all that the implementation gives and it doesn't define itself. A program's `or` stands for the label
+//! under which its record exports it.
 //!
 //! The promise: `derived_record` gives exactly the record of its definition; only want of memory is free.
 #![tactic(auto)]
 
 pub mod derived;
+pub mod names;
