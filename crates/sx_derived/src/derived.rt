@@ -3,7 +3,7 @@
 ghost use Rattle.std.specs.Prelude.{◌≡◌, [], false, IfOk, Ok};
 ghost use Rattle.std.specs.Map.{lookup};
 ghost use Rattle.sx_base.specs.Gives.{Gives};
-ghost use Rattle.sx_base.specs.Same.{same_text};
+ghost use Rattle.sx_import.specs.Table.{same_text};
 ghost use Rattle.sx_base.specs.declared.library.LibName.TheVariants as library;
 ghost use Rattle.sx_builtin.specs.Exports.{derived};
 ghost use Rattle.sx_eval.specs.Codes as table;

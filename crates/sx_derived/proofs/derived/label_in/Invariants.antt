@@ -1,6 +1,6 @@
 use Rattle.std.proofs.Common.{◌≡◌, drop}
 use Rattle.std.specs.Map.{lookup}
-use Rattle.sx_base.specs.Same.{same_text}
+use Rattle.sx_import.specs.Table.{same_text}
 use Rattle.sx_derived.proofs.derived.label_in.Given as goal
 
 abbrev pub invariant-loop-exported : goal.invariant-loop-exported
