@@ -50,7 +50,3 @@ label_or l (Some m) = m
 
 abbrev pub relabelled_in : LibRecord → List ℕ × Label → List ℕ × Label
 relabelled_in r e = if same_library e.1.0.library library.Derived then (e.0, label_or e.1 (lookup (same_text e.0) r.exports)) else e
-
-abbrev pub relabelled : Option LibRecord → List ℕ × Label → List ℕ × Label
-relabelled None e = e
-relabelled (Some r) e = relabelled_in r e

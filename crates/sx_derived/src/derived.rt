@@ -166,28 +166,28 @@ pub fn derived_record<N: Ledger, L: Ledger>(
 }
 
 // The label under which a record exports a name, or another.
-fn label_in(record: &LibRecord, name: &Symbol, label: Label) -> Result<Label, Memory>
-    ensures { IfOk result (λ l. l ≡ label_or label (lookup (same_text name.now) record.now.exports)) }
+fn label_in(record: &LibRecord, name: &Symbol, label: &Label) -> Result<Label, Memory>
+    ensures { IfOk result (λ l. l ≡ label_or label.now (lookup (same_text name.now) record.now.exports)) }
 {
     for (exported, own) in record.exports.as_slice() {
-        if *exported == *name {
+        if *name == *exported {
             return own.share();
         }
     }
-    Ok(label)
+    label.share()
 }
 
 /// A name of the implementation with what it stands for: a derived one for the label under which the record exports it.
 pub fn relabelled(
     derived: &LibRecord,
-    name: Symbol,
-    label: Label,
+    name: &Symbol,
+    label: &Label,
 ) -> Result<(Symbol, Label), Memory>
-    ensures { IfOk result (λ e. e ≡ relabelled_in derived.now (name, label)) }
+    ensures { IfOk result (λ e. e ≡ relabelled_in derived.now (name.now, label.now)) }
 {
+    let shared = name.share()?;
     if *label.0.library != LibName::Derived {
-        return Ok((name, label));
+        return Ok((shared, label.share()?));
     }
-    let label = label_in(derived, &name, label)?;
-    Ok((name, label))
+    Ok((shared, label_in(derived, name, label)?))
 }

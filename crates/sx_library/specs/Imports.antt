@@ -8,7 +8,7 @@ use Rattle.sx_base.specs.declared.fault.FaultKind.TheVariants as kind
 use Rattle.sx_base.specs.declared.library.LibName.{LibName}
 use Rattle.sx_base.specs.declared.library.LibName.TheVariants as names
 use Rattle.sx_builtin.specs.Exports.{exports}
-use Rattle.sx_derived.specs.Derived.{relabelled}
+use Rattle.sx_derived.specs.Derived.{relabelled_in}
 use Rattle.sx_core.specs.declared.record.LibRecord.{LibRecord}
 use Rattle.sx_import.specs.Names.{Labelled, import_names, joined}
 use Rattle.sx_import.specs.Turns.{turns}
@@ -37,10 +37,14 @@ abbrev pub record_exports : Option LibRecord → Labelled
 record_exports None = []
 record_exports (Some r) = r.exports
 
--- a derived name stands for what the derived record, where it is among these, exports
+-- of the names of the implementation a derived one stands for what the derived record exports, where that is there
+abbrev pub given_names : Option LibRecord → Labelled → Labelled
+given_names None names = names
+given_names (Some r) names = map (λ e. relabelled_in r e) names
+
 abbrev pub exported_by : Option LibRecord → Option LibRecord → Option Labelled → Labelled
 exported_by d r None = record_exports r
-exported_by d r (Some names) = map (relabelled d) names
+exported_by d r (Some names) = given_names d names
 
 -- what a library exports: one that is given with the implementation, or one of these
 abbrev pub exported : List LibRecord → LibName → Labelled

@@ -4,7 +4,7 @@ ghost use Rattle.std.specs.Prelude.{◌≡◌, [], IfOk, option_map, map};
 ghost use Rattle.sx_base.specs.Gives.{Gives};
 ghost use Rattle.sx_import.specs.Turns.{turns};
 ghost use Rattle.sx_derived.specs.Derived.{relabelled_in};
-ghost use Rattle.sx_library.specs.Imports.{named, record_referred, record_exports, referred, refer, exported, import_into, form_names};
+ghost use Rattle.sx_library.specs.Imports.{named, record_referred, record_exports, referred, refer, given_names, exported, import_into, form_names};
 ghost use Rattle.sx_library.specs.Records.{needed_records};
 ghost use Rattle.sx_load.specs.Load.{fitting, builtin_version};
 
@@ -111,25 +111,36 @@ fn exported(
     ensures { IfOk result (λ names. names ≡ exported (needed_records records.now needs.now) library.now) }
 {
     match exports(alloc, library)? {
-        Some(names) => match records.named(needs, &LibName::Derived) {
-            Some(derived) => all_relabelled(alloc, derived, names),
-            None => Ok(names),
-        },
+        Some(names) => given_names(alloc, records.named(needs, &LibName::Derived), names),
         None => record_exports(alloc, records.named(needs, library)),
     }
 }
 
-// The names of the implementation, the derived ones with their labels in the record.
+// The names of the implementation, behind the record of the derived library.
+fn given_names(
+    alloc: Global,
+    derived: Option<&LibRecord>,
+    names: Items<(Symbol, Label)>,
+) -> Result<Items<(Symbol, Label)>, Memory>
+    ensures { IfOk result (λ es. es ≡ given_names (option_map (λ r. r.now) derived.entry) names) }
+{
+    match derived {
+        None => Ok(names),
+        Some(derived) => all_relabelled(alloc, derived, names.as_slice()),
+    }
+}
+
 fn all_relabelled(
     alloc: Global,
     derived: &LibRecord,
-    names: Items<(Symbol, Label)>,
+    names: &[(Symbol, Label)],
 ) -> Result<Items<(Symbol, Label)>, Memory>
-    ensures { IfOk result (λ es. es ≡ map (relabelled_in derived.now) names) }
+    ensures { IfOk result (λ es. es ≡ map (λ e. relabelled_in derived.now e) names.now) }
 {
     let mut all = Items::new(alloc);
-    for (name, label) in names.into_vec() {
-        all.push(relabelled(derived, name, label)?)?;
+    for (name, label) in names {
+        let one = relabelled(derived, name, label)?;
+        all.push(one)?;
     }
     Ok(all)
 }

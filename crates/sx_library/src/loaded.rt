@@ -4,6 +4,7 @@ ghost use Rattle.std.specs.Prelude.{◌≡◌, ◌∷◌, ◌++◌, [], true, If
 ghost use Rattle.std.specs.String.{string_bytes};
 ghost use Rattle.sx_base.specs.Gives.{Gives, Stops};
 ghost use Rattle.sx_prelude.specs.Prelude.{kept};
+ghost use Rattle.sx_import.specs.Turns.{turns};
 ghost use Rattle.sx_library.specs.Loaded.{expand_found, expand_next, all_records, planned_text, text_of};
 
 use crate::library::expand_library;
@@ -80,7 +81,28 @@ fn expand_next<N: Ledger, L: Ledger>(
     Ok(())
 }
 
-// The record of the derived library, and behind it those of the others, in the order of loading.
+// Records, and behind them those of libraries in the order of loading.
+fn records_behind<N: Ledger, L: Ledger>(
+    alloc: Global,
+    prelude: &Prelude,
+    records: Records,
+    libraries: &Table<Found>,
+    prims: &PrimTable,
+    counts: &mut Counts<N, L>,
+) -> Result<Records, Stop>
+    ensures { Gives (λ rs. rs) result (turns (expand_next (kept prelude.now)) records libraries.now) }
+{
+    let mut records = records;
+    for place in 0..libraries.size() {
+        let Some((_, found)) = libraries.at(place) else {
+            return Err(Stop::Memory);
+        };
+        expand_next(alloc, prelude, &mut records, found, prims, counts)?;
+    }
+    Ok(records)
+}
+
+// The record of the derived library, and behind it those of the others.
 fn all_records<N: Ledger, L: Ledger>(
     alloc: Global,
     prelude: &Prelude,
@@ -90,16 +112,9 @@ fn all_records<N: Ledger, L: Ledger>(
 ) -> Result<Records, Stop>
     ensures { Gives (λ rs. rs) result (all_records (kept prelude.now) libraries.now) }
 {
-    let mut records = Records::new(alloc)?;
     let derived = derived_record(alloc, prelude, prims, counts)?;
-    records.push(alloc, derived)?;
-    for place in 0..libraries.size() {
-        let Some((_, found)) = libraries.at(place) else {
-            return Err(Stop::Memory);
-        };
-        expand_next(alloc, prelude, &mut records, found, prims, counts)?;
-    }
-    Ok(records)
+    let records = Records::of_one(alloc, derived)?;
+    records_behind(alloc, prelude, records, libraries, prims, counts)
 }
 
 // A program, with the libraries that it needs when it runs before it.

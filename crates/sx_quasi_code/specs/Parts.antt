@@ -10,7 +10,7 @@ use Rattle.sx_quasi_code.specs.declared.parts.Part.{Part}
 abbrev pub part : Tree → ℕ → Part
 part t depth = record { form = t; depth = depth }
 
--- a form that is made at this depth, and isn't too deep, is expanded already
+-- a form that is made at this depth: it is no part, but where it is too deep the quasi form is
 abbrev pub with_made : Tree → ℕ → List Part → List Part
 with_made t depth done = if nat_lt 600 depth then done ++ part t depth ∷ [] else done
 
