@@ -83,7 +83,8 @@ fn expander_of(
     needs: &[bool],
     names: &[(Symbol, Label)],
 ) -> Result<Expander, Stop>
-    ensures { Gives (λ e. e) result (expander_of (kept prelude.now) form.now.name path.now (needed_records records.now needs.now) names.now) }
+    ensures given { Gives (λ e. e) result (expander_of (kept prelude.now) form.now.name path.now (needed_records records.now needs.now) names.now) }
+    ensures ok { IfOk result (λ e. e.failed ≡ false) }
 {
     let name = share_library(alloc, &form.name)?;
     let path = path.share()?;

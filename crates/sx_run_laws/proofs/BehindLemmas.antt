@@ -19,7 +19,7 @@ use Rattle.sx_expand_laws.proofs.Serving.{records-serve}
 use Rattle.sx_forms.specs.declared.form.LibraryForm.{LibraryForm}
 use Rattle.sx_import.specs.Names.{Labelled}
 use Rattle.sx_library.specs.Imports.{form_names}
-use Rattle.sx_library.specs.Library.{export_tree, trees_at, expand_library}
+use Rattle.sx_library.specs.Library.{export_tree, trees_at, expander_of, expand_library}
 use Rattle.sx_run_laws.specs.Run.{Stands}
 use Rattle.sx_run_laws.proofs.ImportLemmas.{imports_there}
 
@@ -47,19 +47,20 @@ module _ (records : List LibRecord) (serve : AllServe [] records) (path : List �
   unfolding expand_library
   library_stands prelude h = by_names (form_names records form.imports) refl h
     where
-      by_forms : (names : Labelled) (codes : Codes) → form_names records form.imports ≡ Ok names → (x : Result (List Tree) Fault)
-          → (x >>= (λ forms. library_record (ready form.name path records names codes) records form.version form.name_span (map export_tree form.exports) forms)) ≡ Ok r → Stands records form.name r
-      by_forms names codes n (Ok forms) h = record_stands names codes forms n h
-      by_forms names codes n (Err f) h = absurd (cc)
-
-      by_codes : (names : Labelled) → form_names records form.imports ≡ Ok names → (x : Result Codes Fault)
-          → (x >>= (λ codes. trees_at form.name_span [] body >>= (λ forms. library_record (ready form.name path records names codes) records form.version form.name_span (map export_tree form.exports) forms))) ≡ Ok r
+      by_codes : (names : Labelled) (forms : List Tree) → form_names records form.imports ≡ Ok names → (x : Result Codes Fault)
+          → (expander_of x form.name path records names >>= (λ e. library_record e records form.version form.name_span (map export_tree form.exports) forms)) ≡ Ok r
           → Stands records form.name r
-      by_codes names n (Ok codes) h = by_forms names codes n (trees_at form.name_span [] body) h
-      by_codes names n (Err f) h = absurd (cc)
+      by_codes names forms n (Ok codes) h = record_stands names codes forms n h
+      by_codes names forms n (Err f) h = absurd (cc)
+
+      by_forms : (names : Labelled) → form_names records form.imports ≡ Ok names → (x : Result (List Tree) Fault)
+          → (x >>= (λ forms. expander_of prelude form.name path records names >>= (λ e. library_record e records form.version form.name_span (map export_tree form.exports) forms))) ≡ Ok r
+          → Stands records form.name r
+      by_forms names n (Ok forms) h = by_codes names forms n prelude h
+      by_forms names n (Err f) h = absurd (cc)
 
       by_names : (x : Result Labelled Fault) → form_names records form.imports ≡ x
-          → (x >>= (λ names. prelude >>= (λ codes. trees_at form.name_span [] body >>= (λ forms. library_record (ready form.name path records names codes) records form.version form.name_span (map export_tree form.exports) forms)))) ≡ Ok r
+          → (x >>= (λ names. trees_at form.name_span [] body >>= (λ forms. expander_of prelude form.name path records names >>= (λ e. library_record e records form.version form.name_span (map export_tree form.exports) forms)))) ≡ Ok r
           → Stands records form.name r
-      by_names (Ok names) n h = by_codes names n prelude h
+      by_names (Ok names) n h = by_forms names n (trees_at form.name_span [] body) h
       by_names (Err f) n h = absurd (cc)
