@@ -176,8 +176,38 @@ fn of_fault<N: Ledger, L: Ledger>(
     }
 }
 
-/// The core text of a job's program and its report, or why there is none.
+// What comes of a job, once the texts of procedures are expanded.
 #[tactic(auto, unfolding(crate::specs::Whole::of_job))]
+fn of_job<F: Files, N: Ledger, L: Ledger>(
+    alloc: Global,
+    prelude: &Prelude,
+    job: &Job,
+    files: &mut F,
+    prims: &PrimTable,
+    counts: &mut Counts<N, L>,
+) -> Result<Prepared, Unfinished>
+    requires { kept prelude.now ≡ prelude_table }
+    ensures gives { IfSome (F.told files.old) (λ fs. Prepares result (of_job fs job.now)) }
+    ensures read { result ≡ Err Unfinished.Read → Rose (F.faults files.old) (F.faults files.new) }
+{
+    let mut loading = Loading::new(alloc);
+    match load(
+        alloc,
+        files,
+        job.roots.as_slice(),
+        &job.program,
+        &mut loading,
+    ) {
+        Ok(found) => of_found(alloc, prelude, job.report, &found, &loading, prims, counts),
+        Err(Halt::Fault(fault)) => of_fault(
+            alloc, prelude, job.report, &loading, fault, prims, counts,
+        ),
+        Err(Halt::Read) => Err(Unfinished::Read),
+        Err(Halt::Memory) => Err(Unfinished::Memory),
+    }
+}
+
+/// The core text of a job's program and its report, or why there is none.
 pub fn prepare<F: Files, N: Ledger, L: Ledger>(
     alloc: Global,
     job: &Job,
@@ -189,19 +219,5 @@ pub fn prepare<F: Files, N: Ledger, L: Ledger>(
     ensures read { result ≡ Err Unfinished.Read → Rose (F.faults files.old) (F.faults files.new) }
 {
     let prelude = prelude(alloc, prims, counts)?;
-    let mut loading = Loading::new(alloc);
-    match load(
-        alloc,
-        files,
-        job.roots.as_slice(),
-        &job.program,
-        &mut loading,
-    ) {
-        Ok(found) => of_found(alloc, &prelude, job.report, &found, &loading, prims, counts),
-        Err(Halt::Fault(fault)) => of_fault(
-            alloc, &prelude, job.report, &loading, fault, prims, counts,
-        ),
-        Err(Halt::Read) => Err(Unfinished::Read),
-        Err(Halt::Memory) => Err(Unfinished::Memory),
-    }
+    of_job(alloc, &prelude, job, files, prims, counts)
 }

@@ -24,6 +24,39 @@ struct Outcome {
 // A path, and the bytes there.
 type Held<'a> = (&'a str, &'a [u8]);
 
+// Files and sinks in memory.
+#[derive(Drop)]
+struct Outside {
+    files: MemFiles,
+    out: MemSink,
+    err: MemSink,
+}
+
+fn mem_files(alloc: Global, held: &[Held], reads: &[u64]) -> Result<MemFiles, Fail> {
+    let mut pairs = Vec::new(alloc);
+    for (path, bytes) in held {
+        pairs.push((
+            String::from_str(alloc, path)?,
+            Vec::from_slice(alloc, bytes)?,
+        ))?;
+    }
+    Ok(MemFiles::new(alloc, pairs, Vec::from_slice(alloc, reads)?))
+}
+
+fn mem_sink(alloc: Global, calls: &[(u64, usize)]) -> Result<MemSink, Fail> {
+    let mut sink = MemSink::new(alloc, Vec::from_slice(alloc, calls)?);
+    sink.reserve(1000)?;
+    Ok(sink)
+}
+
+fn texts(alloc: Global, words: &[&str]) -> Result<Vec<String>, Fail> {
+    let mut texts = Vec::new(alloc);
+    for word in words {
+        texts.push(String::from_str(alloc, word)?)?;
+    }
+    Ok(texts)
+}
+
 // A run over some files and words; the calls with these numbers fail.
 fn run_over(
     alloc: Global,
@@ -34,30 +67,37 @@ fn run_over(
     outs: &[(u64, usize)],
     errs: &[(u64, usize)],
 ) -> Result<Outcome, Fail> {
-    run_counted::<Brand, Brand>(
-        alloc,
-        prims,
-        held,
-        words,
-        reads,
-        outs,
-        errs,
-        Blank::new(1),
-        Blank::new(1),
-    )
+    let words = texts(alloc, words)?;
+    let files = mem_files(alloc, held, reads)?;
+    let out = mem_sink(alloc, outs)?;
+    let err = mem_sink(alloc, errs)?;
+    let mut outside = Outside { files, out, err };
+    let status = run_uncounted(alloc, prims, &words, &mut outside);
+    Ok(Outcome {
+        status,
+        out: String::from_utf8_lossy(alloc, outside.out.bytes())?,
+        err: String::from_utf8_lossy(alloc, outside.err.bytes())?,
+    })
+}
+
+// A run whose nodes and fuel nobody counts.
+fn run_uncounted(
+    alloc: Global,
+    prims: &PrimTable,
+    words: &[String],
+    outside: &mut Outside,
+) -> Status {
+    run_counted::<Brand, Brand>(alloc, prims, words, outside, Blank::new(1), Blank::new(1))
 }
 
 fn run_counted<N: Ledger, L: Ledger>(
     alloc: Global,
     prims: &PrimTable,
-    held: &[Held],
-    words: &[&str],
-    reads: &[u64],
-    outs: &[(u64, usize)],
-    errs: &[(u64, usize)],
+    words: &[String],
+    outside: &mut Outside,
     nodes: Blank,
     steps: Blank,
-) -> Result<Outcome, Fail>
+) -> Status
     requires name { nodes.name ≡ N.name }
     requires parts { (nodes.parts ≡ N.parts) × (0 < N.parts) }
     requires step_name { steps.name ≡ L.name }
@@ -65,54 +105,28 @@ fn run_counted<N: Ledger, L: Ledger>(
 {
     let mut nodes = Steps::<N>::open(nodes);
     let mut steps = Steps::<L>::open(steps);
-    run_both(
-        alloc, prims, held, words, reads, outs, errs, &mut nodes, &mut steps,
-    )
+    run_both(alloc, prims, words, outside, &mut nodes, &mut steps)
 }
 
 // Both counters are borrowed for one time, as `Counts` has them.
 fn run_both<'a, N: Ledger, L: Ledger>(
     alloc: Global,
     prims: &PrimTable,
-    held: &[Held],
-    words: &[&str],
-    reads: &[u64],
-    outs: &[(u64, usize)],
-    errs: &[(u64, usize)],
+    words: &[String],
+    outside: &mut Outside,
     nodes: &'a mut Steps<N>,
     steps: &'a mut Steps<L>,
-) -> Result<Outcome, Fail> {
+) -> Status {
     let mut counts = Counts { nodes, steps };
-    let mut pairs = Vec::new(alloc);
-    for (path, bytes) in held {
-        pairs.push((
-            String::from_str(alloc, path)?,
-            Vec::from_slice(alloc, bytes)?,
-        ))?;
-    }
-    let mut files = MemFiles::new(alloc, pairs, Vec::from_slice(alloc, reads)?);
-    let mut out = MemSink::new(alloc, Vec::from_slice(alloc, outs)?);
-    let mut err = MemSink::new(alloc, Vec::from_slice(alloc, errs)?);
-    out.reserve(1000)?;
-    err.reserve(1000)?;
-    let mut texts = Vec::new(alloc);
-    for word in words {
-        texts.push(String::from_str(alloc, word)?)?;
-    }
-    let status = run(
+    run(
         alloc,
-        &texts,
-        &mut files,
-        &mut out,
-        &mut err,
+        words,
+        &mut outside.files,
+        &mut outside.out,
+        &mut outside.err,
         prims,
         &mut counts,
-    );
-    Ok(Outcome {
-        status,
-        out: String::from_utf8_lossy(alloc, out.bytes())?,
-        err: String::from_utf8_lossy(alloc, err.bytes())?,
-    })
+    )
 }
 
 const USAGE: &str =
@@ -120,7 +134,7 @@ const USAGE: &str =
 
 // Words, and whether the program is expanded: else they are refused. The map of identifiers and libraries
 // made in memory aren't built, and the words for them are refused too.
-const WORDS: [(&[&str], bool); 14] = [
+const WORDS: &[(&[&str], bool)] = &[
     (&["p.sps"], true),
     (&["--", "p.sps"], true),
     (&["--report", "p.sps"], true),
@@ -169,11 +183,11 @@ fn check_words(rt: &impl Abort, alloc: Global, rows: &[(&[&str], bool)]) -> Resu
 
 #[test]
 fn words_are_taken_or_refused_with_the_usage_line(rt: HostRuntime) -> Result<(), Fail> {
-    check_words(&rt, rt.alloc(), &WORDS)
+    check_words(&rt, rt.alloc(), WORDS)
 }
 
 // Files and words, the calls of the outside that fail, and what a run over them answers and writes.
-#[derive(Drop)]
+#[derive(Clone, Copy)]
 struct Case<'a> {
     held: &'a [Held<'a>],
     words: &'a [&'a str],
@@ -187,7 +201,7 @@ struct Case<'a> {
 
 const EMPTY_PROGRAM: &[Held] = &[("p.sps", b"(import (rnrs base))")];
 
-const FAILURES: [Case; 5] = [
+const FAILURES: &[Case] = &[
     Case {
         held: &[],
         words: &["p.sps"],
@@ -258,7 +272,7 @@ const M_AT_FAULT: Held = (
 
 const USES_M: Held = ("p.sps", b"(import (rnrs) (m)) a");
 
-const LIBRARIES: [Case; 7] = [
+const LIBRARIES: &[Case] = &[
     Case {
         held: &[M, USES_M],
         words: &["--report", "p.sps"],
@@ -359,40 +373,43 @@ fn check_cases(rt: &impl Abort, alloc: Global, cases: &[Case]) -> Result<(), Fai
 
 #[test]
 fn failures_of_the_outside_end_a_run_as_they_should(rt: HostRuntime) -> Result<(), Fail> {
-    check_cases(&rt, rt.alloc(), &FAILURES)
+    check_cases(&rt, rt.alloc(), FAILURES)
 }
 
 #[test]
 fn libraries_stand_before_the_program_and_in_the_report(rt: HostRuntime) -> Result<(), Fail> {
-    check_cases(&rt, rt.alloc(), &LIBRARIES)
+    check_cases(&rt, rt.alloc(), LIBRARIES)
+}
+
+// Whether a run over a program of so many bytes answers and writes this.
+fn length_gives(
+    alloc: Global,
+    prims: &PrimTable,
+    length: usize,
+    status: Status,
+    out: &str,
+    err: &str,
+) -> Result<bool, Fail> {
+    let mut source = Vec::from_slice(alloc, b"(import (rnrs))")?;
+    source.resize(length, b' ')?;
+    let case = Case {
+        held: &[("p.sps", &source)],
+        words: &["p.sps"],
+        reads: &[],
+        outs: &[],
+        errs: &[],
+        status,
+        out,
+        err,
+    };
+    ends_so(alloc, prims, &case)
 }
 
 fn check_lengths(rt: &impl Abort, alloc: Global, prims: &PrimTable) -> Result<(), Fail> {
-    let mut source = Vec::from_slice(alloc, b"(import (rnrs))")?;
-    source.resize(4_194_304, b' ')?;
-    let read = run_over(
-        alloc,
-        prims,
-        &[("p.sps", &source)],
-        &["p.sps"],
-        &[],
-        &[],
-        &[],
-    )?;
-    assert_eq!(rt; read.out.as_str(), "(import (rnrs))\n");
-    assert_eq!(rt; read.status, Status::Done);
-    source.push(b' ')?;
-    let refused = run_over(
-        alloc,
-        prims,
-        &[("p.sps", &source)],
-        &["p.sps"],
-        &[],
-        &[],
-        &[],
-    )?;
-    assert_eq!(rt; refused.err.as_str(), "p.sps:1:1: 9 TooLong\n");
-    assert_eq!(rt; refused.status, Status::Fault);
+    let out = "(import (rnrs))\n";
+    assert!(rt; length_gives(alloc, prims, 4_194_304, Status::Done, out, "")?);
+    let err = "p.sps:1:1: 9 TooLong\n";
+    assert!(rt; length_gives(alloc, prims, 4_194_305, Status::Fault, "", err)?);
     Ok(())
 }
 

@@ -1,4 +1,4 @@
-use Rattle.scheme_expand.proofs.tests.run_over.Given as goal
+use Rattle.scheme_expand.proofs.tests.run_uncounted.Given as goal
 
 abbrev pub ghosts-run_counted-N-Ledger : goal.ghosts-run_counted-N-Ledger
 ghosts-run_counted-N-Ledger types a = record { name = a.nodes.name; parts = a.nodes.parts }
