@@ -7,6 +7,7 @@ use crate::tables::core_faults::{BAD_FORMS, BINDERS, BODIES, KEYWORDS, REFERENCE
 use crate::tables::core_forms::{DEFINITIONS, EXPRESSIONS, PROCEDURES};
 use crate::tables::deep::DEEP;
 use crate::tables::defining::DEFINING;
+use crate::tables::derived::DERIVED;
 use crate::tables::endless::ENDLESS;
 use crate::tables::fault_pairs::FAULT_PAIRS;
 use crate::tables::form_faults::FORM_FAULTS;
@@ -20,6 +21,7 @@ use crate::tables::libraries::LIBRARIES;
 use crate::tables::loading::{BAD, FIRST_FAULTS, NAMES, ORDER, ROOTS, SETS, VERSIONS};
 use crate::tables::patterns::PATTERNS;
 use crate::tables::positions::POSITIONS;
+use crate::tables::quasi::QUASI;
 use crate::tables::realistic::REALISTIC;
 use crate::tables::transformer_faults::TRANSFORMER_FAULTS;
 use crate::tables::transformers::TRANSFORMERS;
@@ -182,7 +184,7 @@ const LOADING: [&str; 8] = [
 ];
 
 // What macros expand to.
-const MACROS: [&str; 11] = [
+const MACROS: [&str; 13] = [
     HYGIENE,
     DEEP,
     DEFINING,
@@ -194,6 +196,8 @@ const MACROS: [&str; 11] = [
     LATE,
     LIBRARIES,
     REALISTIC,
+    DERIVED,
+    QUASI,
 ];
 
 // Uses, transformers, patterns and templates at fault.

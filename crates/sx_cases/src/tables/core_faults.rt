@@ -503,20 +503,20 @@ pub const KEYWORDS: &str = r#"
 => KeywordMisuse begin
 
 (import (rnrs))
-§(let ((x 1)) x)
-=> NotBuilt
+(let ((x 1)) x)
+=> ((lambda (%/x/0) %/x/0) 1)
 
 (import (rnrs))
 §let
-=> NotBuilt
+=> NoClause
 
 (import (rnrs))
-§(cond (else 1))
-=> NotBuilt
+(cond (else 1))
+=> 1
 
 (import (rnrs))
-(list §(and))
-=> NotBuilt
+(list (and))
+=> (list #t)
 
 (import (rnrs))
 (define-syntax f §1)
@@ -535,8 +535,8 @@ pub const KEYWORDS: &str = r#"
 => SyntaxInRunCode
 
 (import (rnrs))
-(list §`a)
-=> NotBuilt
+(list `a)
+=> (list (quote a))
 
 (import (rnrs))
 (list §(syntax-case 1 ()))
@@ -559,8 +559,8 @@ zork (define-syntax a §b)
 => Unbound b
 
 (import (rnrs))
-(list §(quasiquote x))
-=> NotBuilt
+(list (quasiquote x))
+=> (list (quote x))
 
 (import (rnrs))
 (lambda () (let-syntax () 1))
