@@ -122,19 +122,19 @@ fn record_by<N: Ledger, L: Ledger>(
 fn record_of<N: Ledger, L: Ledger>(
     alloc: Global,
     codes: IndexMap<CodeNo, Rc<Code>>,
-    names: &[(Symbol, Label)],
+    imports: &[(Symbol, Label)],
     exports: &[(Symbol, Syn)],
     forms: &[Syn],
     place: &Span,
     prims: &PrimTable,
     counts: &mut Counts<N, L>,
 ) -> Result<LibRecord, Stop>
-    requires names { names.now ≡ names }
+    requires imports { imports.now ≡ names }
     requires exports { exports.now ≡ exports_of derived }
     requires place { place.now ≡ start }
     ensures { Gives (λ r. r) result (record_of (table.seen codes.entries) forms.now) }
 {
-    let begun = expander_of(alloc, names, codes)?;
+    let begun = expander_of(alloc, imports, codes)?;
     record_by(alloc, begun, exports, forms, place, prims, counts)
 }
 

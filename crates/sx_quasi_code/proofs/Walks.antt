@@ -1,10 +1,12 @@
 -- Walking over the parts of plans, and over patterns.
 use Rattle.std.proofs.Common.{◌≡◌, ℕ, suc, ◌+◌, ◌<◌, List, [], ◌∷◌, ◌++◌, length, get_or, drop, sym, ap, ◌∙◌, arith, add-one, drop-cons, reverse}
+use Rattle.sx_base.specs.declared.op.Op.{Op}
 use Rattle.sx_core.specs.Core.{PlainCore}
 use Rattle.sx_core.specs.Pattern.{PlainPattern}
-use Rattle.sx_quasi.specs.Plan.{PlainQuasi, quasis}
+use Rattle.sx_quasi.specs.Plan.{PlainQuasi, quasis, maker_op}
+use Rattle.sx_quasi.specs.declared.maker.Maker.{Maker}
 use Rattle.sx_tree.specs.Tree.{Tree}
-use Rattle.sx_quasi_code.specs.Filled.{filled, all_filled}
+use Rattle.sx_quasi_code.specs.Filled.{op_of, filled, all_filled}
 use Rattle.sx_quasi_code.specs.Inserted.{listed, pattern_under}
 use Rattle.sx_quasi_code.specs.Parts.{quasi_parts, all_quasi_parts}
 use Rattle.sx_quasi_code.specs.declared.parts.Part.{Part}
@@ -32,3 +34,7 @@ under_on m n p total e so_far = let f : suc n ≡ m = omega (arith, e) in ap (λ
 
 pub under_none : (n : ℕ) (p total : PlainPattern) → n ≡ 0 → pattern_under n p ≡ total → p ≡ total
 under_none n p total e so_far = ap (λ k. pattern_under k p) (sym e) ∙ so_far
+
+-- the procedure of a maker
+pub op_is : (o : Op) (m : Maker) → o.0 ≡ maker_op m → o ≡ op_of m
+op_is o m e = λ i. record { 0 = e i }

@@ -79,6 +79,7 @@ fn next_code(alloc: Global, form: &Syn, codes: &mut Codes) -> Result<Core, Memor
 
 /// The code of a plan, in which the expressions have these codes, in order.
 #[cycle(filled)]
+#[tactic(auto, using(crate::proofs::Walks::op_is))]
 pub(crate) fn filled(alloc: Global, quasi: &Quasi, codes: &mut Codes) -> Result<Core, Memory>
     ensures { IfOk result (λ c. (c, codes.new) ≡ filled quasi.now codes.old) }
 {
