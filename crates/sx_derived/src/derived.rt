@@ -85,15 +85,7 @@ fn expander_of(
 {
     let path = path(alloc)?;
     let records = ReadyRecords::new(alloc)?;
-    Expander::new(
-        alloc,
-        LibName::Derived,
-        path,
-        &records,
-        &[],
-        names,
-        codes,
-    )
+    Expander::new(alloc, LibName::Derived, path, &records, &[], names, codes)
 }
 
 // The record of these forms.

@@ -33,14 +33,7 @@ fn parts_in_order<M: Transformers, N: Ledger, L: Ledger>(
     let mut done = Vec::new(state.alloc());
     for part in parts {
         let core = expression(
-            state,
-            &part.form,
-            place,
-            level,
-            part.depth,
-            means,
-            counts,
-            room,
+            state, &part.form, place, level, part.depth, means, counts, room,
         )?;
         done.push(core)?;
     }
@@ -66,14 +59,6 @@ pub(crate) fn quasi_form<M: Transformers, N: Ledger, L: Ledger>(
 {
     let quasi = form_of(state, form, which, template, place)?;
     let parts = parts_of(state.alloc(), form, &quasi, depth)?;
-    let cores = parts_in_order(
-        state,
-        parts.as_slice(),
-        place,
-        level,
-        means,
-        counts,
-        room,
-    )?;
+    let cores = parts_in_order(state, parts.as_slice(), place, level, means, counts, room)?;
     code_of(state, form, &quasi, cores, place, level, counts.nodes)
 }

@@ -145,8 +145,7 @@ module _ (own : LibName) where
       let w = with_dots f v in
       let first = but-then own f s b.labels v (but-later own f s b.labels b.patterned.later) b.binds.later in
       let keeps = keeps-then own s b.labels v b.patterned.later.up b.binds.later.up b.patterned.later.keeps b.binds.keeps in
-      subst (λ (x : State). LaterBut own f s x × (Adds own false (map variable_label vs) (map variable_depth vs) s x × Keeps own s x)) (sym b.row)
-      (
+      subst (λ (x : State). LaterBut own f s x × (Adds own false (map variable_label vs) (map variable_depth vs) s x × Keeps own s x)) (sym b.row) (
         but-then own f s v w first (dots-but f v first.next),
         (
           dots-adds f level vs s v (pattern-adds-so own f level (as_compiled vs) s b.labels v b.patterned b.binds),

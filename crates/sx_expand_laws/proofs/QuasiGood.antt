@@ -123,10 +123,10 @@ match-good own bs vs ls a m b ws x span cs le h made bound output =
     let labels : map variable_label ws ≡ variables p = sym (inserts-variables ws) in
     let ds : map variable_depth ws ≡ depths 0 p = sym (inserts-depths ws) in
     let clause : GoodClauses own bs vs ls m b (clause_on p None (instance x span) no_clause) =
-        good-clause own bs vs ls m b b b p None (instance x span) le (subst (FreshLabels own m b) labels made)
-        (record { leaves = subst (Each IsLeaf) (sym (inserts-literals ws)) tt; bound = subst (Each (IsPatternIn bs)) labels bound })
-        (omega arith)
-        (subst (λ es. Good own bs (es ++ vs) (variables p ++ ls) b b (instance x span)) ds (subst (λ ns. Good own bs (map variable_depth ws ++ vs) (ns ++ ls) b b (instance x span)) labels output)) in
+    good-clause own bs vs ls m b b b p None (instance x span) le (subst (FreshLabels own m b) labels made)
+    (record { leaves = subst (Each IsLeaf) (sym (inserts-literals ws)) tt; bound = subst (Each (IsPatternIn bs)) labels bound })
+    (omega arith)
+    (subst (λ es. Good own bs (es ++ vs) (variables p ++ ls) b b (instance x span)) ds (subst (λ ns. Good own bs (map variable_depth ws ++ vs) (ns ++ ls) b b (instance x span)) labels output)) in
     good-matching own bs vs ls a m b (call_of list_op cs) (clause_on p None (instance x span) no_clause) span (call-good own bs vs ls list_op a m cs (omega arith) h) clause
 
 module _ (own : LibName) (given : List Label) (place : Span) (level : ℕ) (t : Tree) (vs : Depths) (ls : List Label) where

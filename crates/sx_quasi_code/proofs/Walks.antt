@@ -6,7 +6,7 @@ use Rattle.sx_core.specs.Pattern.{PlainPattern}
 use Rattle.sx_quasi.specs.Plan.{PlainQuasi, quasis, maker_op}
 use Rattle.sx_quasi.specs.declared.maker.Maker.{Maker}
 use Rattle.sx_tree.specs.Tree.{Tree}
-use Rattle.sx_quasi_code.specs.Filled.{op_of, filled, all_filled}
+use Rattle.sx_quasi_code.specs.Filled.{op_of, call_of, called, filled, all_filled}
 use Rattle.sx_quasi_code.specs.Inserted.{listed, pattern_under}
 use Rattle.sx_quasi_code.specs.Parts.{quasi_parts, all_quasi_parts}
 use Rattle.sx_quasi_code.specs.declared.parts.Part.{Part}
@@ -38,3 +38,11 @@ under_none n p total e so_far = ap (λ k. pattern_under k p) (sym e) ∙ so_far
 -- the procedure of a maker
 pub op_is : (o : Op) (m : Maker) → o.0 ≡ maker_op m → o ≡ op_of m
 op_is o m e = λ i. record { 0 = e i }
+
+-- the code of a call, from that of its parts
+pub call_filled : (o : Op) (m : Maker) (c : PlainCore) (cs rest : List PlainCore) (p : List PlainCore × List PlainCore) → o.0 ≡ maker_op m → (cs, rest) ≡ p → c ≡ call_of o cs → (c, rest) ≡ called m p
+call_filled o m c cs rest p e h is = ap (λ x. (x, rest)) is ∙ ap (λ x. (call_of x cs, rest)) (op_is o m e) ∙ ap (called m) h
+
+-- the code alone
+pub first_code : (q : PlainQuasi) (ds cs rest : List PlainCore) (c : PlainCore) → ds ≡ cs → (c, rest) ≡ filled q ds → c ≡ (filled q cs).0
+first_code q ds cs rest c e h = ap (λ (p : PlainCore × List PlainCore). p.0) h ∙ ap (λ xs. (filled q xs).0) e

@@ -31,7 +31,7 @@ impl Model for Codes {
 }
 
 impl Codes {
-    pub(crate) fn new(codes: Vec<Core>) -> Codes
+    fn new(codes: Vec<Core>) -> Codes
         ensures { result ≡ codes.items }
     {
         let mut backward = codes;
@@ -79,8 +79,8 @@ fn next_code(alloc: Global, form: &Syn, codes: &mut Codes) -> Result<Core, Memor
 
 /// The code of a plan, in which the expressions have these codes, in order.
 #[cycle(filled)]
-#[tactic(auto, using(crate::proofs::Walks::op_is))]
-pub(crate) fn filled(alloc: Global, quasi: &Quasi, codes: &mut Codes) -> Result<Core, Memory>
+#[tactic(auto, using(crate::proofs::Walks::call_filled))]
+fn filled(alloc: Global, quasi: &Quasi, codes: &mut Codes) -> Result<Core, Memory>
     ensures { IfOk result (λ c. (c, codes.new) ≡ filled quasi.now codes.old) }
 {
     match &quasi.node {
@@ -104,4 +104,13 @@ fn all_filled(alloc: Global, parts: &[Quasi], codes: &mut Codes) -> Result<Vec<C
         done.push(core)?;
     }
     Ok(done)
+}
+
+/// The code of a plan, whose expressions have these codes.
+#[tactic(auto, using(crate::proofs::Walks::first_code))]
+pub(crate) fn plan_code(alloc: Global, quasi: &Quasi, codes: Vec<Core>) -> Result<Core, Memory>
+    ensures { IfOk result (λ c. c ≡ (filled quasi.now codes.items).0) }
+{
+    let mut codes = Codes::new(codes);
+    filled(alloc, quasi, &mut codes)
 }

@@ -6,7 +6,7 @@ ghost use Rattle.sx_quasi.specs.declared.word.Family.TheVariants as family;
 ghost use Rattle.sx_quasi_code.specs.Form.{form_of, parts_of, code_of};
 ghost use Rattle.sx_quasi_code.specs.Inserted.{syntax_code};
 
-use crate::filled::{Codes, filled};
+use crate::filled::plan_code;
 use crate::inserted::{dots, inserted, plain_instance};
 use crate::parts::{Part, inserts_parts, push_quasi};
 use std::alloc::Global;
@@ -124,10 +124,7 @@ pub fn code_of<N: Ledger>(
     ensures { GivesAfter (λ c. c) result state.new (code_of place.now level form.now quasi.now codes.items state.old) }
 {
     match quasi {
-        QuasiForm::Quote(plan) => {
-            let mut codes = Codes::new(codes);
-            Ok(filled(state.alloc(), plan, &mut codes)?)
-        }
+        QuasiForm::Quote(plan) => Ok(plan_code(state.alloc(), plan, codes)?),
         QuasiForm::Syntax(quasi) => syntax_code(state, form, quasi, codes, place, level, nodes),
     }
 }

@@ -202,13 +202,7 @@ fn inserted_in<N: Ledger>(
     let template = quasi.template.stamp(state.alloc(), frame, nodes)?;
     let template = state.template(&template, place, level)?;
     let span = place_of(form, place)?;
-    Ok(match_of(
-        state.alloc(),
-        variables.as_slice(),
-        template,
-        span,
-        codes,
-    )?)
+    Ok(match_of(state.alloc(), variables.as_slice(), template, span, codes)?)
 }
 
 /// The code of a form with inserts, whose expressions have these codes.
