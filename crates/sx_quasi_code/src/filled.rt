@@ -23,9 +23,13 @@ pub struct Codes {
 
 impl Model for Codes {
     ghost use Rattle.std.specs.Prelude.{List, reverse};
+    ghost use Rattle.std.specs.Coded.{coded_list};
     ghost use Rattle.sx_core.specs.Core.{PlainCore};
+    ghost use Rattle.sx_core.specs.CoreCode.{core_code};
 
     ghost Value = { List PlainCore };
+
+    ghost coded = { coded_list core_code };
 
     ghost view = { λ c. reverse c.backward.items };
 }
