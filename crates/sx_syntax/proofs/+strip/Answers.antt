@@ -41,7 +41,7 @@ strip::strip_along-loop-left-preserved t c =
     let u = l.left in
     let x = c.in-Some.item in
     let y = c.in-Some.others in
-    let p : Parts (Some (x, y)) u = subst (λ o. Parts o u) c.in-Some.is c.in_ok-parts.ensures in
+    let p : Parts (Some (x, y)) u = subst (λ o. Parts o u) c.in-Some.is c.in_ok-item.ensures in
     let e = rest_pair u x y p.0 l.invariant.rest in
     record {
       list = ap (λ ds. datum.chain ds (strip y)) c.in_ok-push-2.ensures.items ∙ strip_more l.data.items u x y c.in_ok-datum-2.datum _ e c.in_ok-datum-2.ensures l.invariant.list;
@@ -56,7 +56,7 @@ strip::strip_elements-loop-left-preserved t c =
     let u = l.left in
     let x = c.in-Some.item in
     let y = c.in-Some.others in
-    let p : Parts (Some (x, y)) u = subst (λ o. Parts o u) c.in-Some.is c.in_ok-parts.ensures in
+    let p : Parts (Some (x, y)) u = subst (λ o. Parts o u) c.in-Some.is c.in_ok-item.ensures in
     let e = elements_pair u x y p.0 l.invariant.elements in
     record {
       list = ap (λ ds. datum.chain ds (strip y)) c.in_ok-push.ensures.items ∙ strip_more l.data.items u x y c.in_ok-datum.datum _ e c.in_ok-datum.ensures l.invariant.list;
