@@ -1,5 +1,5 @@
 -- Trees that grow from data.
-use Rattle.std.proofs.Common.{◌≡◌, ℕ, zero, suc, ◌+◌, ◌<◌, ◌≤◌, List, [], ◌∷◌, ◌++◌, Option, None, Some, map, drop, length, get_or, Bool, true, false, refl, sym, ap, ◌∙◌, subst, arith, drop-cons}
+use Rattle.std.proofs.Common.{◌≡◌, ℕ, zero, suc, ◌+◌, ◌<◌, ◌≤◌, List, [], ◌∷◌, ◌++◌, Option, None, Some, map, take, drop, length, get_or, Bool, true, false, refl, sym, ap, ◌∙◌, subst, arith, drop-cons}
 use Rattle.std.specs.Prelude.{IsTrue, ◌&&◌}
 use Rattle.sx_base.specs.declared.atom.Atom.TheVariants.{Nil, Bool as Boolean, Int, Spelt, Char, Str, Bytes}
 use Rattle.sx_base.specs.declared.span.Span.{Span}
@@ -106,6 +106,14 @@ later_data f (e ∷ es) (suc k) t h = later_data f es k t (pair_fits None (f e) 
 pub later_smaller : (ds : List PlainDatum) (t : PlainDatum) → 0 < length ds → datum_size (datum.chain (drop 1 ds) datum.nil) + 2 ≤ datum_size (datum.chain ds t)
 later_smaller [] t l = absurd (omega arith)
 later_smaller (d ∷ ds) t l = omega (arith, elements_smaller ds t, datum_size-some d)
+
+take_smaller : (n : ℕ) (ds : List PlainDatum) → datum_size (datum.chain (take n ds) datum.nil) ≤ datum_size (datum.chain ds datum.nil)
+take_smaller zero ds = datum_size-some (datum.chain ds datum.nil)
+take_smaller (suc n) [] = omega arith
+take_smaller (suc n) (d ∷ ds) = omega (arith, take_smaller n ds)
+
+pub part_smaller : (n : ℕ) (ds : List PlainDatum) (t : PlainDatum) → 0 < length ds → datum_size (datum.chain (take n (drop 1 ds)) datum.nil) + 2 ≤ datum_size (datum.chain ds t)
+part_smaller n ds t l = omega (arith, take_smaller n (drop 1 ds), later_smaller ds t l)
 
 tail_rest : (c : LeafContext) (d : PlainDatum) → datum.is_tail d ≡ true → IsRest (tree_of c d)
 tail_rest c (datum.atom None Nil) h = refl

@@ -75,9 +75,10 @@ module _ (n : Whole) (k : Tree) (shown : view_of n ≡ k) where
 
   pub parts_node : (e : Extent) (a d x y : Tree) → n.shape ≡ shape.Pair e a d → IsRest d → x ≡ changed n.wrap a → y ≡ changed n.wrap d → Parts (Some (x, y)) k
   parts_node e a d x y g r p q =
-      let t : pair n.span (changed n.wrap a) (changed n.wrap d) ≡ k = tree_node (shape.Pair e a d) g in
-      (sym t ∙ ap (λ s. pair s (changed n.wrap a) (changed n.wrap d)) (ap span_of t) ∙ ap (λ u. pair (span_of k) u (changed n.wrap d)) (sym p) ∙ ap (pair (span_of k) x) (sym q),
-      subst IsRest (sym q) (changed_rest n.wrap d r))
+      let t : pair n.span (changed n.wrap a) (changed n.wrap d) ≡ k = tree_node (shape.Pair e a d) g in (
+        sym t ∙ ap (λ s. pair s (changed n.wrap a) (changed n.wrap d)) (ap span_of t) ∙ ap (λ u. pair (span_of k) u (changed n.wrap d)) (sym p) ∙ ap (pair (span_of k) x) (sym q),
+        subst IsRest (sym q) (changed_rest n.wrap d r),
+      )
 
   pub unspanned_node : (f : Shape) → n.shape ≡ f → changed n.wrap (unspanned (shape_tree f)) ≡ unspanned k
   unspanned_node f g =

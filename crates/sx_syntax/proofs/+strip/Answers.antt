@@ -1,6 +1,7 @@
 use Rattle.std.proofs.Common.{◌≡◌, ◌∙◌, ◌++◌, ◌∷◌, [], Some, None, ap, sym, subst, arith, refl}
 use Rattle.std.proofs.lemmas.Result.{IfOk-weaker}
 use Rattle.sx_base.specs.Datum as datum
+use Rattle.sx_base.specs.DatumView.{is_some_list}
 use Rattle.sx_tree.specs.Leaves.{strip}
 use Rattle.sx_tree.specs.Tree.{Tree, pair}
 use Rattle.sx_syntax.specs.Kept.{weight, IsRest, IsElements, Parts}
@@ -33,3 +34,32 @@ pub kept::Kept::strip-returns-in_ok-items-in-Vector : goal.kept::Kept::strip-ret
 kept::Kept::strip-returns-in_ok-items-in-Vector t c =
     ap (datum.vector c.in_ok-span.span) c.in_ok-items-in-Vector.ensures ∙ ap (λ s. datum.vector s (strip c.in-Vector.elements)) c.in_ok-span.ensures
     ∙ strip_node (whole_of c.self.inside.wrap c.deref-node.result.now) c.args.self.now (ap (λ (x : Node). view_of (whole_of c.self.inside.wrap x)) c.deref-node.ensures ∙ c.self.view_is) (shape.Vector c.in-Vector.field-0 c.in-Vector.elements) c.in-Vector.is
+
+pub strip::strip_along-loop-left-preserved : goal.strip::strip_along-loop-left-preserved
+strip::strip_along-loop-left-preserved t c =
+    let l = c.loop-left in
+    let u = l.left in
+    let x = c.in-Some.item in
+    let y = c.in-Some.others in
+    let p : Parts (Some (x, y)) u = subst (λ o. Parts o u) c.in-Some.is c.in_ok-item.ensures in
+    let e = rest_pair u x y p.0 l.invariant.rest in
+    record {
+      list = ap (λ ds. datum.chain ds (strip y)) c.in_ok-push-2.ensures.items ∙ strip_more l.data.items u x y c.in_ok-datum-2.datum _ e c.in_ok-datum-2.ensures l.invariant.list;
+      some = ap is_some_list c.in_ok-push-2.ensures.items ∙ some_more l.data.items c.in_ok-datum-2.datum;
+      rest = p.1;
+      less = omega (arith, rest_less u x y None e, l.invariant.less);
+    }
+
+pub strip::strip_elements-loop-left-preserved : goal.strip::strip_elements-loop-left-preserved
+strip::strip_elements-loop-left-preserved t c =
+    let l = c.loop-left in
+    let u = l.left in
+    let x = c.in-Some.item in
+    let y = c.in-Some.others in
+    let p : Parts (Some (x, y)) u = subst (λ o. Parts o u) c.in-Some.is c.in_ok-item.ensures in
+    let e = elements_pair u x y p.0 l.invariant.elements in
+    record {
+      list = ap (λ ds. datum.chain ds (strip y)) c.in_ok-push.ensures.items ∙ strip_more l.data.items u x y c.in_ok-datum.datum _ e c.in_ok-datum.ensures l.invariant.list;
+      elements = elements_rest u x y p.0 l.invariant.elements;
+      less = omega (arith, rest_less u x y None e, l.invariant.less);
+    }

@@ -1,13 +1,14 @@
 use Rattle.std.proofs.Common.{◌≡◌, ◌∙◌, ◌++◌, ◌∷◌, [], Some, None, ap, sym, subst, arith, refl}
 use Rattle.std.proofs.lemmas.Result.{IfOk-weaker}
-use Rattle.sx_tree.specs.Tree.{Tree, pair, vector, chain, spanned, unspanned, is_pair}
+use Rattle.sx_tree.specs.Tree.{Tree, pair, vector, chain, spanned, unspanned, span_of, is_pair}
 use Rattle.sx_tree.specs.Changes.{changed}
+use Rattle.sx_tree.specs.Measures.{Fits}
 use Rattle.sx_syntax.specs.Kept.{weight, IsRest, IsElements, Parts}
 use Rattle.sx_syntax.specs.KeptView.{view_of, whole_of, InShape, IsPair, IsVector}
 use Rattle.sx_syntax.specs.declared.kept.Node.{Node}
 use Rattle.sx_syntax.specs.declared.kept.Shape.TheVariants as shape
 use Rattle.sx_syntax.proofs.NodeLemmas.{tree_node, weight_node, unspanned_node}
-use Rattle.sx_syntax.proofs.ListLemmas.{unspanned_elements, unspanned_rest, unspanned_fits}
+use Rattle.sx_syntax.proofs.ListLemmas.{unspanned_elements, unspanned_rest, unspanned_fits, first_more, rest_less}
 use Rattle.sx_syntax.proofs.+unspanned.Goals as goal
 
 pub kept::Kept::unspanned_end-returns-in-Atom : goal.kept::Kept::unspanned_end-returns-in-Atom
@@ -35,3 +36,22 @@ kept::Kept::unspanned_end-returns-in_ok-vector-in-Vector t c =
     (λ k h. h ∙ ap (changed c.self.inside.wrap) (c.in_ok-vector-in-Vector.ensures ∙ ap (vector None) c.in_ok-list-in-Vector.ensures)
     ∙ unspanned_node (whole_of c.self.inside.wrap c.deref-node.result.now) c.args.self.now (ap (λ (x : Node). view_of (whole_of c.self.inside.wrap x)) c.deref-node.ensures ∙ c.self.view_is) (shape.Vector c.in-Vector.field-0 c.in-Vector.elements) c.in-Vector.is)
     c.under.ensures
+
+pub unspanned::unspanned_along-returns-in_default-clause-fits : goal.unspanned::unspanned_along-returns-in_default-clause-fits
+unspanned::unspanned_along-returns-in_default-clause-fits t c =
+    let same = ap (chain c.loop-left.items.items) c.in_ok-end.ensures ∙ c.loop-left.invariant.list in
+    subst Fits (sym same) (unspanned_fits c.args.list.now c.within.ensures)
+
+pub unspanned::unspanned_along-loop-left-preserved : goal.unspanned::unspanned_along-loop-left-preserved
+unspanned::unspanned_along-loop-left-preserved t c =
+    let l = c.loop-left in
+    let u = l.left in
+    let x = c.in-Some.item in
+    let y = c.in-Some.others in
+    let z = c.in_ok-item-2.item in
+    let p : Parts (Some (x, y)) u = subst (λ o. Parts o u) c.in-Some.is c.in_ok-item.ensures in
+    record {
+      list = ap (λ xs. chain xs (unspanned y)) c.in_ok-push.ensures.items ∙ first_more l.items.items z (unspanned y)
+          ∙ ap (chain l.items.items) (ap (λ i. pair None i (unspanned y)) c.in_ok-item-2.ensures ∙ sym (ap unspanned p.0)) ∙ l.invariant.list;
+      less = omega (arith, rest_less u x y (span_of u) p.0, l.invariant.less);
+    }

@@ -1,14 +1,16 @@
-use Rattle.std.proofs.Common.{◌≡◌, ◌-◌, ◌<◌, ◌∙◌, ap, sym, subst, arith, suc, drop, map, length, true, None}
+use Rattle.std.proofs.Common.{refl, ◌≡◌, ◌-◌, ◌<◌, ◌∙◌, ap, sym, subst, arith, suc, drop, map, length, true, None}
 use Rattle.std.proofs.lemmas.Result.{IfOk-weaker, IfErr-weaker, err_from_is_err_and}
 use Rattle.sx_base.specs.Datum.{PlainDatum}
+use Rattle.sx_base.specs.Datum as datum
 use Rattle.sx_base.specs.DatumView.{seen}
 use Rattle.sx_tree.specs.Tree.{Tree, pair, chain, spanned, vector, nil}
 use Rattle.sx_tree.specs.Measures.{Fits}
 use Rattle.sx_tree.proofs.MeasureLaws.{chain_fits}
-use Rattle.sx_syntax.specs.Kept.{IsRest}
+use Rattle.sx_syntax.specs.Kept.{IsRest, IsElements}
+use Rattle.sx_syntax.proofs.ListLemmas.{chain_elements}
 use Rattle.sx_syntax.specs.Leaves.{grown_tree, span_by}
 use Rattle.sx_syntax.proofs.GivesLemmas.{refuses_more}
-use Rattle.sx_syntax.proofs.GrownLemmas.{datum_size-some, end_smaller, elements_smaller, element_smaller, later_smaller, later_data, list_node, vector_node, bare_fits, vector_fits, datum_fits, grown_more, more_fits, grown_rest}
+use Rattle.sx_syntax.proofs.GrownLemmas.{datum_size-some, end_smaller, elements_smaller, element_smaller, part_smaller, later_data, list_node, vector_node, bare_fits, vector_fits, datum_fits, grown_more, more_fits, grown_rest}
 use Rattle.sx_syntax.proofs.leaves.+from_datum.Goals as goal
 
 pub from_datum-returns-in-List-clause-tree : goal.from_datum-returns-in-List-clause-tree
@@ -87,3 +89,17 @@ data_before-returns-in-Err-clause-refused t c =
     let more : c.loop-at.list ≡ chain (map f (drop (suc at) ds)) c.args.rest = rw next c.loop-at.invariant.list in
     refuses_more c.in-Err.stop (Fits (pair None c.in_ok-tree.tree c.loop-at.list)) (Fits (chain (map f ds) c.args.rest))
     (λ h. more_fits f ds at c.index-items-at.result c.in_ok-tree.tree c.loop-at.list c.args.rest l c.index-items-at.is c.in_ok-tree.ensures.tree more h) c.in-Err.ensures.refused
+
+pub from_list-data_before-requires : goal.from_list-data_before-requires
+from_list-data_before-requires t c =
+    let small = part_smaller (length c.args.items.now - 1) c.args.items.now c.args.tail.now c.requires.some in
+    (grind (arith, small), c.in_ok-end.ensures.rest)
+
+pub from_vector-data_before-requires : goal.from_vector-data_before-requires
+from_vector-data_before-requires t c = (omega (arith, datum_size-some (datum.chain c.args.items.now datum.nil)), subst IsRest (sym c.in_ok-end.ensures) refl)
+
+pub from_vector-into_vector-requires : goal.from_vector-into_vector-requires
+from_vector-into_vector-requires t c =
+    let f = grown_tree c.args.spans c.args.sample.now in
+    let end : IsElements c.in_ok-end.end = subst IsElements (sym c.in_ok-end.ensures) refl in
+    subst IsElements (sym c.in_ok-list.ensures.tree) (chain_elements (map f c.args.items.now) c.in_ok-end.end end)

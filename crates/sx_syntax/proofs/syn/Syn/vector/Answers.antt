@@ -1,12 +1,19 @@
-use Rattle.std.proofs.Common.{None, ◌∙◌, ap}
+use Rattle.std.proofs.Common.{None, ◌∙◌, ap, refl, sym, subst}
 use Rattle.std.proofs.lemmas.Result.{err_from_is_err_and}
 use Rattle.sx_tree.specs.Tree.{Tree, vector, vector_of, chain, nil}
+use Rattle.sx_syntax.specs.Kept.{IsElements}
+use Rattle.sx_syntax.proofs.ListLemmas.{chain_elements}
 use Rattle.sx_syntax.proofs.GivesLemmas.{gives_tree, gives_stop}
 use Rattle.sx_syntax.proofs.syn.Syn.vector.Goals as goal
 
+pub into_vector-requires : goal.into_vector-requires
+into_vector-requires c =
+    let end : IsElements c.in_ok-end.end = subst IsElements (sym c.in_ok-end.ensures) refl in
+    subst IsElements (sym c.in_ok-list.ensures.tree) (chain_elements c.args.items.items c.in_ok-end.end end)
+
 pub returns-in_err-list : goal.returns-in_err-list
 returns-in_err-list c =
-    let p = err_from_is_err_and c.from_residual.result c.from_residual.ensures.1 in
+    let p = err_from_is_err_and c.from_residual-in_err-list.result c.from_residual-in_err-list.ensures.1 in
     let refused = rw c.in_ok-end.ensures at c.in_err-list.ensures.refused in
     rw (p.1, p.2) (gives_stop c.in_err-list.field-0.0 (vector_of c.args.items.items) refused)
 
