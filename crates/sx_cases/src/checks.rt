@@ -7,6 +7,7 @@ use crate::tables::core_faults::{BAD_FORMS, BINDERS, BODIES, KEYWORDS, REFERENCE
 use crate::tables::core_forms::{DEFINITIONS, EXPRESSIONS, PROCEDURES};
 use crate::tables::deep::DEEP;
 use crate::tables::defining::DEFINING;
+use crate::tables::derived::DERIVED;
 use crate::tables::endless::ENDLESS;
 use crate::tables::fault_pairs::FAULT_PAIRS;
 use crate::tables::form_faults::FORM_FAULTS;
@@ -20,6 +21,7 @@ use crate::tables::libraries::LIBRARIES;
 use crate::tables::loading::{BAD, FIRST_FAULTS, NAMES, ORDER, ROOTS, SETS, VERSIONS};
 use crate::tables::patterns::PATTERNS;
 use crate::tables::positions::POSITIONS;
+use crate::tables::quasi::QUASI;
 use crate::tables::realistic::REALISTIC;
 use crate::tables::transformer_faults::TRANSFORMER_FAULTS;
 use crate::tables::transformers::TRANSFORMERS;
@@ -181,6 +183,9 @@ const MACROS: [&str; 6] = [HYGIENE, DEEP, DEFINING, IDENTIFIERS, PATTERNS, TRANS
 // Where macros are bound.
 const SCOPES: [&str; 5] = [LET_SYNTAX, LEVELS, LATE, LIBRARIES, REALISTIC];
 
+// Derived forms and quasi forms.
+const DERIVED_FORMS: [&str; 2] = [DERIVED, QUASI];
+
 // Uses, transformers, patterns and templates at fault.
 const FAULTS: [&str; 5] = [
     POSITIONS,
@@ -213,4 +218,9 @@ fn macros_are_bound_where_they_should_be(rt: HostRuntime) -> Result<(), Fail> {
 #[test]
 fn macros_at_fault_are_told_at_their_places(rt: HostRuntime) -> Result<(), Fail> {
     check(rt.alloc(), &FAULTS)
+}
+
+#[test]
+fn derived_forms_expand(rt: HostRuntime) -> Result<(), Fail> {
+    check(rt.alloc(), &DERIVED_FORMS)
 }

@@ -2,6 +2,7 @@
 use Rattle.std.specs.Prelude.{◌≡◌, ◌≤◌, ◌<◌, ◌⊎◌, ℕ, Bool, true, List, ◌++◌, Option, Some, None}
 use Rattle.sx_base.specs.Named.{Named}
 use Rattle.sx_base.specs.declared.library.LibName.{LibName}
+use Rattle.sx_base.specs.declared.library.LibName.TheVariants as library
 use Rattle.sx_base.specs.declared.name.FrameNo.{FrameNo}
 use Rattle.sx_base.specs.declared.name.Label.{Label}
 use Rattle.sx_base.specs.declared.op.Op.{Op}
@@ -22,6 +23,10 @@ IsOwn own n = n.library ≡ own
 
 abbrev pub IsForeign : LibName → Named → Type 0
 IsForeign own n = n.library ≡ own → ⊥
+
+-- a label of the library, or of a core form
+abbrev pub IsOwnOrCore : LibName → Label → Type 0
+IsOwnOrCore own l = IsOwn own l.0 ⊎ (l.0.library ≡ library.Core)
 
 -- a label is bound
 abbrev pub IsBound : State → Label → Type 0
@@ -87,10 +92,10 @@ pub record IndicesApart (own : LibName) (s : State) : Type 0 where
       → v.index ≡ Some i → w.index ≡ Some i → l ≡ m
 
 -- What a library adds: its frames keep their rows, labels stay bound to what they are bound to, what comes gives labels of the
--- library and binds them, and indices that are apart stay so.
+-- library, or of core forms, and binds those of the library, and indices that are apart stay so.
 pub record Grows (own : LibName) (s t : State) : Type 0 where
   pub kept : (f : FrameNo) (r : Row) → Among (rows_at f s.frames) r → Among (rows_at f t.frames) r
-  pub rows : (f : FrameNo) (r : Row) → Among (rows_at f t.frames) r → Among (rows_at f s.frames) r ⊎ IsOwn own r.label.0
+  pub rows : (f : FrameNo) (r : Row) → Among (rows_at f t.frames) r → Among (rows_at f s.frames) r ⊎ IsOwnOrCore own r.label
   pub bindings : (l : Label) (b : Binding) → bound_to t.bindings l ≡ Some b → (bound_to s.bindings l ≡ Some b) ⊎ (IsOwn own l.0 × IsAdded b)
   pub bound : (l : Label) (b : Binding) → bound_to s.bindings l ≡ Some b → bound_to t.bindings l ≡ Some b
   pub indices : IndicesApart own s → IndicesApart own t

@@ -225,7 +225,7 @@ impl KeptFrames {
         let asked = symbol.share()?;
         let answer = look(self.alloc, &self.frames, asked, stamps.as_slice())?;
         let label = share_label(answer.label.as_ref())?;
-        self.memo.put(symbol, marks, stamps, answer)?;
+        self.memo.keep(self.alloc, symbol, marks, stamps, answer)?;
         Ok(label)
     }
 

@@ -52,6 +52,9 @@ impl Model for Memo {
     ghost invariant = { λ m. AreNumbered m.stamps.keys m.answers.entries };
 }
 
+/// How many answers are kept at most. With lists of some hundred stamps they take a few dozen megabytes.
+const LIMIT: usize = 2048;
+
 impl Memo {
     /// No answers. It takes no memory.
     pub fn new(alloc: Global) -> Memo
@@ -89,7 +92,7 @@ impl Memo {
     }
 
     /// Keeps an answer, in the place of an older one.
-    pub fn put(
+    fn put(
         &mut self,
         symbol: Symbol,
         marks: Marks,
@@ -113,5 +116,22 @@ impl Memo {
             Ok(_) => Ok(()),
             Err(_) => Err(Memory),
         }
+    }
+
+    /// As `put`. A memo that is full forgets first, so that it stays small however much is asked.
+    pub fn keep(
+        &mut self,
+        alloc: Global,
+        symbol: Symbol,
+        marks: Marks,
+        stamps: Items<Stamp>,
+        answer: Answer,
+    ) -> Result<(), Memory>
+        ensures { (k : Kept) → Has k self.new → Has k self.old ⊎ (k ≡ kept symbol stamps answer) }
+    {
+        if self.answers.len() >= LIMIT {
+            *self = Memo::new(alloc);
+        }
+        self.put(symbol, marks, stamps, answer)
     }
 }

@@ -58,8 +58,9 @@ impl Expansion {
         })
     }
 
+    /// Binds an identifier in a frame to a label. A second binder of one identifier is at fault.
     #[tactic(auto, using(crate::proofs::Rows::stops_at_row))]
-    pub(crate) fn bind_row(
+    pub fn bind_row(
         &mut self,
         frame: &FrameNo,
         id: &Syn,

@@ -1,6 +1,7 @@
 -- Trees that grow from data.
-use Rattle.std.proofs.Common.{◌≡◌, ℕ, zero, suc, ◌+◌, ◌<◌, ◌≤◌, List, [], ◌∷◌, ◌++◌, Option, None, Some, map, drop, length, get_or, Bool, true, false, refl, sym, ap, ◌∙◌, subst, arith, drop-cons, append_assoc}
+use Rattle.std.proofs.Common.{◌≡◌, ℕ, zero, suc, ◌+◌, ◌<◌, ◌≤◌, List, [], ◌∷◌, ◌++◌, Option, None, Some, map, take, drop, length, get_or, Bool, true, false, refl, sym, ap, ◌∙◌, subst, arith, drop-cons}
 use Rattle.std.specs.Prelude.{IsTrue, ◌&&◌}
+use Rattle.sx_base.specs.declared.atom.Atom.TheVariants.{Nil, Bool as Boolean, Int, Spelt, Char, Str, Bytes}
 use Rattle.sx_base.specs.declared.span.Span.{Span}
 use Rattle.sx_base.specs.declared.fault.BareStop.{BareStop}
 use Rattle.sx_base.specs.Datum.{PlainDatum, datum_size, listed}
@@ -10,10 +11,8 @@ use Rattle.sx_tree.specs.Context.{LeafContext}
 use Rattle.sx_tree.specs.Tree.{Tree, pair, vector, nil, chain, spanned}
 use Rattle.sx_tree.specs.Measures.{Fits, height, size}
 use Rattle.sx_tree.specs.Leaves.{tree_of}
-use Rattle.sx_tree.proofs.TreeLaws.{chain-append}
 use Rattle.sx_tree.proofs.MeasureLaws.{pair_fits, chain_fits, height-spanned, size-spanned}
-use Rattle.sx_syntax.specs.Kept.{Lazily, end_of}
-use Rattle.sx_syntax.specs.Builder.{Built, built_tree, with_front}
+use Rattle.sx_syntax.specs.Kept.{IsRest}
 use Rattle.sx_syntax.specs.Leaves.{sample_context, span_by, datum_by, grown_tree}
 use Rattle.sx_syntax.specs.declared.leaves.Sample.{Sample}
 use Rattle.sx_syntax.specs.declared.leaves.Spans.{Spans}
@@ -98,23 +97,63 @@ element_fits f (e ∷ es) (suc k) d t l h = element_fits f es k d t (omega arith
 pub datum_fits : (f : PlainDatum → Tree) (ds : List PlainDatum) (k : ℕ) (d : PlainDatum) (t : Tree) → k < length ds → d ≡ get_or ds k d → Fits (chain (map f ds) t) → Fits (f d)
 datum_fits f ds k d t l e h = subst (λ x. Fits (f x)) (sym e) (element_fits f ds k d t l h)
 
-later_data : (f : PlainDatum → Tree) (ds : List PlainDatum) (k : ℕ) (t : Tree) → Fits (chain (map f ds) t) → Fits (chain (map f (drop k ds)) t)
+pub later_data : (f : PlainDatum → Tree) (ds : List PlainDatum) (k : ℕ) (t : Tree) → Fits (chain (map f ds) t) → Fits (chain (map f (drop k ds)) t)
 later_data f [] zero t h = h
 later_data f [] (suc k) t h = h
 later_data f (e ∷ es) zero t h = h
 later_data f (e ∷ es) (suc k) t h = later_data f es k t (pair_fits None (f e) (chain (map f es) t) h).1
 
+pub later_smaller : (ds : List PlainDatum) (t : PlainDatum) → 0 < length ds → datum_size (datum.chain (drop 1 ds) datum.nil) + 2 ≤ datum_size (datum.chain ds t)
+later_smaller [] t l = absurd (omega arith)
+later_smaller (d ∷ ds) t l = omega (arith, elements_smaller ds t, datum_size-some d)
+
+take_smaller : (n : ℕ) (ds : List PlainDatum) → datum_size (datum.chain (take n ds) datum.nil) ≤ datum_size (datum.chain ds datum.nil)
+take_smaller zero ds = datum_size-some (datum.chain ds datum.nil)
+take_smaller (suc n) [] = omega arith
+take_smaller (suc n) (d ∷ ds) = omega (arith, take_smaller n ds)
+
+pub part_smaller : (n : ℕ) (ds : List PlainDatum) (t : PlainDatum) → 0 < length ds → datum_size (datum.chain (take n (drop 1 ds)) datum.nil) + 2 ≤ datum_size (datum.chain ds t)
+part_smaller n ds t l = omega (arith, take_smaller n (drop 1 ds), later_smaller ds t l)
+
+tail_rest : (c : LeafContext) (d : PlainDatum) → datum.is_tail d ≡ true → IsRest (tree_of c d)
+tail_rest c (datum.atom None Nil) h = refl
+tail_rest c (datum.atom (Some s) Nil) h = absurd (cc)
+tail_rest c (datum.atom s (Boolean _)) h = refl
+tail_rest c (datum.atom s (Int _)) h = refl
+tail_rest c (datum.atom s (Spelt _)) h = refl
+tail_rest c (datum.atom s (Char _)) h = refl
+tail_rest c (datum.atom s (Str _)) h = refl
+tail_rest c (datum.atom s (Bytes _)) h = refl
+tail_rest c (datum.symbol s x) h = refl
+tail_rest c (datum.pair s d e) h = absurd (cc)
+tail_rest c (datum.vector s d) h = refl
+
+bare_rest : (c : LeafContext) (d : PlainDatum) → datum.is_tail d ≡ true → IsRest (tree_of c (datum.unspanned d))
+bare_rest c (datum.atom s Nil) h = refl
+bare_rest c (datum.atom s (Boolean _)) h = refl
+bare_rest c (datum.atom s (Int _)) h = refl
+bare_rest c (datum.atom s (Spelt _)) h = refl
+bare_rest c (datum.atom s (Char _)) h = refl
+bare_rest c (datum.atom s (Str _)) h = refl
+bare_rest c (datum.atom s (Bytes _)) h = refl
+bare_rest c (datum.symbol s x) h = refl
+bare_rest c (datum.pair s d e) h = absurd (cc)
+bare_rest c (datum.vector s d) h = refl
+
 -- one more element from the end
-pub grown_more : (f : PlainDatum → Tree) (ds : List PlainDatum) (k : ℕ) (d : PlainDatum) (x : Tree) (b old : Built) → k < length ds → d ≡ get_or ds k d → x ≡ f d
-    → b.elements ≡ map f (drop (suc k) ds) ++ old.elements → b.tail ≡ old.tail → Fits (chain (map f ds) (built_tree old)) → Fits (built_tree (with_front x b))
-grown_more f ds k d x b old l e g h t fits =
-    let whole : built_tree (with_front x b) ≡ chain (map f (drop k ds)) (built_tree old) =
-    ap (λ o. pair None x (chain b.elements (end_of o))) t
-    ∙ ap (λ y. pair None y (chain b.elements (end_of old.tail))) (g ∙ ap f e)
-    ∙ ap (λ ys. pair None (f (get_or ds k d)) (chain ys (end_of old.tail))) h
-    ∙ ap (pair None (f (get_or ds k d))) (chain-append (map f (drop (suc k) ds)) old.elements (end_of old.tail))
-    ∙ ap (λ ys. chain (map f ys) (built_tree old)) (sym (drop-cons ds k d l)) in
-    subst Fits (sym whole) (later_data f ds k (built_tree old) fits)
+pub grown_more : (f : PlainDatum → Tree) (ds : List PlainDatum) (k : ℕ) (d : PlainDatum) (x u t : Tree) → k < length ds → d ≡ get_or ds k d → x ≡ f d
+    → u ≡ chain (map f (drop (suc k) ds)) t → pair None x u ≡ chain (map f (drop k ds)) t
+grown_more f ds k d x u t l e g h =
+    ap (λ y. pair None y u) (g ∙ ap f e) ∙ ap (pair None (f (get_or ds k d))) h ∙ ap (λ ys. chain (map f ys) t) (sym (drop-cons ds k d l))
+
+pub more_fits : (f : PlainDatum → Tree) (ds : List PlainDatum) (k : ℕ) (d : PlainDatum) (x u t : Tree) → k < length ds → d ≡ get_or ds k d → x ≡ f d
+    → u ≡ chain (map f (drop (suc k) ds)) t → Fits (chain (map f ds) t) → Fits (pair None x u)
+more_fits f ds k d x u t l e g h fits = subst Fits (sym (grown_more f ds k d x u t l e g h)) (later_data f ds k t fits)
+
+-- what ends a datum is no list with a span
+pub grown_rest : (b : Spans) (s : Sample) (d : PlainDatum) → datum.is_tail d ≡ true → IsRest (grown_tree b s d)
+grown_rest spans.Keep s d h = tail_rest (sample_context s) d h
+grown_rest spans.Leave s d h = bare_rest (sample_context s) d h
 
 pub list_node : (b : Spans) (s : Sample) (p q : Option Span) (ds es : List PlainDatum) (t u d : PlainDatum) → es ≡ ds → u ≡ t → q ≡ span_by b p → IsTrue (is_some_list ds && datum.is_tail t) → listed p ds t ≡ d
     → grown_tree b s d ≡ spanned q (chain (map (grown_tree b s) es) (grown_tree b s u))

@@ -1,10 +1,6 @@
 pub mod WrapLemmas
-pub mod KeptLemmas
-pub mod FormLemmas
 pub mod NodeLemmas
-pub mod BuiltLemmas
+pub mod ListLemmas
 pub mod GivesLemmas
-pub mod DepthLemmas
 pub mod StripLemmas
-pub mod UnspannedLemmas
 pub mod GrownLemmas

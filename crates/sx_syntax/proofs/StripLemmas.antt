@@ -1,21 +1,60 @@
--- The datum of a node.
-use Rattle.std.proofs.Common.{◌≡◌, ◌<◌, ◌≤◌, true, false, List, [], ◌∷◌, Option, None, Some, map, drop, length, refl, sym, ap, ◌∙◌, subst, arith, length-drop}
-use Rattle.std.specs.Prelude.{IsTrue, ◌&&◌}
+-- The datum of a list.
+use Rattle.std.proofs.Common.{◌≡◌, Bool, true, false, List, [], ◌∷◌, ◌++◌, Option, None, Some, refl, sym, ap, ◌∙◌, subst}
+use Rattle.std.specs.Prelude.{◌&&◌}
 use Rattle.sx_base.specs.declared.span.Span.{Span}
 use Rattle.sx_base.specs.declared.atom.Atom.TheVariants.{Nil, Bool as Boolean, Int, Spelt, Char, Str, Bytes}
 use Rattle.sx_base.specs.Datum.{PlainDatum, listed, is_tail}
 use Rattle.sx_base.specs.Datum as datum
 use Rattle.sx_base.specs.DatumView.{is_some_list}
-use Rattle.sx_tree.specs.Tree.{Tree, atom, leaf, pair, vector, nil, chain, spanned, is_list}
+use Rattle.sx_tree.specs.Tree.{Tree, atom, leaf, pair, vector, nil, span_of, spanned, is_pair}
 use Rattle.sx_tree.specs.Leaves.{strip}
 use Rattle.sx_tree.proofs.LeafLaws.{strip-changed}
-use Rattle.sx_syntax.specs.Kept.{Lazily, end_of}
-use Rattle.sx_syntax.specs.KeptView.{Run, Form, list_form, vector_form, form_of, trees, run_tree, form_tree, seen, view_of, Whole, IsEnd, IsListRun, IsVectorRun}
-use Rattle.sx_syntax.specs.declared.kept.Item.{Item}
+use Rattle.sx_syntax.specs.Kept.{IsRest, IsElements}
+use Rattle.sx_syntax.specs.KeptView.{shape_tree, seen, view_of, Whole}
+use Rattle.sx_syntax.specs.declared.kept.Shape.{Shape}
+use Rattle.sx_syntax.proofs.NodeLemmas.{tree_node}
+use Rattle.sx_syntax.proofs.ListLemmas.{elements_end}
 
-strip-chain : (xs : List Tree) (t : Tree) → strip (chain xs t) ≡ datum.chain (map strip xs) (strip t)
-strip-chain [] t = refl
-strip-chain (x ∷ xs) t = ap (datum.pair None (strip x)) (strip-chain xs t)
+data-append : (ds es : List PlainDatum) (t : PlainDatum) → datum.chain (ds ++ es) t ≡ datum.chain ds (datum.chain es t)
+data-append [] es t = refl
+data-append (d ∷ ds) es t = ap (datum.pair None d) (data-append ds es t)
+
+-- the datum of the first element goes behind those before it
+pub strip_more : (ds : List PlainDatum) (t x y : Tree) (d : PlainDatum) (all : PlainDatum) → t ≡ pair None x y → d ≡ strip x → datum.chain ds (strip t) ≡ all → datum.chain (ds ++ d ∷ []) (strip y) ≡ all
+strip_more ds t x y d all e h so_far =
+    data-append ds (d ∷ []) (strip y) ∙ ap (λ u. datum.chain ds (datum.pair None u (strip y))) h ∙ ap (λ u. datum.chain ds (strip u)) (sym e) ∙ so_far
+
+pub some_more : (ds : List PlainDatum) (d : PlainDatum) → is_some_list (ds ++ d ∷ []) ≡ true
+some_more [] d = refl
+some_more (e ∷ es) d = refl
+
+pub strip_end : (ds : List PlainDatum) (t : Tree) (all : PlainDatum) → is_pair t ≡ false → IsElements t → datum.chain ds (strip t) ≡ all → datum.chain ds datum.nil ≡ all
+strip_end ds t all p h so_far = ap (λ u. datum.chain ds (strip u)) (sym (elements_end t p h)) ∙ so_far
+
+end_tail : (t : Tree) → is_pair t ≡ false → IsRest t → is_tail (strip t) ≡ true
+end_tail (atom None Nil) p h = refl
+end_tail (atom (Some s) Nil) p h = absurd (cc)
+end_tail (atom None (Boolean _)) p h = refl
+end_tail (atom None (Int _)) p h = refl
+end_tail (atom None (Spelt _)) p h = refl
+end_tail (atom None (Char _)) p h = refl
+end_tail (atom None (Str _)) p h = refl
+end_tail (atom None (Bytes _)) p h = refl
+end_tail (atom (Some s) (Boolean _)) p h = refl
+end_tail (atom (Some s) (Int _)) p h = refl
+end_tail (atom (Some s) (Spelt _)) p h = refl
+end_tail (atom (Some s) (Char _)) p h = refl
+end_tail (atom (Some s) (Str _)) p h = refl
+end_tail (atom (Some s) (Bytes _)) p h = refl
+end_tail (leaf s x c) p h = refl
+end_tail (pair s a d) p h = absurd (cc)
+end_tail (vector s d) p h = refl
+
+-- the datum of a list is of its form
+pub proper : (ds : List PlainDatum) (e : PlainDatum) (t : Tree) → is_some_list ds ≡ true → e ≡ strip t → is_pair t ≡ false → IsRest t → is_some_list ds && is_tail e ≡ true
+proper ds e t some h p r =
+    let last : is_tail e ≡ true = ap is_tail h ∙ end_tail t p r in
+    rw (some, last) refl
 
 strip-spanned : (s : Option Span) (t : Tree) → strip (spanned s t) ≡ datum.spanned s (strip t)
 strip-spanned s (atom _ a) = refl
@@ -23,53 +62,6 @@ strip-spanned s (leaf _ x c) = refl
 strip-spanned s (pair _ a d) = refl
 strip-spanned s (vector _ d) = refl
 
-module _ (n : Whole) (k : Lazily) (shown : view_of n ≡ k) where
-  strip-node : (f : Form) → form_of n.shape ≡ f → strip k.tree ≡ datum.spanned n.span (strip (form_tree f))
-  strip-node f g =
-      sym (ap (λ (x : Lazily). strip x.tree) shown) ∙ strip-changed n.wrap (spanned n.span (form_tree (form_of n.shape)))
-      ∙ strip-spanned n.span (form_tree (form_of n.shape)) ∙ ap (λ x. datum.spanned n.span (strip (form_tree x))) g
-
-  pub strip-list : (s : Option Span) (r : Run) → s ≡ n.span → form_of n.shape ≡ list_form r → listed s (map strip (trees (drop r.from r.items))) (strip (end_of r.tail)) ≡ strip k.tree
-  strip-list s r e g =
-      ap (λ x. listed x (map strip (trees (drop r.from r.items))) (strip (end_of r.tail))) e
-      ∙ ap (datum.spanned n.span) (sym (strip-chain (trees (drop r.from r.items)) (end_of r.tail))) ∙ sym (strip-node (list_form r) g)
-
-  pub strip-vector : (s : Option Span) (r : Run) (ds : List PlainDatum) → s ≡ n.span → form_of n.shape ≡ vector_form r → IsVectorRun r → ds ≡ map strip (trees (drop r.from r.items)) → datum.vector s (datum.chain ds datum.nil) ≡ strip k.tree
-  strip-vector s r ds e g v h =
-      ap (λ x. datum.vector x (datum.chain ds datum.nil)) e ∙ ap (λ xs. datum.vector n.span (datum.chain xs datum.nil)) h
-      ∙ ap (λ o. datum.vector n.span (datum.chain (map strip (trees (drop r.from r.items))) (strip (end_of o)))) (sym v.ended)
-      ∙ ap (datum.vector n.span) (sym (strip-chain (trees (drop r.from r.items)) (end_of r.tail))) ∙ sym (strip-node (vector_form r) g)
-
-some_elements : (is : List Item) → 0 < length is → is_some_list (map strip (trees is)) ≡ true
-some_elements [] l = absurd (omega arith)
-some_elements (i ∷ is) l = refl
-
-end_tree : (t : Tree) → is_list t ≡ false → is_tail (strip t) ≡ true
-end_tree (atom s Nil) h = cc
-end_tree (atom None (Boolean _)) h = refl
-end_tree (atom None (Int _)) h = refl
-end_tree (atom None (Spelt _)) h = refl
-end_tree (atom None (Char _)) h = refl
-end_tree (atom None (Str _)) h = refl
-end_tree (atom None (Bytes _)) h = refl
-end_tree (atom (Some s) (Boolean _)) h = refl
-end_tree (atom (Some s) (Int _)) h = refl
-end_tree (atom (Some s) (Spelt _)) h = refl
-end_tree (atom (Some s) (Char _)) h = refl
-end_tree (atom (Some s) (Str _)) h = refl
-end_tree (atom (Some s) (Bytes _)) h = refl
-end_tree (leaf s x c) h = refl
-end_tree (pair s a d) h = cc
-end_tree (vector s d) h = refl
-
-end_datum : (o : Option Lazily) → IsEnd o → is_tail (strip (end_of o)) ≡ true
-end_datum None h = refl
-end_datum (Some t) h = end_tree t.tree h.0
-
--- the datum of a list is of its form
-pub proper_list : (r : Run) (ds : List PlainDatum) (e : PlainDatum) → IsListRun r → ds ≡ map strip (trees (drop r.from r.items)) → e ≡ strip (end_of r.tail) → is_some_list ds && is_tail e ≡ true
-proper_list r ds e h d t =
-    let l = h.some in
-    let some : is_some_list ds ≡ true = ap is_some_list d ∙ some_elements (drop r.from r.items) (omega (arith, length-drop r.from r.items)) in
-    let last : is_tail e ≡ true = ap is_tail t ∙ end_datum r.tail h.ends in
-    rw (some, last) refl
+pub strip_node : (n : Whole) (k : Tree) → view_of n ≡ k → (f : Shape) → n.shape ≡ f → datum.spanned n.span (strip (shape_tree f)) ≡ strip k
+strip_node n k shown f g =
+    sym (strip-changed n.wrap (spanned n.span (shape_tree f)) ∙ strip-spanned n.span (shape_tree f)) ∙ ap strip (tree_node n k shown f g)

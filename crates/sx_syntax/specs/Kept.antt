@@ -1,25 +1,26 @@
--- A tree as nodes hold it: the tree that is meant, and how deep the nodes nest.
-use Rattle.std.specs.Prelude.{ℕ, ◌<◌, Option, None, Some, refl}
-use Rattle.std.specs.Coded.{Coded, code_by, coded×, coded_ℕ}
-use Rattle.sx_tree.specs.Tree.{Tree, nil}
-use Rattle.sx_tree.specs.TreeCode.{tree_code}
-use Rattle.sx_tree.specs.Measures.{height}
+-- What trees need to be parts of others.
+use Rattle.std.specs.Prelude.{◌≡◌, ℕ, suc, ◌+◌, false, Option, None, Some}
+use Rattle.sx_tree.specs.Tree.{Tree, atom, leaf, pair, vector, nil, span_of, is_pair, rest_of}
 
-pub record Lazily : Type 0 where
-  pub tree : Tree
-  pub depth : ℕ
+-- more than any part's
+abbrev pub weight : Tree → ℕ
+weight (atom s a) = 1
+weight (leaf s x c) = 1
+weight (pair s a d) = suc (weight a + weight d)
+weight (vector s d) = suc (weight d)
 
-abbrev pub lazily_code : Coded Lazily
-lazily_code = code_by (Tree × ℕ) (coded× tree_code coded_ℕ) (λ e. (e.tree, e.depth)) (λ p. record { tree = p.0; depth = p.1 }) (λ _. refl)
+-- it can stand behind an element: a list and Nil have no span there
+abbrev pub IsRest : Tree → Type 0
+IsRest t = rest_of t ≡ t
 
-abbrev pub lazily : Tree → ℕ → Lazily
-lazily t d = record { tree = t; depth = d }
+-- a list as that of a vector's elements: no span at any pair, and Nil at its end
+abbrev pub IsElements : Tree → Type 0
+IsElements (atom s a) = atom s a ≡ nil
+IsElements (leaf s x c) = ⊥
+IsElements (pair s a d) = (s ≡ None) × IsElements d
+IsElements (vector s d) = ⊥
 
--- its nodes nest no deeper than the tree is high
-abbrev pub IsSettled : Lazily → Type 0
-IsSettled k = k.depth < height k.tree
-
--- what ends a list
-abbrev pub end_of : Option Lazily → Tree
-end_of None = nil
-end_of (Some t) = t.tree
+-- the first element and the rest of a list, or none of what has no elements
+abbrev pub Parts : Option (Tree × Tree) → Tree → Type 0
+Parts None t = is_pair t ≡ false
+Parts (Some p) t = (t ≡ pair (span_of t) p.0 p.1) × IsRest p.1

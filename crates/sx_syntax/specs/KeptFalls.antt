@@ -1,29 +1,36 @@
--- Each child is nested less deep than its parent.
-use Rattle.std.specs.Prelude.{ℕ, ◌+◌, ◌≤◌, max, ◌∷◌, [], List, Option, None, Some}
-use Rattle.std.specs.Rc.{rc_slice_items}
-use Rattle.std.proofs.Common.{arith}
-use denote.Param.Weighed.{most}
-use Rattle.sx_syntax.specs.declared.kept.Item.{Item}
-use Rattle.sx_syntax.specs.declared.kept.Slice.{Slice}
+-- Each part weighs less than its whole.
+use Rattle.std.specs.Prelude.{ℕ, suc, ◌+◌, ◌≤◌, List, Option}
+use Rattle.std.proofs.Common.{◌≡◌, ◌∙◌, refl, ap, arith}
+use Rattle.sx_base.specs.declared.span.Span.{Span}
+use Rattle.sx_tree.specs.Tree.{Tree, atom, leaf, pair, vector, spanned}
+use Rattle.sx_tree.specs.Changes.{changed}
+use Rattle.sx_tree.specs.declared.change.Change.{Change}
 use Rattle.sx_syntax.specs.declared.kept.Shape.{Shape}
 use Rattle.sx_syntax.specs.declared.kept.Shape.TheVariants as shape
-use Rattle.sx_syntax.specs.declared.kept.Kept.TheDeep.{deep-Shape, deep-Slice, deep-Item}
-use Rattle.sx_syntax.specs.Kept.{Lazily}
-use Rattle.sx_syntax.specs.KeptView.{form_of, run_of, form_depth, run_depth, deepest}
+use Rattle.sx_syntax.specs.declared.kept.Kept.TheDeep.{deep-Shape}
+use Rattle.sx_syntax.specs.Kept.{weight}
+use Rattle.sx_syntax.specs.KeptView.{shape_tree, seen}
 
-pub items_fall : (is : List Item) → most deep-Item is ≤ deepest is
-items_fall [] = omega arith
-items_fall (i ∷ is) = omega (arith, items_fall is)
+pub weight-changed : (xs : List Change) (t : Tree) → weight (changed xs t) ≡ weight t
+weight-changed xs (atom s a) = refl
+weight-changed xs (leaf s x c) = refl
+weight-changed xs (pair s a d) = ap (λ n. suc (n + weight (changed xs d))) (weight-changed xs a) ∙ ap (λ n. suc (weight a + n)) (weight-changed xs d)
+weight-changed xs (vector s d) = ap suc (weight-changed xs d)
 
-pub slice_falls : (s : Slice) → deep-Slice s ≤ run_depth (run_of s)
-slice_falls s = go s.tail
-  where
-    go : (o : Option Lazily) → deep-Slice (record s { tail = o }) ≤ run_depth (run_of (record s { tail = o }))
-    go None = omega (arith, items_fall (rc_slice_items s.items))
-    go (Some t) = omega (arith, items_fall (rc_slice_items s.items))
+pub weight-spanned : (s : Option Span) (t : Tree) → weight (spanned s t) ≡ weight t
+weight-spanned s (atom _ a) = refl
+weight-spanned s (leaf _ x c) = refl
+weight-spanned s (pair _ a d) = refl
+weight-spanned s (vector _ d) = refl
 
-pub shape_falls : (s : Shape) → deep-Shape s ≤ form_depth (form_of s)
+pub weight-seen : (ws : List Change) (s : Option Span) (f : Shape) → weight (seen ws s f) ≡ weight (shape_tree f)
+weight-seen ws s f = weight-changed ws (spanned s (shape_tree f)) ∙ weight-spanned s (shape_tree f)
+
+shape_falls : (f : Shape) → deep-Shape f ≤ weight (shape_tree f)
 shape_falls (shape.Atom a) = omega arith
 shape_falls (shape.Leaf x c) = omega arith
-shape_falls (shape.List s) = omega (arith, slice_falls s)
-shape_falls (shape.Vector s) = omega (arith, slice_falls s)
+shape_falls (shape.Pair e a d) = omega arith
+shape_falls (shape.Vector e d) = omega arith
+
+pub seen_falls : (ws : List Change) (s : Option Span) (f : Shape) → deep-Shape f ≤ weight (seen ws s f)
+seen_falls ws s f = omega (arith, shape_falls f, weight-seen ws s f)

@@ -6,7 +6,7 @@ pub mod Base
 pub mod Kept
 pub mod KeptView
 pub mod KeptFalls
-pub mod Builder
+pub mod Pairs
 pub mod Leaves
 pub mod Opens
 pub mod Refuses

@@ -1,20 +1,18 @@
 //! From data to trees: the symbols become leaves of one context.
 
-ghost use Rattle.std.specs.Prelude.{◌≡◌, ◌<◌, ◌++◌, length, map, IfOk, IfErr, OnOk, IsTrue};
+ghost use Rattle.std.specs.Prelude.{◌≡◌, ◌<◌, length, map, IfOk, IfErr, IsTrue};
 ghost use Rattle.sx_base.specs.Datum.{is_tail};
 ghost use Rattle.sx_tree.specs.Context.{blank};
 ghost use Rattle.sx_tree.specs.Tree.{leaf, spanned, chain, vector, nil};
 ghost use Rattle.sx_tree.specs.Measures.{Fits};
 ghost use Rattle.sx_tree.specs.Leaves.{context_of};
-ghost use Rattle.sx_syntax.specs.Kept.{IsSettled, end_of};
-ghost use Rattle.sx_syntax.specs.KeptView.{IsEnd};
-ghost use Rattle.sx_syntax.specs.Builder.{built_tree};
+ghost use Rattle.sx_syntax.specs.Kept.{IsRest};
 ghost use Rattle.sx_syntax.specs.Leaves.{sample_context, span_by, grown_tree};
 ghost use Rattle.sx_syntax.specs.Refuses.{Refuses};
 
 use crate::base::Base;
-use crate::builder::Builder;
 use crate::kept::{Kept, Shape};
+use crate::pairs::empty_list;
 use crate::wrap::Wrap;
 use std::alloc::Global;
 use sx_base::datum::{self, Datum};
@@ -59,8 +57,7 @@ impl Sample {
 
     /// The leaf of this symbol.
     fn leaf(&self, alloc: Global, span: Option<Span>, symbol: &Symbol) -> Result<Kept, Memory>
-        ensures tree { IfOk result (λ k. k.tree ≡ leaf span symbol.now (sample_context self.now)) }
-        ensures settled { IfOk result (λ k. IsSettled k) }
+        ensures { IfOk result (λ k. k ≡ leaf span symbol.now (sample_context self.now)) }
     {
         let base = self.base.share()?;
         let symbol = symbol.share()?;
@@ -71,7 +68,7 @@ impl Sample {
 impl Kept {
     /// What new leaves take from this leaf. What is no leaf gives no marks and no stamps.
     pub(crate) fn sample(&self, alloc: Global) -> Result<Sample, Memory>
-        ensures { IfOk result (λ s. sample_context s ≡ context_of self.now.tree) }
+        ensures { IfOk result (λ s. sample_context s ≡ context_of self.now) }
     {
         let base = self.context(alloc)?;
         Ok(Sample { base })
@@ -86,8 +83,7 @@ pub(crate) fn from_datum(
     sample: &Sample,
     datum: &Datum,
 ) -> Result<Kept, BareStop>
-    ensures tree { IfOk result (λ k. k.tree ≡ grown_tree spans sample.now datum.now) }
-    ensures settled { IfOk result (λ k. IsSettled k) }
+    ensures tree { IfOk result (λ k. k ≡ grown_tree spans sample.now datum.now) }
     ensures refused { IfErr result (λ e. Refuses e (Fits (grown_tree spans sample.now datum.now))) }
 {
     let span = spans.share(&datum.span)?;
@@ -118,15 +114,13 @@ fn from_list(
 ) -> Result<Kept, BareStop>
     requires some { 0 < length items.now }
     requires tail { IsTrue (is_tail tail.now) }
-    ensures tree { IfOk result (λ k. k.tree ≡ spanned span (chain (map (grown_tree spans sample.now) items.now) (grown_tree spans sample.now tail.now))) }
-    ensures settled { IfOk result (λ k. IsSettled k) }
+    ensures tree { IfOk result (λ k. k ≡ spanned span (chain (map (grown_tree spans sample.now) items.now) (grown_tree spans sample.now tail.now))) }
     ensures refused { IfErr result (λ e. Refuses e (Fits (chain (map (grown_tree spans sample.now) items.now) (grown_tree spans sample.now tail.now)))) }
 {
     let end = from_end(alloc, spans, sample, tail)?;
-    let mut builder = Builder::before(alloc, end);
-    push_data(alloc, spans, sample, &mut builder, items)?;
-    let kept = builder.into_list(alloc, span)?;
-    Ok(kept)
+    let rest = data_before(alloc, spans, sample, &items[1..], end)?;
+    let first = from_datum(alloc, spans, sample, &items[0])?;
+    first.before(alloc, span, rest)
 }
 
 /// The vector of these data, with this span.
@@ -138,58 +132,49 @@ fn from_vector(
     span: Option<Span>,
     items: &[Datum],
 ) -> Result<Kept, BareStop>
-    ensures tree { IfOk result (λ k. k.tree ≡ vector span (chain (map (grown_tree spans sample.now) items.now) nil)) }
-    ensures settled { IfOk result (λ k. IsSettled k) }
+    ensures tree { IfOk result (λ k. k ≡ vector span (chain (map (grown_tree spans sample.now) items.now) nil)) }
     ensures refused { IfErr result (λ e. Refuses e (Fits (chain (map (grown_tree spans sample.now) items.now) nil))) }
 {
-    let mut builder = Builder::before(alloc, None);
-    push_data(alloc, spans, sample, &mut builder, items)?;
-    let kept = builder.into_vector(alloc, span)?;
+    let end = empty_list(alloc)?;
+    let list = data_before(alloc, spans, sample, items, end)?;
+    let kept = list.into_vector(alloc, span)?;
     Ok(kept)
 }
 
 /// What ends a list.
 #[cycle(from_datum)]
-fn from_end(
-    alloc: Global,
-    spans: Spans,
-    sample: &Sample,
-    tail: &Datum,
-) -> Result<Option<Kept>, BareStop>
+fn from_end(alloc: Global, spans: Spans, sample: &Sample, tail: &Datum) -> Result<Kept, BareStop>
     requires { IsTrue (is_tail tail.now) }
-    ensures tree { IfOk result (λ t. end_of t ≡ grown_tree spans sample.now tail.now) }
-    ensures ends { IfOk result (λ t. IsEnd t) }
-    ensures fits { IfOk result (λ t. Fits (end_of t)) }
+    ensures tree { IfOk result (λ k. k ≡ grown_tree spans sample.now tail.now) }
+    ensures rest { IfOk result (λ k. IsRest k) }
     ensures refused { IfErr result (λ e. Refuses e (Fits (grown_tree spans sample.now tail.now))) }
 {
-    if tail.is_nil() {
-        return Ok(None);
-    }
-    let kept = from_datum(alloc, spans, sample, tail)?;
-    kept.within();
-    Ok(Some(kept))
+    from_datum(alloc, spans, sample, tail)
 }
 
-/// Puts the trees of all of these before what is there.
+/// The trees of all of these before a rest.
 #[cycle(from_datum)]
-fn push_data(
+fn data_before(
     alloc: Global,
     spans: Spans,
     sample: &Sample,
-    builder: &mut Builder,
     items: &[Datum],
-) -> Result<(), BareStop>
-    ensures ok { OnOk result ((builder.new.elements ≡ map (grown_tree spans sample.now) items.now ++ builder.old.elements) × (builder.new.tail ≡ builder.old.tail)) }
-    ensures refused { IfErr result (λ e. Refuses e (Fits (chain (map (grown_tree spans sample.now) items.now) (built_tree builder.old)))) }
+    rest: Kept,
+) -> Result<Kept, BareStop>
+    requires { IsRest rest }
+    ensures tree { IfOk result (λ k. k ≡ chain (map (grown_tree spans sample.now) items.now) rest) }
+    ensures rest { IfOk result (λ k. IsRest k) }
+    ensures refused { IfErr result (λ e. Refuses e (Fits (chain (map (grown_tree spans sample.now) items.now) rest))) }
 {
+    let mut list = rest;
     let mut at = items.len();
     while 0 < at {
         at -= 1;
         let tree = from_datum(alloc, spans, sample, &items[at])?;
-        match builder.push_front(alloc, tree) {
-            Ok(()) => {}
+        match tree.before(alloc, None, list) {
+            Ok(longer) => list = longer,
             Err(stop) => return Err(stop),
         }
     }
-    Ok(())
+    Ok(list)
 }

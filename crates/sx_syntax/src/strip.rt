@@ -1,15 +1,13 @@
 //! From trees back to data: the leaves without marks and stamps.
 
-ghost use Rattle.std.specs.Prelude.{◌≡◌, map, drop, IfOk};
-ghost use Rattle.std.specs.Rc.{rc_slice_items};
-ghost use Rattle.sx_base.specs.Datum.{listed};
+ghost use Rattle.std.specs.Prelude.{◌≡◌, ◌&&◌, true, None, IfOk};
+ghost use Rattle.sx_base.specs.Datum as datum;
+ghost use Rattle.sx_base.specs.DatumView.{is_some_list};
 ghost use Rattle.sx_tree.specs.Leaves.{strip};
-ghost use Rattle.sx_syntax.specs.Kept.{end_of};
-ghost use Rattle.sx_syntax.specs.KeptView.{IsListRun, run_of, trees};
+ghost use Rattle.sx_syntax.specs.Kept.{IsRest, IsElements};
 
-use crate::kept::{Item, Kept, Node, Shape, Slice};
+use crate::kept::{Kept, Node, Shape};
 use std::alloc::Global;
-use sx_base::atom::Atom;
 use sx_base::datum::{self, Datum};
 use sx_base::memory::Memory;
 use sx_base::span::{Span, share_span};
@@ -18,7 +16,7 @@ impl Kept {
     /// The datum. Pending changes don't matter.
     #[cycle(strip)]
     pub(crate) fn strip(&self, alloc: Global) -> Result<Datum, Memory>
-        ensures { IfOk result (λ d. d ≡ strip self.now.tree) }
+        ensures { IfOk result (λ d. d ≡ strip self.now) }
     {
         let node: &Node = &self.node;
         let span = share_span(&node.span)?;
@@ -37,9 +35,9 @@ impl Kept {
                     node: datum::Node::Symbol(symbol),
                 })
             }
-            Shape::List(slice) => slice.strip(alloc, span),
-            Shape::Vector(slice) => {
-                let items = strip_all(alloc, &slice.items.as_slice()[slice.from..])?;
+            Shape::Pair(_, first, rest) => { strip_list(alloc, span, first, rest) }
+            Shape::Vector(_, elements) => {
+                let items = strip_elements(alloc, elements)?;
                 Ok(Datum {
                     span,
                     node: datum::Node::Vector(items),
@@ -49,46 +47,56 @@ impl Kept {
     }
 }
 
-impl Slice {
-    /// The list as a datum with this span.
-    #[cycle(strip)]
-    fn strip(&self, alloc: Global, span: Option<Span>) -> Result<Datum, Memory>
-        requires { IsListRun (run_of self.now) }
-        ensures { IfOk result (λ d. d ≡ listed span (map strip (trees (drop self.now.from (rc_slice_items self.now.items)))) (strip (end_of self.now.tail))) }
-    {
-        let items = strip_all(alloc, &self.items.as_slice()[self.from..])?;
-        let tail = strip_end(alloc, &self.tail)?;
-        let tail = Box::new(alloc, tail)?;
-        Ok(Datum {
-            span,
-            node: datum::Node::List(items, tail),
-        })
-    }
+/// The list of this element and this rest as a datum with this span.
+#[cycle(strip)]
+fn strip_list(alloc: Global, span: Option<Span>, first: &Kept, rest: &Kept) -> Result<Datum, Memory>
+    requires { IsRest rest.now }
+    ensures { IfOk result (λ d. d ≡ datum.pair span (strip first.now) (strip rest.now)) }
+{
+    let (items, tail) = strip_along(alloc, first, rest)?;
+    let tail = Box::new(alloc, tail)?;
+    Ok(Datum {
+        span,
+        node: datum::Node::List(items, tail),
+    })
 }
 
-/// Each element as a datum.
+/// The data of a list's elements, and of what ends it.
 #[cycle(strip)]
-fn strip_all(alloc: Global, items: &[Item]) -> Result<Vec<Datum>, Memory>
-    ensures { IfOk result (λ v. v.items ≡ map strip (trees items.now)) }
+fn strip_along(alloc: Global, first: &Kept, rest: &Kept) -> Result<(Vec<Datum>, Datum), Memory>
+    requires { IsRest rest.now }
+    ensures list { IfOk result (λ r. datum.chain r.0.items r.1 ≡ datum.pair None (strip first.now) (strip rest.now)) }
+    ensures proper { IfOk result (λ r. is_some_list r.0.items && datum.is_tail r.1 ≡ true) }
 {
     let mut data = Vec::new(alloc);
-    for item in items {
-        let datum = item.tree.strip(alloc)?;
+    let datum = first.strip(alloc)?;
+    data.push(datum)?;
+    let mut left = rest.share()?;
+    loop {
+        let Some((item, others)) = left.parts(alloc)? else {
+            let tail = left.strip(alloc)?;
+            return Ok((data, tail));
+        };
+        let datum = item.strip(alloc)?;
         data.push(datum)?;
+        left = others;
     }
-    Ok(data)
 }
 
-/// The tail as a datum.
+/// The data of a vector's elements.
 #[cycle(strip)]
-fn strip_end(alloc: Global, tail: &Option<Kept>) -> Result<Datum, Memory>
-    ensures { IfOk result (λ d. d ≡ strip (end_of tail.now)) }
+fn strip_elements(alloc: Global, elements: &Kept) -> Result<Vec<Datum>, Memory>
+    requires { IsElements elements.now }
+    ensures { IfOk result (λ v. datum.chain v.items datum.nil ≡ strip elements.now) }
 {
-    match tail {
-        None => Ok(Datum {
-            span: None,
-            node: datum::Node::Atom(Atom::Nil),
-        }),
-        Some(tail) => tail.strip(alloc),
+    let mut data = Vec::new(alloc);
+    let mut left = elements.share()?;
+    loop {
+        let Some((item, others)) = left.parts(alloc)? else {
+            return Ok(data);
+        };
+        let datum = item.strip(alloc)?;
+        data.push(datum)?;
+        left = others;
     }
 }

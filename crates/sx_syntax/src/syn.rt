@@ -1,23 +1,22 @@
 //! Syntax trees, for every crate to use.
 
-ghost use Rattle.std.specs.Prelude.{◌≡◌, ◌+◌, [], ◌∷◌, ◌++◌, ◌<◌, length, take, Option, None, option_map, IfOk, IfErr, OnOk, OnErr};
+ghost use Rattle.std.specs.Prelude.{◌≡◌, ◌+◌, [], ◌∷◌, take, Option, None, option_map, IfOk, IfErr, OnOk, OnErr};
 ghost use Rattle.sx_base.specs.Gives.{BareGives};
-ghost use Rattle.sx_tree.specs.Tree.{Tree, atom, leaf, spanned, unspanned, span_of, chain, list_of, vector_of};
+ghost use Rattle.sx_tree.specs.Tree.{Tree, atom, leaf, pair, spanned, unspanned, span_of, chain, list_of, vector_of};
 ghost use Rattle.sx_tree.specs.Measures.{height, size, within, Fits};
 ghost use Rattle.sx_tree.specs.Changes.{changed, enter, leave, stamp};
 ghost use Rattle.sx_tree.specs.Leaves.{tree_of, datum_like, strip, marks_of, stamps_of};
 ghost use Rattle.sx_tree.specs.Context.{blank};
 ghost use Rattle.sx_syntax.specs.Leaves.{grown_tree};
-ghost use Rattle.sx_syntax.specs.Builder.{built_tree};
 ghost use Rattle.sx_base.specs.declared.span.Span.{Span};
-ghost use Rattle.sx_syntax.specs.KeptView.{run_of, run_tree, IsListRun};
+ghost use Rattle.sx_syntax.specs.Kept.{IsRest};
 ghost use Rattle.sx_syntax.specs.Opens.{Opens};
 ghost use Rattle.sx_syntax.specs.Refuses.{Refuses};
 
 use crate::base::Base;
-use crate::builder::Builder;
-use crate::kept::{Kept, Node, Shape, Slice};
+use crate::kept::{Kept, Node, Shape};
 use crate::leaves::{Sample, Spans, from_datum};
+use crate::pairs::empty_list;
 use crate::wrap::Wrap;
 use std::alloc::Global;
 use std::marker::Model;
@@ -48,7 +47,7 @@ impl Model for Syn {
 
     ghost coded = { tree_code };
 
-    ghost view = { λ s. s.kept.tree };
+    ghost view = { λ s. s.kept };
 }
 
 /// One level of a tree.
@@ -62,41 +61,39 @@ pub enum Opened {
     Vector(Vec<Syn>),
 }
 
-/// Puts all of these before what is there.
-fn push_all(alloc: Global, builder: &mut Builder, items: Vec<Syn>) -> Result<(), BareStop>
-    ensures ok { OnOk result ((builder.new.elements ≡ items.items ++ builder.old.elements) × (builder.new.tail ≡ builder.old.tail)) }
-    ensures refused { IfErr result (λ e. Refuses e (Fits (chain items.items (built_tree builder.old)))) }
+/// The list of all of these and a rest.
+fn all_before(alloc: Global, items: Vec<Syn>, rest: Kept) -> Result<Kept, BareStop>
+    requires { IsRest rest }
+    ensures tree { IfOk result (λ k. k ≡ chain items.items rest) }
+    ensures refused { IfErr result (λ e. Refuses e (Fits (chain items.items rest))) }
 {
     let mut items = items;
+    let mut list = rest;
     while let Some(item) = items.pop() {
-        let tree = item.kept.settled(alloc)?;
-        match builder.push_front(alloc, tree) {
-            Ok(()) => {}
+        match item.kept.before(alloc, None, list) {
+            Ok(longer) => list = longer,
             Err(stop) => return Err(stop),
         }
     }
-    Ok(())
+    Ok(list)
 }
 
-/// The list of all of these, one or more, and then what is there.
-fn list_on(alloc: Global, builder: Builder, items: Vec<Syn>) -> Result<Syn, BareStop>
-    requires { 0 < length items.items }
-    ensures { BareGives (λ t. t) result (within (chain items.items (built_tree builder))) }
+/// The same, as a tree for others.
+fn list_on(alloc: Global, items: Vec<Syn>, rest: Kept) -> Result<Syn, BareStop>
+    requires { IsRest rest }
+    ensures { BareGives (λ t. t) result (within (chain items.items rest)) }
 {
-    let mut builder = builder;
-    push_all(alloc, &mut builder, items)?;
-    let kept = builder.into_list(alloc, None)?;
+    let kept = all_before(alloc, items, rest)?;
     kept.within();
     Ok(Syn { kept })
 }
 
 /// The level of a list.
-fn pair_of(alloc: Global, slice: &Slice, wrap: &Wrap) -> Result<Opened, Memory>
-    requires { IsListRun (run_of slice.now) }
-    ensures { IfOk result (λ o. (s : Option Span) → Opens o (changed wrap.now (spanned s (run_tree (run_of slice.now))))) }
+fn pair_of(alloc: Global, first: &Kept, rest: &Kept, wrap: &Wrap) -> Result<Opened, Memory>
+    ensures { IfOk result (λ o. (s : Option Span) → Opens o (changed wrap.now (pair s first.now rest.now))) }
 {
-    let first = slice.first(alloc, wrap)?;
-    let rest = slice.rest(alloc, wrap)?;
+    let first = first.under(alloc, wrap)?;
+    let rest = rest.under(alloc, wrap)?;
     Ok(Opened::Pair(Syn { kept: first }, Syn { kept: rest }))
 }
 
@@ -161,10 +158,13 @@ impl Syn {
             }
         } else {
             match &tail {
-                None => list_on(alloc, Builder::before(alloc, None), items),
+                None => {
+                    let rest = empty_list(alloc)?;
+                    list_on(alloc, items, rest)
+                }
                 Some(tail) => {
-                    let builder = tail.kept.reopened(alloc)?;
-                    list_on(alloc, builder, items)
+                    let rest = tail.kept.as_rest(alloc)?;
+                    list_on(alloc, items, rest)
                 }
             }
         }
@@ -174,9 +174,9 @@ impl Syn {
     pub fn vector(alloc: Global, items: Vec<Syn>) -> Result<Syn, BareStop>
         ensures { BareGives (λ t. t) result (within (vector_of items.items)) }
     {
-        let mut builder = Builder::before(alloc, None);
-        push_all(alloc, &mut builder, items)?;
-        let kept = builder.into_vector(alloc, None)?;
+        let end = empty_list(alloc)?;
+        let list = all_before(alloc, items, end)?;
+        let kept = list.into_vector(alloc, None)?;
         kept.within();
         Ok(Syn { kept })
     }
@@ -195,9 +195,9 @@ impl Syn {
                 let symbol = symbol.share()?;
                 Ok(Opened::Symbol(symbol))
             }
-            Shape::List(slice) => pair_of(alloc, slice, &self.kept.wrap),
-            Shape::Vector(slice) => {
-                let elements = slice.elements(alloc, &self.kept.wrap)?;
+            Shape::Pair(_, first, rest) => pair_of(alloc, first, rest, &self.kept.wrap),
+            Shape::Vector(_, elements) => {
+                let elements = elements.elements(alloc, &self.kept.wrap)?;
                 Ok(Opened::Vector(elements))
             }
         }

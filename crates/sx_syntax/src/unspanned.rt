@@ -1,13 +1,11 @@
 //! Trees without spans.
 
-ghost use Rattle.std.specs.Prelude.{◌≡◌, [], ◌<◌, length, map, drop, None, IfOk};
-ghost use Rattle.std.specs.Rc.{rc_slice_items};
-ghost use Rattle.sx_tree.specs.Tree.{unspanned};
-ghost use Rattle.sx_syntax.specs.Kept.{IsSettled, end_of};
-ghost use Rattle.sx_syntax.specs.KeptView.{IsEnd, IsWholeRun, run_of, trees};
+ghost use Rattle.std.specs.Prelude.{◌≡◌, false, IfOk};
+ghost use Rattle.sx_tree.specs.Tree.{unspanned, chain, is_pair};
+ghost use Rattle.sx_tree.specs.Measures.{Fits};
+ghost use Rattle.sx_syntax.specs.Kept.{IsRest};
 
-use crate::builder::Builder;
-use crate::kept::{Kept, Node, Shape, Slice};
+use crate::kept::{Kept, Node, Shape};
 use std::alloc::Global;
 use sx_base::memory::Memory;
 
@@ -15,60 +13,63 @@ impl Kept {
     /// The tree without any spans.
     #[cycle(unspanned)]
     pub(crate) fn unspanned(&self, alloc: Global) -> Result<Kept, Memory>
-        ensures tree { IfOk result (λ k. k.tree ≡ unspanned self.now.tree) }
-        ensures settled { IfOk result (λ k. IsSettled k) }
+        ensures { IfOk result (λ k. k ≡ unspanned self.now) }
+    {
+        let (items, end) = unspanned_along(alloc, self)?;
+        all_before(alloc, items, end)
+    }
+
+    /// What is no list of elements, without any spans.
+    #[cycle(unspanned)]
+    fn unspanned_end(&self, alloc: Global) -> Result<Kept, Memory>
+        requires { is_pair self.now ≡ false }
+        ensures { IfOk result (λ k. k ≡ unspanned self.now) }
     {
         let node: &Node = &self.node;
         match &node.shape {
-            Shape::List(slice) => {
-                let builder = slice.unspanned(alloc)?;
-                let list = builder.into_list(alloc, None)?;
-                list.under(alloc, &self.wrap)
-            }
-            Shape::Vector(slice) => {
-                let builder = slice.unspanned(alloc)?;
-                let vector = builder.into_vector(alloc, None)?;
+            Shape::Atom(_) => self.bare(alloc),
+            Shape::Leaf(_, _) => self.bare(alloc),
+            Shape::Pair(_, _, _) => unreachable!(),
+            Shape::Vector(_, elements) => {
+                let list = elements.unspanned(alloc)?;
+                let vector = list.into_vector(alloc, None)?;
                 vector.under(alloc, &self.wrap)
             }
-            _ => self.spanned(alloc, None),
         }
     }
 }
 
-impl Slice {
-    /// The elements and the tail without spans.
-    #[cycle(unspanned)]
-    fn unspanned(&self, alloc: Global) -> Result<Builder, Memory>
-        requires { IsWholeRun (run_of self.now) }
-        ensures elements { IfOk result (λ b. b.elements ≡ map unspanned (trees (drop self.now.from (rc_slice_items self.now.items)))) }
-        ensures tail { IfOk result (λ b. end_of b.tail ≡ unspanned (end_of self.now.tail)) }
-        ensures end { IfOk result (λ b. self.now.tail ≡ None → b.tail ≡ None) }
-    {
-        let tail = unspanned_end(alloc, &self.tail)?;
-        let mut builder = Builder::before(alloc, tail);
-        let items = self.items.as_slice();
-        let mut at = items.len();
-        while self.from < at {
-            at -= 1;
-            let tree = items[at].tree.unspanned(alloc)?;
-            builder.push_part(tree)?;
-        }
-        Ok(builder)
-    }
-}
-
-/// The tail without spans.
+/// The elements of a list without spans, and what ends it.
 #[cycle(unspanned)]
-fn unspanned_end(alloc: Global, tail: &Option<Kept>) -> Result<Option<Kept>, Memory>
-    ensures tree { IfOk result (λ t. end_of t ≡ unspanned (end_of tail.now)) }
-    ensures ends { IfOk result (λ t. IsEnd tail.now → IsEnd t) }
-    ensures none { IfOk result (λ t. tail.now ≡ None → t ≡ None) }
+fn unspanned_along(alloc: Global, list: &Kept) -> Result<(Vec<Kept>, Kept), Memory>
+    ensures list { IfOk result (λ r. chain r.0.items r.1 ≡ unspanned list.now) }
+    ensures rest { IfOk result (λ r. IsRest r.1) }
+    ensures fits { IfOk result (λ r. Fits (chain r.0.items r.1)) }
 {
-    match tail {
-        None => Ok(None),
-        Some(tail) => {
-            let tail = tail.unspanned(alloc)?;
-            Ok(Some(tail))
-        }
+    list.within();
+    let mut items = Vec::new(alloc);
+    let mut left = list.share()?;
+    loop {
+        let Some((item, others)) = left.parts(alloc)? else {
+            let end = left.unspanned_end(alloc)?;
+            return Ok((items, end));
+        };
+        let item = item.unspanned(alloc)?;
+        items.push(item)?;
+        left = others;
     }
+}
+
+/// All of these before a rest, as a list that is known to be within the limits.
+fn all_before(alloc: Global, items: Vec<Kept>, rest: Kept) -> Result<Kept, Memory>
+    requires rest { IsRest rest }
+    requires fits { Fits (chain items.items rest) }
+    ensures { IfOk result (λ k. k ≡ chain items.items rest) }
+{
+    let mut items = items;
+    let mut list = rest;
+    while let Some(item) = items.pop() {
+        list = item.before_part(alloc, list)?;
+    }
+    Ok(list)
 }

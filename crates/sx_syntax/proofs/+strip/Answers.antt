@@ -1,37 +1,65 @@
-use Rattle.std.proofs.Common.{◌≡◌, ◌∙◌, ap, sym, subst, arith, drop, map}
-use Rattle.std.proofs.lemmas.Grind.{common_steps}
+use Rattle.std.proofs.Common.{◌≡◌, ◌∙◌, ◌++◌, ◌∷◌, [], Some, None, ap, sym, subst, arith, refl}
 use Rattle.std.proofs.lemmas.Result.{IfOk-weaker}
-use Rattle.std.specs.Rc.{rc_slice_items}
+use Rattle.sx_base.specs.Datum as datum
+use Rattle.sx_base.specs.DatumView.{is_some_list}
 use Rattle.sx_tree.specs.Leaves.{strip}
-use Rattle.sx_syntax.specs.KeptView.{view_of, whole_of, form_of, run_of, list_form, vector_form, InForm, IsVectorRun, trees}
+use Rattle.sx_tree.specs.Tree.{Tree, pair}
+use Rattle.sx_syntax.specs.Kept.{weight, IsRest, IsElements, Parts}
+use Rattle.sx_syntax.specs.KeptView.{view_of, whole_of, InShape, IsPair, IsVector}
 use Rattle.sx_syntax.specs.declared.kept.Node.{Node}
-use Rattle.sx_syntax.proofs.DepthLemmas.{item_deep, part_deep}
-use Rattle.sx_syntax.proofs.StripLemmas.{strip-list, strip-vector, proper_list}
+use Rattle.sx_syntax.specs.declared.kept.Shape.TheVariants as shape
+use Rattle.sx_syntax.proofs.NodeLemmas.{weight_node}
+use Rattle.sx_syntax.proofs.ListLemmas.{rest_pair, elements_pair, elements_rest, first_less, rest_less}
+use Rattle.sx_syntax.proofs.StripLemmas.{strip_node, strip_more, some_more, strip_end, proper}
 use Rattle.sx_syntax.proofs.+strip.Goals as goal
 
-pub kept::Kept::strip-returns-in-List : goal.kept::Kept::strip-returns-in-List
-kept::Kept::strip-returns-in-List t c =
-    IfOk-weaker c.strip.result _ _
-    (λ d h. h ∙ strip-list (whole_of c.self.inside.wrap c.deref-node.result.now) c.args.self.now (ap (λ (x : Node). view_of (whole_of c.self.inside.wrap x)) c.deref-node.ensures ∙ c.self.view_is) c.in_ok-span.span (run_of c.in-List.slice) c.in_ok-span.ensures (ap form_of c.in-List.is))
-    c.strip.ensures
+pub kept::Kept::strip-strip_list-requires : goal.kept::Kept::strip-strip_list-requires
+kept::Kept::strip-strip_list-requires t c =
+    let here : IsPair c.in-Pair.field-0 c.in-Pair.first c.in-Pair.rest = subst InShape c.in-Pair.is (subst (λ (n : Node). InShape n.shape) (sym c.deref-node.ensures) c.self.invariant) in
+    (omega (arith, weight_node (whole_of c.self.inside.wrap c.deref-node.result.now) c.args.self.now (ap (λ (x : Node). view_of (whole_of c.self.inside.wrap x)) c.deref-node.ensures ∙ c.self.view_is) (shape.Pair c.in-Pair.field-0 c.in-Pair.first c.in-Pair.rest) c.in-Pair.is), here.rest)
+
+pub kept::Kept::strip-returns-in-Pair : goal.kept::Kept::strip-returns-in-Pair
+kept::Kept::strip-returns-in-Pair t c =
+    IfOk-weaker c.strip_list.result _ _
+    (λ d h. h ∙ ap (λ s. datum.pair s (strip c.in-Pair.first) (strip c.in-Pair.rest)) c.in_ok-span.ensures
+    ∙ strip_node (whole_of c.self.inside.wrap c.deref-node.result.now) c.args.self.now (ap (λ (x : Node). view_of (whole_of c.self.inside.wrap x)) c.deref-node.ensures ∙ c.self.view_is) (shape.Pair c.in-Pair.field-0 c.in-Pair.first c.in-Pair.rest) c.in-Pair.is)
+    c.strip_list.ensures
+
+pub kept::Kept::strip-strip_elements-requires : goal.kept::Kept::strip-strip_elements-requires
+kept::Kept::strip-strip_elements-requires t c =
+    let here : IsVector c.in-Vector.field-0 c.in-Vector.elements = subst InShape c.in-Vector.is (subst (λ (n : Node). InShape n.shape) (sym c.deref-node.ensures) c.self.invariant) in
+    (omega (arith, weight_node (whole_of c.self.inside.wrap c.deref-node.result.now) c.args.self.now (ap (λ (x : Node). view_of (whole_of c.self.inside.wrap x)) c.deref-node.ensures ∙ c.self.view_is) (shape.Vector c.in-Vector.field-0 c.in-Vector.elements) c.in-Vector.is), here.elements)
 
 pub kept::Kept::strip-returns-in_ok-items-in-Vector : goal.kept::Kept::strip-returns-in_ok-items-in-Vector
 kept::Kept::strip-returns-in_ok-items-in-Vector t c =
-    let n = whole_of c.self.inside.wrap c.deref-node.result.now in
-    let r = run_of c.in-Vector.slice in
-    let g : form_of n.shape ≡ vector_form r = ap form_of c.in-Vector.is in
-    let v : IsVectorRun r = subst InForm g (subst (λ (n : Node). InForm (form_of n.shape)) (sym c.deref-node.ensures) c.self.invariant) in
-    let items : c.in_ok-items-in-Vector.items.items ≡ map strip (trees (drop r.from r.items)) = grind (arith, common_steps, c.in_ok-items-in-Vector.ensures) in
-    strip-vector n c.args.self.now (ap (λ (x : Node). view_of (whole_of c.self.inside.wrap x)) c.deref-node.ensures ∙ c.self.view_is) c.in_ok-span.span r c.in_ok-items-in-Vector.items.items c.in_ok-span.ensures g v items
+    ap (datum.vector c.in_ok-span.span) c.in_ok-items-in-Vector.ensures ∙ ap (λ s. datum.vector s (strip c.in-Vector.elements)) c.in_ok-span.ensures
+    ∙ strip_node (whole_of c.self.inside.wrap c.deref-node.result.now) c.args.self.now (ap (λ (x : Node). view_of (whole_of c.self.inside.wrap x)) c.deref-node.ensures ∙ c.self.view_is) (shape.Vector c.in-Vector.field-0 c.in-Vector.elements) c.in-Vector.is
 
-pub kept::Slice::strip-strip_all-requires : goal.kept::Slice::strip-strip_all-requires
-kept::Slice::strip-strip_all-requires t c = (grind (arith, part_deep), tt)
+pub strip::strip_along-loop-left-preserved : goal.strip::strip_along-loop-left-preserved
+strip::strip_along-loop-left-preserved t c =
+    let l = c.loop-left in
+    let u = l.left in
+    let x = c.in-Some.item in
+    let y = c.in-Some.others in
+    let p : Parts (Some (x, y)) u = subst (λ o. Parts o u) c.in-Some.is c.in_ok-item.ensures in
+    let e = rest_pair u x y p.0 l.invariant.rest in
+    record {
+      list = ap (λ ds. datum.chain ds (strip y)) c.in_ok-push-2.ensures.items ∙ strip_more l.data.items u x y c.in_ok-datum-2.datum _ e c.in_ok-datum-2.ensures l.invariant.list;
+      some = ap is_some_list c.in_ok-push-2.ensures.items ∙ some_more l.data.items c.in_ok-datum-2.datum;
+      rest = p.1;
+      less = omega (arith, rest_less u x y None e, l.invariant.less);
+    }
 
-pub kept::Slice::strip-invariant_of-result : goal.kept::Slice::strip-invariant_of-result
-kept::Slice::strip-invariant_of-result t c =
-    let r = run_of c.args.self.now in
-    let items : c.in_ok-items.items.items ≡ map strip (trees (drop r.from r.items)) = grind (arith, common_steps, c.in_ok-items.ensures) in
-    proper_list r c.in_ok-items.items.items c.in_ok-tail-2.tail.value c.requires items (c.in_ok-tail-2.ensures.ok ∙ c.in_ok-tail.ensures)
-
-pub strip::strip_all-strip-requires : goal.strip::strip_all-strip-requires
-strip::strip_all-strip-requires t c = (rw c.item-item.is (grind (arith, item_deep)), tt)
+pub strip::strip_elements-loop-left-preserved : goal.strip::strip_elements-loop-left-preserved
+strip::strip_elements-loop-left-preserved t c =
+    let l = c.loop-left in
+    let u = l.left in
+    let x = c.in-Some.item in
+    let y = c.in-Some.others in
+    let p : Parts (Some (x, y)) u = subst (λ o. Parts o u) c.in-Some.is c.in_ok-item.ensures in
+    let e = elements_pair u x y p.0 l.invariant.elements in
+    record {
+      list = ap (λ ds. datum.chain ds (strip y)) c.in_ok-push.ensures.items ∙ strip_more l.data.items u x y c.in_ok-datum.datum _ e c.in_ok-datum.ensures l.invariant.list;
+      elements = elements_rest u x y p.0 l.invariant.elements;
+      less = omega (arith, rest_less u x y None e, l.invariant.less);
+    }

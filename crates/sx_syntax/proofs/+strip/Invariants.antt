@@ -1,19 +1,39 @@
-use Rattle.std.proofs.Common.{◌≡◌, ◌+◌, ◌*◌, ◌++◌, map, drop, take}
+use Rattle.std.proofs.Common.{◌≡◌, ◌≤◌, ◌+◌, ◌*◌, None, true}
+use Rattle.sx_base.specs.Datum.{chain, pair}
+use Rattle.sx_base.specs.DatumView.{is_some_list}
 use Rattle.sx_tree.specs.Leaves.{strip}
-use Rattle.sx_syntax.specs.KeptView.{run_of, run_depth, deepest, end_depth, trees}
+use Rattle.sx_syntax.specs.Kept.{weight, IsRest, IsElements}
 use Rattle.sx_syntax.proofs.+strip.Given as goal
 
-abbrev pub invariant-strip::strip_all-loop-item : goal.invariant-strip::strip_all-loop-item
-invariant-strip::strip_all-loop-item l = l.data.items ++ map strip (trees (drop l.item-index l.items)) ≡ map strip (trees l.items)
-
 abbrev pub decreases-kept::Kept::strip : goal.decreases-kept::Kept::strip
-decreases-kept::Kept::strip l = 3 * l.self.now.depth + 2
+decreases-kept::Kept::strip l = 3 * weight l.self.now + 2
 
-abbrev pub decreases-kept::Slice::strip : goal.decreases-kept::Slice::strip
-decreases-kept::Slice::strip l = 3 * run_depth (run_of l.self.now) + 1
+abbrev pub decreases-strip::strip_list : goal.decreases-strip::strip_list
+decreases-strip::strip_list l = 3 * (weight l.first.now + weight l.rest.now) + 4
 
-abbrev pub decreases-strip::strip_all : goal.decreases-strip::strip_all
-decreases-strip::strip_all l = 3 * deepest l.items.now
+abbrev pub decreases-strip::strip_along : goal.decreases-strip::strip_along
+decreases-strip::strip_along l = 3 * (weight l.first.now + weight l.rest.now) + 3
 
-abbrev pub decreases-strip::strip_end : goal.decreases-strip::strip_end
-decreases-strip::strip_end l = 3 * end_depth l.tail.now
+abbrev pub decreases-strip::strip_elements : goal.decreases-strip::strip_elements
+decreases-strip::strip_elements l = 3 * weight l.elements.now + 3
+
+abbrev pub invariant-strip::strip_along-loop-left : goal.invariant-strip::strip_along-loop-left
+invariant-strip::strip_along-loop-left l = record {
+  list : chain l.data.items (strip l.left) ≡ pair None (strip l.first) (strip l.rest);
+  some : is_some_list l.data.items ≡ true;
+  rest : IsRest l.left;
+  less : weight l.left ≤ weight l.rest;
+}
+
+abbrev pub decreases-strip::strip_along-loop-left : goal.decreases-strip::strip_along-loop-left
+decreases-strip::strip_along-loop-left l = weight l.left
+
+abbrev pub invariant-strip::strip_elements-loop-left : goal.invariant-strip::strip_elements-loop-left
+invariant-strip::strip_elements-loop-left l = record {
+  list : chain l.data.items (strip l.left) ≡ strip l.elements;
+  elements : IsElements l.left;
+  less : weight l.left ≤ weight l.elements;
+}
+
+abbrev pub decreases-strip::strip_elements-loop-left : goal.decreases-strip::strip_elements-loop-left
+decreases-strip::strip_elements-loop-left l = weight l.left

@@ -1,76 +1,57 @@
-use Rattle.std.proofs.Common.{◌≡◌, ◌-◌, ◌<◌, ◌∙◌, ap, sym, subst, arith, suc, drop, map, length, refl, Option}
+use Rattle.std.proofs.Common.{◌≡◌, ◌∙◌, ◌++◌, ◌∷◌, [], Some, None, ap, sym, subst, arith, refl}
 use Rattle.std.proofs.lemmas.Result.{IfOk-weaker}
-use Rattle.sx_tree.specs.Tree.{unspanned}
-use Rattle.sx_syntax.specs.Kept.{Lazily, end_of}
-use Rattle.sx_syntax.specs.KeptView.{view_of, whole_of, form_of, run_of, list_form, vector_form, InForm, IsListRun, trees, deepest}
-use Rattle.sx_syntax.specs.Builder.{Built}
+use Rattle.sx_tree.specs.Tree.{Tree, pair, vector, chain, spanned, unspanned, span_of, is_pair}
+use Rattle.sx_tree.specs.Changes.{changed}
+use Rattle.sx_tree.specs.Measures.{Fits}
+use Rattle.sx_syntax.specs.Kept.{weight, IsRest, IsElements, Parts}
+use Rattle.sx_syntax.specs.KeptView.{view_of, whole_of, InShape, IsPair, IsVector}
 use Rattle.sx_syntax.specs.declared.kept.Node.{Node}
-use Rattle.sx_syntax.proofs.BuiltLemmas.{under_settled}
-use Rattle.sx_syntax.proofs.DepthLemmas.{item_deep}
-use Rattle.sx_syntax.proofs.UnspannedLemmas.{some_unspanned, unspanned-list, unspanned-vector, unspanned_end_fits, none_unspanned, part_unspanned}
+use Rattle.sx_syntax.specs.declared.kept.Shape.TheVariants as shape
+use Rattle.sx_syntax.proofs.NodeLemmas.{tree_node, weight_node, unspanned_node}
+use Rattle.sx_syntax.proofs.ListLemmas.{unspanned_elements, unspanned_rest, unspanned_fits, first_more, rest_less}
 use Rattle.sx_syntax.proofs.+unspanned.Goals as goal
 
-pub kept::Kept::unspanned-into_list-requires : goal.kept::Kept::unspanned-into_list-requires
-kept::Kept::unspanned-into_list-requires t c =
-    let r = run_of c.in-List.slice in
-    let form : IsListRun r = subst InForm (ap form_of c.in-List.is) (subst (λ (n : Node). InForm (form_of n.shape)) (sym c.deref-node.ensures) c.self.invariant) in
-    some_unspanned r c.in_ok-builder-in-List.builder.elements form.some c.in_ok-builder-in-List.ensures.elements
+pub kept::Kept::unspanned_end-returns-in-Atom : goal.kept::Kept::unspanned_end-returns-in-Atom
+kept::Kept::unspanned_end-returns-in-Atom t c =
+    let same = tree_node (whole_of c.self.inside.wrap c.deref-node.result.now) c.args.self.now (ap (λ (x : Node). view_of (whole_of c.self.inside.wrap x)) c.deref-node.ensures ∙ c.self.view_is) (shape.Atom c.in-Atom.field-0) c.in-Atom.is in
+    IfOk-weaker c.bare.result _ _ (λ k h. h ∙ ap (spanned None) (sym same) ∙ ap unspanned same) c.bare.ensures
 
-pub kept::Kept::unspanned-returns-in_ok-list-in-List-clause-tree : goal.kept::Kept::unspanned-returns-in_ok-list-in-List-clause-tree
-kept::Kept::unspanned-returns-in_ok-list-in-List-clause-tree t c =
-    let b = c.in_ok-builder-in-List in
+pub kept::Kept::unspanned_end-returns-in-Leaf : goal.kept::Kept::unspanned_end-returns-in-Leaf
+kept::Kept::unspanned_end-returns-in-Leaf t c =
+    let same = tree_node (whole_of c.self.inside.wrap c.deref-node.result.now) c.args.self.now (ap (λ (x : Node). view_of (whole_of c.self.inside.wrap x)) c.deref-node.ensures ∙ c.self.view_is) (shape.Leaf c.in-Leaf.field-0 c.in-Leaf.field-1) c.in-Leaf.is in
+    IfOk-weaker c.bare-in-Leaf.result _ _ (λ k h. h ∙ ap (spanned None) (sym same) ∙ ap unspanned same) c.bare-in-Leaf.ensures
+
+pub kept::Kept::unspanned_end-unspanned-requires : goal.kept::Kept::unspanned_end-unspanned-requires
+kept::Kept::unspanned_end-unspanned-requires t c =
+    (omega (arith, weight_node (whole_of c.self.inside.wrap c.deref-node.result.now) c.args.self.now (ap (λ (x : Node). view_of (whole_of c.self.inside.wrap x)) c.deref-node.ensures ∙ c.self.view_is) (shape.Vector c.in-Vector.field-0 c.in-Vector.elements) c.in-Vector.is), tt)
+
+pub kept::Kept::unspanned_end-into_vector-requires : goal.kept::Kept::unspanned_end-into_vector-requires
+kept::Kept::unspanned_end-into_vector-requires t c =
+    let here : IsVector c.in-Vector.field-0 c.in-Vector.elements = subst InShape c.in-Vector.is (subst (λ (n : Node). InShape n.shape) (sym c.deref-node.ensures) c.self.invariant) in
+    subst IsElements (sym c.in_ok-list-in-Vector.ensures) (unspanned_elements c.in-Vector.elements here.elements)
+
+pub kept::Kept::unspanned_end-returns-in_ok-vector-in-Vector : goal.kept::Kept::unspanned_end-returns-in_ok-vector-in-Vector
+kept::Kept::unspanned_end-returns-in_ok-vector-in-Vector t c =
     IfOk-weaker c.under.result _ _
-    (λ k h. ap (λ (x : Lazily). x.tree) h
-    ∙ unspanned-list (whole_of c.self.inside.wrap c.deref-node.result.now) c.args.self.now (ap (λ (x : Node). view_of (whole_of c.self.inside.wrap x)) c.deref-node.ensures ∙ c.self.view_is) (run_of c.in-List.slice) b.builder c.in_ok-list-in-List.list.tree
-    (ap form_of c.in-List.is) b.ensures.elements b.ensures.tail c.in_ok-list-in-List.ensures.tree)
+    (λ k h. h ∙ ap (changed c.self.inside.wrap) (c.in_ok-vector-in-Vector.ensures ∙ ap (vector None) c.in_ok-list-in-Vector.ensures)
+    ∙ unspanned_node (whole_of c.self.inside.wrap c.deref-node.result.now) c.args.self.now (ap (λ (x : Node). view_of (whole_of c.self.inside.wrap x)) c.deref-node.ensures ∙ c.self.view_is) (shape.Vector c.in-Vector.field-0 c.in-Vector.elements) c.in-Vector.is)
     c.under.ensures
 
-pub kept::Kept::unspanned-returns-in_ok-list-in-List-clause-settled : goal.kept::Kept::unspanned-returns-in_ok-list-in-List-clause-settled
-kept::Kept::unspanned-returns-in_ok-list-in-List-clause-settled t c =
-    IfOk-weaker c.under.result _ _ (λ k h. under_settled c.self.inside.wrap c.in_ok-list-in-List.list k h c.in_ok-list-in-List.ensures.settled) c.under.ensures
+pub unspanned::unspanned_along-returns-in_default-clause-fits : goal.unspanned::unspanned_along-returns-in_default-clause-fits
+unspanned::unspanned_along-returns-in_default-clause-fits t c =
+    let same = ap (chain c.loop-left.items.items) c.in_ok-end.ensures ∙ c.loop-left.invariant.list in
+    subst Fits (sym same) (unspanned_fits c.args.list.now c.within.ensures)
 
-pub kept::Kept::unspanned-returns-in_ok-vector-in-Vector-clause-tree : goal.kept::Kept::unspanned-returns-in_ok-vector-in-Vector-clause-tree
-kept::Kept::unspanned-returns-in_ok-vector-in-Vector-clause-tree t c =
-    let b = c.in_ok-builder-in-Vector in
-    IfOk-weaker c.under-in-Vector.result _ _
-    (λ k h. ap (λ (x : Lazily). x.tree) h
-    ∙ unspanned-vector (whole_of c.self.inside.wrap c.deref-node.result.now) c.args.self.now (ap (λ (x : Node). view_of (whole_of c.self.inside.wrap x)) c.deref-node.ensures ∙ c.self.view_is) (run_of c.in-Vector.slice) b.builder c.in_ok-vector-in-Vector.vector.tree
-    (ap form_of c.in-Vector.is) b.ensures.elements b.ensures.tail c.in_ok-vector-in-Vector.ensures.tree)
-    c.under-in-Vector.ensures
-
-pub kept::Kept::unspanned-returns-in_ok-vector-in-Vector-clause-settled : goal.kept::Kept::unspanned-returns-in_ok-vector-in-Vector-clause-settled
-kept::Kept::unspanned-returns-in_ok-vector-in-Vector-clause-settled t c =
-    IfOk-weaker c.under-in-Vector.result _ _ (λ k h. under_settled c.self.inside.wrap c.in_ok-vector-in-Vector.vector k h c.in_ok-vector-in-Vector.ensures.settled) c.under-in-Vector.ensures
-
-pub kept::Slice::unspanned-before-builder-requires-clause-fits : goal.kept::Slice::unspanned-before-builder-requires-clause-fits
-kept::Slice::unspanned-before-builder-requires-clause-fits t c = unspanned_end_fits (run_of c.args.self.now) _ c.requires.fits c.in_ok-tail.ensures.tree
-
-pub kept::Slice::unspanned-loop-at-init : goal.kept::Slice::unspanned-loop-at-init
-kept::Slice::unspanned-loop-at-init t c = record {
-  within = omega arith;
-  behind = rw c.as_slice-items.ensures.value c.requires.starts;
-  same = c.as_slice-items.ensures.value;
-  elements = none_unspanned c.as_slice-items.result.now c.before-builder.result.elements (ap (λ (b : Built). b.elements) c.before-builder.ensures);
-  tail = refl;
-}
-
-pub kept::Slice::unspanned-unspanned-requires : goal.kept::Slice::unspanned-unspanned-requires
-kept::Slice::unspanned-unspanned-requires t c =
-    let at = c.loop-at.at - 1 in
-    let is = c.as_slice-items.result.now in
-    let l : at < length is = omega (arith, c.loop-at.invariant.within, c.loop-at-test.true) in
-    let deep = item_deep is at c.index-items-at.result l in
-    let whole : deepest is ≡ deepest (run_of c.args.self.now).items = ap deepest c.as_slice-items.ensures.value in
-    (grind (arith, deep, whole), tt)
-
-pub kept::Slice::unspanned-push_part-requires-clause-fits : goal.kept::Slice::unspanned-push_part-requires-clause-fits
-kept::Slice::unspanned-push_part-requires-clause-fits t c =
-    let r = run_of c.args.self.now in
-    let is = c.as_slice-items.result.now in
-    let b = c.loop-at.builder in
-    let at = c.loop-at.at - 1 in
-    let l : at < length is = omega (arith, c.loop-at.invariant.within, c.loop-at-test.true) in
-    let next : suc at ≡ c.loop-at.at = omega (arith, c.loop-at-test.true) in
-    let more : b.elements ≡ map unspanned (trees (drop (suc at) is)) = rw next c.loop-at.invariant.elements in
-    let end : end_of b.tail ≡ unspanned (end_of r.tail) = ap end_of (c.loop-at.invariant.tail ∙ ap (λ (x : Built). x.tail) c.before-builder.ensures) ∙ c.in_ok-tail.ensures.tree in
-    part_unspanned r is at c.index-items-at.result c.in_ok-tree.tree.tree b.elements b.tail c.requires.fits c.loop-at.invariant.same l c.in_ok-tree.ensures.tree more end
+pub unspanned::unspanned_along-loop-left-preserved : goal.unspanned::unspanned_along-loop-left-preserved
+unspanned::unspanned_along-loop-left-preserved t c =
+    let l = c.loop-left in
+    let u = l.left in
+    let x = c.in-Some.item in
+    let y = c.in-Some.others in
+    let z = c.in_ok-item-2.item in
+    let p : Parts (Some (x, y)) u = subst (λ o. Parts o u) c.in-Some.is c.in_ok-item.ensures in
+    record {
+      list = ap (λ xs. chain xs (unspanned y)) c.in_ok-push.ensures.items ∙ first_more l.items.items z (unspanned y)
+          ∙ ap (chain l.items.items) (ap (λ i. pair None i (unspanned y)) c.in_ok-item-2.ensures ∙ sym (ap unspanned p.0)) ∙ l.invariant.list;
+      less = omega (arith, rest_less u x y (span_of u) p.0, l.invariant.less);
+    }

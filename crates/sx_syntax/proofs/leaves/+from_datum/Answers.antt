@@ -1,14 +1,16 @@
-use Rattle.std.proofs.Common.{◌≡◌, ◌-◌, ◌<◌, ◌++◌, ◌∙◌, ap, sym, arith, suc, drop, map, length, true}
+use Rattle.std.proofs.Common.{refl, ◌≡◌, ◌-◌, ◌<◌, ◌∙◌, ap, sym, subst, arith, suc, drop, map, length, true, None}
 use Rattle.std.proofs.lemmas.Result.{IfOk-weaker, IfErr-weaker, err_from_is_err_and}
 use Rattle.sx_base.specs.Datum.{PlainDatum}
+use Rattle.sx_base.specs.Datum as datum
 use Rattle.sx_base.specs.DatumView.{seen}
-use Rattle.sx_tree.specs.Tree.{Tree, chain, spanned, vector, nil}
+use Rattle.sx_tree.specs.Tree.{Tree, pair, chain, spanned, vector, nil}
 use Rattle.sx_tree.specs.Measures.{Fits}
 use Rattle.sx_tree.proofs.MeasureLaws.{chain_fits}
-use Rattle.sx_syntax.specs.Builder.{built_tree, with_front}
+use Rattle.sx_syntax.specs.Kept.{IsRest, IsElements}
+use Rattle.sx_syntax.proofs.ListLemmas.{chain_elements}
 use Rattle.sx_syntax.specs.Leaves.{grown_tree, span_by}
 use Rattle.sx_syntax.proofs.GivesLemmas.{refuses_more}
-use Rattle.sx_syntax.proofs.GrownLemmas.{datum_size-some, end_smaller, elements_smaller, element_smaller, list_node, vector_node, bare_fits, vector_fits, datum_fits, grown_more}
+use Rattle.sx_syntax.proofs.GrownLemmas.{datum_size-some, end_smaller, elements_smaller, element_smaller, part_smaller, later_data, list_node, vector_node, bare_fits, vector_fits, datum_fits, grown_more, more_fits, grown_rest}
 use Rattle.sx_syntax.proofs.leaves.+from_datum.Goals as goal
 
 pub from_datum-returns-in-List-clause-tree : goal.from_datum-returns-in-List-clause-tree
@@ -56,42 +58,48 @@ from_list-returns-in_err-end-clause-refused t c =
     let whole = chain (map f c.args.items.now) end in
     rw (p.1, p.2) (refuses_more c.in_err-end.field-0.0 (Fits end) (Fits whole) (λ h. chain_fits (map f c.args.items.now) end h) c.in_err-end.ensures.refused)
 
-pub from_list-push_data-requires : goal.from_list-push_data-requires
-from_list-push_data-requires t c =
-    let small = elements_smaller c.args.items.now c.args.tail.now in
-    let some = end_smaller c.args.items.now c.args.tail.now c.requires.some in
-    (grind (arith, small, some), tt)
+pub from_end-returns-clause-rest : goal.from_end-returns-clause-rest
+from_end-returns-clause-rest t c =
+    IfOk-weaker c.from_datum.result _ _ (λ k h. subst IsRest (sym h) (grown_rest c.args.spans c.args.sample.now c.args.tail.now c.requires)) c.from_datum.ensures.tree
 
-pub from_vector-push_data-requires : goal.from_vector-push_data-requires
-from_vector-push_data-requires t c = (grind (arith, datum_size-some), tt)
-
-pub push_data-from_datum-requires : goal.push_data-from_datum-requires
-push_data-from_datum-requires t c =
+pub data_before-from_datum-requires : goal.data_before-from_datum-requires
+data_before-from_datum-requires t c =
     let at = c.loop-at.at - 1 in
     let l : at < length c.args.items.now = omega (arith, c.loop-at.invariant.within, c.loop-at-test.true) in
     let small = element_smaller c.args.items.now at c.index-items-at.result l in
     (rw c.index-items-at.is (grind (arith, small)), tt)
 
-pub push_data-returns-in_err-tree-clause-refused : goal.push_data-returns-in_err-tree-clause-refused
-push_data-returns-in_err-tree-clause-refused t c =
+pub data_before-returns-in_err-tree-clause-refused : goal.data_before-returns-in_err-tree-clause-refused
+data_before-returns-in_err-tree-clause-refused t c =
     let p = err_from_is_err_and c.from_residual.result c.from_residual.ensures.1 in
     let f = grown_tree c.args.spans c.args.sample.now in
     let ds = c.args.items.now in
-    let old = built_tree c.args.builder.now in
     let at = c.loop-at.at - 1 in
     let l : at < length ds = omega (arith, c.loop-at.invariant.within, c.loop-at-test.true) in
-    rw (p.1, p.2) (refuses_more c.in_err-tree.field-0.0 (Fits (f c.index-items-at.result)) (Fits (chain (map f ds) old))
-    (λ h. datum_fits f ds at c.index-items-at.result old l c.index-items-at.is h) c.in_err-tree.ensures.refused)
+    rw (p.1, p.2) (refuses_more c.in_err-tree.field-0.0 (Fits (f c.index-items-at.result)) (Fits (chain (map f ds) c.args.rest))
+    (λ h. datum_fits f ds at c.index-items-at.result c.args.rest l c.index-items-at.is h) c.in_err-tree.ensures.refused)
 
-pub push_data-returns-in-Err-clause-refused : goal.push_data-returns-in-Err-clause-refused
-push_data-returns-in-Err-clause-refused t c =
+pub data_before-returns-in-Err-clause-refused : goal.data_before-returns-in-Err-clause-refused
+data_before-returns-in-Err-clause-refused t c =
     let f = grown_tree c.args.spans c.args.sample.now in
     let ds = c.args.items.now in
-    let b = c.loop-at.builder in
-    let old = c.args.builder.now in
     let at = c.loop-at.at - 1 in
     let l : at < length ds = omega (arith, c.loop-at.invariant.within, c.loop-at-test.true) in
     let next : suc at ≡ c.loop-at.at = omega (arith, c.loop-at-test.true) in
-    let more : b.elements ≡ map f (drop (suc at) ds) ++ old.elements = rw next c.loop-at.invariant.elements in
-    refuses_more c.in-Err.stop (Fits (built_tree (with_front c.in_ok-tree.tree.tree b))) (Fits (chain (map f ds) (built_tree old)))
-    (λ h. grown_more f ds at c.index-items-at.result c.in_ok-tree.tree.tree b old l c.index-items-at.is c.in_ok-tree.ensures.tree more c.loop-at.invariant.tail h) c.in-Err.ensures.refused
+    let more : c.loop-at.list ≡ chain (map f (drop (suc at) ds)) c.args.rest = rw next c.loop-at.invariant.list in
+    refuses_more c.in-Err.stop (Fits (pair None c.in_ok-tree.tree c.loop-at.list)) (Fits (chain (map f ds) c.args.rest))
+    (λ h. more_fits f ds at c.index-items-at.result c.in_ok-tree.tree c.loop-at.list c.args.rest l c.index-items-at.is c.in_ok-tree.ensures.tree more h) c.in-Err.ensures.refused
+
+pub from_list-data_before-requires : goal.from_list-data_before-requires
+from_list-data_before-requires t c =
+    let small = part_smaller (length c.args.items.now - 1) c.args.items.now c.args.tail.now c.requires.some in
+    (grind (arith, small), c.in_ok-end.ensures.rest)
+
+pub from_vector-data_before-requires : goal.from_vector-data_before-requires
+from_vector-data_before-requires t c = (omega (arith, datum_size-some (datum.chain c.args.items.now datum.nil)), subst IsRest (sym c.in_ok-end.ensures) refl)
+
+pub from_vector-into_vector-requires : goal.from_vector-into_vector-requires
+from_vector-into_vector-requires t c =
+    let f = grown_tree c.args.spans c.args.sample.now in
+    let end : IsElements c.in_ok-end.end = subst IsElements (sym c.in_ok-end.ensures) refl in
+    subst IsElements (sym c.in_ok-list.ensures.tree) (chain_elements (map f c.args.items.now) c.in_ok-end.end end)

@@ -1,4 +1,3 @@
-use Rattle.std.proofs.Common.{refl}
 use Rattle.std.proofs.lemmas.Result.{err_from_is_err_and}
 use Rattle.sx_syntax.specs.Leaves.{grown_tree}
 use Rattle.sx_syntax.proofs.GivesLemmas.{gives_tree, gives_stop}
@@ -10,4 +9,4 @@ returns-in_err-kept c =
     rw (p.1, p.2) (gives_stop c.in_err-kept.field-0.0 (grown_tree c.args.spans c.args.sample.now c.args.datum.now) c.in_err-kept.ensures.refused)
 
 pub returns : goal.returns
-returns c = gives_tree (grown_tree c.args.spans c.args.sample.now c.args.datum.now) c.in_ok-kept.kept.tree c.in_ok-kept.ensures.tree c.within.ensures.fits
+returns c = gives_tree (grown_tree c.args.spans c.args.sample.now c.args.datum.now) c.in_ok-kept.kept c.in_ok-kept.ensures.tree c.within.ensures

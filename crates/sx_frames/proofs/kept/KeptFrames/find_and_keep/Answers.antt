@@ -9,17 +9,17 @@ invariant_of-self c =
     let fs = c.self.inside.frames in
     let s = c.args.symbol in
     let ts = c.args.stamps in
-    all_put fs c.self.inside.memo c.put.new.self s ts c.in_ok-answer.answer c.self.invariant
+    all_put fs c.self.inside.memo c.keep.new.self s ts c.in_ok-answer.answer c.self.invariant
     (c.in_ok-answer.ensures.label ∙ ap (λ x. label_by fs x c.as_slice.result.now) c.in_ok-asked.ensures ∙ ap (label_by fs s) c.as_slice.ensures)
     (c.in_ok-answer.ensures.sizes ∙ ap (λ x. sizes_before fs x c.as_slice.result.now) c.in_ok-asked.ensures ∙ ap (sizes_before fs s) c.as_slice.ensures)
-    c.put.ensures
+    c.keep.ensures
 
 pub invariant_of-self-2 : goal.invariant_of-self-2
 invariant_of-self-2 c =
     let fs = c.self.inside.frames in
     let s = c.args.symbol in
     let ts = c.args.stamps in
-    all_put fs c.self.inside.memo c.put.new.self s ts c.in_ok-answer.answer c.self.invariant
+    all_put fs c.self.inside.memo c.keep.new.self s ts c.in_ok-answer.answer c.self.invariant
     (c.in_ok-answer.ensures.label ∙ ap (λ x. label_by fs x c.as_slice.result.now) c.in_ok-asked.ensures ∙ ap (label_by fs s) c.as_slice.ensures)
     (c.in_ok-answer.ensures.sizes ∙ ap (λ x. sizes_before fs x c.as_slice.result.now) c.in_ok-asked.ensures ∙ ap (sizes_before fs s) c.as_slice.ensures)
-    c.put.ensures
+    c.keep.ensures

@@ -18,4 +18,4 @@ pub returns-then-is_empty : goal.returns-then-is_empty
 returns-then-is_empty c =
     let none : c.args.items.items ≡ [] = nil_from_length c.args.items.items (grind (arith, nat_tests, c.is_empty.ensures, c.if-is_empty.true)) in
     let same : c.in-Some.tail ≡ list_of c.args.items.items c.args.tail = rw (none, c.in-Some.is) refl in
-    gives_tree (list_of c.args.items.items c.args.tail) c.in-Some.tail same (subst Fits c.tail.view_is c.within.ensures.fits)
+    gives_tree (list_of c.args.items.items c.args.tail) c.in-Some.tail same (subst Fits c.tail.view_is c.within.ensures)

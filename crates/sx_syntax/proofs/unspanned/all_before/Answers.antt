@@ -1,0 +1,19 @@
+use Rattle.std.proofs.Common.{◌≡◌, refl, sym, subst, ◌++◌, ◌∷◌, [], None}
+use Rattle.sx_tree.specs.Tree.{Tree, chain, pair}
+use Rattle.sx_tree.specs.Measures.{Fits}
+use Rattle.sx_syntax.specs.Kept.{IsRest}
+use Rattle.sx_syntax.proofs.ListLemmas.{last_fits, last_more}
+use Rattle.sx_syntax.proofs.unspanned.all_before.Goals as goal
+
+pub before_part-requires-clause-fits : goal.before_part-requires-clause-fits
+before_part-requires-clause-fits c =
+    let l = c.loop-item in
+    last_fits l.items.items c.pop.new.self.items c.in-Some.item l.list (chain c.args.items.items c.args.rest) c.in-Some.ensures.items l.invariant.list c.requires.fits
+
+pub loop-item-preserved : goal.loop-item-preserved
+loop-item-preserved c =
+    let l = c.loop-item in
+    record {
+      list = last_more l.items.items c.pop.new.self.items c.in-Some.item l.list c.in_ok-list.list (chain c.args.items.items c.args.rest) c.in-Some.ensures.items l.invariant.list c.in_ok-list.ensures;
+      rest = subst IsRest (sym c.in_ok-list.ensures) refl;
+    }

@@ -1,0 +1,22 @@
+-- A list that becomes longer by one element.
+use Rattle.std.specs.Prelude.{◌≡◌, ℕ, ◌+◌, ◌≤◌, max, Option, None, Some}
+use Rattle.sx_tree.specs.Tree.{Tree}
+use Rattle.sx_tree.specs.Measures.{Fits}
+use Rattle.sx_syntax.specs.KeptView.{IsExtent}
+use Rattle.sx_syntax.specs.declared.kept.Extent.{Extent}
+
+-- the extent of a tree within the limits, or none where it passes them
+abbrev pub Extends : Option Extent → Tree → Type 0
+Extends None t = ¬ Fits t
+Extends (Some e) t = IsExtent e t × Fits t
+
+-- the height of a list with one more element before a rest
+abbrev pub grown_height : Extent → Extent → ℕ → ℕ
+grown_height element rest joint = max (element.height + 1) (rest.height + joint)
+
+abbrev pub grown_size : Extent → Extent → ℕ → ℕ
+grown_size element rest joint = element.size + (rest.size + joint)
+
+abbrev pub Grows : Option Extent → ℕ → ℕ → Type 0
+Grows None h n = ¬ ((h ≤ 1000) × (n ≤ 16777216))
+Grows (Some e) h n = (e.height ≡ h) × (e.size ≡ n) × (h ≤ 1000) × (n ≤ 16777216)
