@@ -118,6 +118,15 @@ impl Memo {
         }
     }
 
+    /// Forgets what was kept where that is much.
+    fn make_room(&mut self, alloc: Global)
+        ensures { (k : Kept) → Has k self.new → Has k self.old }
+    {
+        if self.answers.len() >= LIMIT {
+            *self = Memo::new(alloc);
+        }
+    }
+
     /// As `put`. A memo that is full forgets first, so that it stays small however much is asked.
     pub fn keep(
         &mut self,
@@ -129,9 +138,7 @@ impl Memo {
     ) -> Result<(), Memory>
         ensures { (k : Kept) → Has k self.new → Has k self.old ⊎ (k ≡ kept symbol stamps answer) }
     {
-        if self.answers.len() >= LIMIT {
-            *self = Memo::new(alloc);
-        }
+        self.make_room(alloc);
         self.put(symbol, marks, stamps, answer)
     }
 }
