@@ -23,6 +23,12 @@ use sx_frames::shared::SharedFrames;
 use sx_syntax::syn::Syn;
 use sx_tree::frame_row::FrameRow;
 
+/// So many of a leaf's newest stamps are asked first: most leaves are bound close to where they stand.
+const NEWEST: usize = 4;
+
+/// So many before what is remembered.
+const RECENT: usize = 16;
+
 /// Frames, each with its rows in the order of binding. Tables and remembered answers don't show.
 /// What is no leaf counts as one of the empty symbol, without marks and stamps, so it stands for no label.
 #[derive(Drop)]
@@ -109,13 +115,13 @@ impl Frames {
         self.frames.bind(&frame, symbol, marks, label)
     }
 
-    /// The label that a leaf stands for, where one of its newest stamps gives it.
+    /// The label that a leaf stands for, where one of so many of its newest stamps gives it.
     #[tactic(auto, using(crate::proofs::SoonLaws::soon_is))]
-    fn stands_soon(&self, id: &Syn) -> Result<Option<Label>, Memory>
+    fn stands_soon(&self, id: &Syn, count: usize) -> Result<Option<Label>, Memory>
         ensures { IfOk result (λ o. IfSome o (λ l. stands self.now id.now ≡ Some l)) }
     {
         let symbol = symbol_of(self.alloc, id)?;
-        let stamps = id.newest_stamps(self.alloc, 4)?;
+        let stamps = id.newest_stamps(self.alloc, count)?;
         self.frames.label_by(symbol, stamps)
     }
 
@@ -124,7 +130,7 @@ impl Frames {
     pub fn stands(&self, id: &Syn) -> Result<Option<Label>, Memory>
         ensures { IfOk result (λ l. l ≡ stands self.now id.now) }
     {
-        if let Some(label) = self.stands_soon(id)? {
+        if let Some(label) = self.stands_soon(id, NEWEST)? {
             return Ok(Some(label));
         }
         let symbol = symbol_of(self.alloc, id)?;
@@ -132,18 +138,22 @@ impl Frames {
         self.frames.label_by(symbol, stamps)
     }
 
-    /// As `stands`, and remembers the answer. A remembered answer is given only where it still holds,
-    /// so none shows. A leaf with one stamp is looked up, since that costs less.
+    /// As `stands`, and remembers the answer where none of the recent stamps gives it: each use of a keyword
+    /// makes stamps of its own, and to ask for them in the memo would cost more than to look. A remembered
+    /// answer is given only where it still holds, so none shows.
     pub fn stands_kept(&mut self, id: &Syn) -> Result<Option<Label>, Memory>
         ensures label { IfOk result (λ l. l ≡ stands self.old id.now) }
         ensures unchanged { self.new ≡ self.old }
     {
-        if let Some(label) = self.stands_soon(id)? {
+        if let Some(label) = self.stands_soon(id, NEWEST)? {
+            return Ok(Some(label));
+        }
+        if let Some(label) = self.stands_soon(id, RECENT)? {
             return Ok(Some(label));
         }
         let symbol = symbol_of(self.alloc, id)?;
         let stamps = id.stamps(self.alloc)?;
-        if stamps.len() < 2 {
+        if stamps.len() <= RECENT {
             return self.frames.label_by(symbol, stamps);
         }
         let marks = id.marks(self.alloc)?;
