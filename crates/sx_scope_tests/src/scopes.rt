@@ -177,6 +177,28 @@ fn a_leaf_stands_for_what_its_first_fitting_stamp_finds(rt: HostRuntime) -> Resu
     Ok(())
 }
 
+/// Stamps of which the last two find something, behind so many that the memo is asked.
+const FAR: [(u64, &[u64]); 18] = [
+    (9, &[]),
+    (9, &[]),
+    (9, &[]),
+    (9, &[]),
+    (9, &[]),
+    (9, &[]),
+    (9, &[]),
+    (9, &[]),
+    (9, &[]),
+    (9, &[]),
+    (9, &[]),
+    (9, &[]),
+    (9, &[]),
+    (9, &[]),
+    (9, &[]),
+    (9, &[]),
+    (0, &[0]),
+    (0, &[]),
+];
+
 /// So many turns, what the leaf stands for in them, and the marks with which x is bound then.
 type Round = (u64, u64, u64, &'static [u64], u64);
 
@@ -227,7 +249,7 @@ fn go_round(
 
 fn rounds_go_in(alloc: Global, frames: &mut Frames, rounds: &[Round]) -> Result<bool, Memory> {
     let library = Rc::new(alloc, LibName::Program)?;
-    let id = leaf(alloc, &library, &("x", &[0], &[(0, &[0]), (0, &[])]))?;
+    let id = leaf(alloc, &library, &("x", &[0], &FAR))?;
     go_round(alloc, &library, frames, &id, rounds)
 }
 
