@@ -26,7 +26,7 @@ abbrev pub IsForeign : LibName → Named → Type 0
 IsForeign own n = n.library ≡ own → ⊥
 
 -- A row for a label of the library, or that of the core ellipsis: a `quasisyntax` form with inserts puts an ellipsis, whose mark no
--- other leaf has, into a frame that is made for it, so that no binding of a program can change what stands behind splices.
+-- leaf of a program has, into a frame that is made for it, so that no binding of a program can change what stands behind splices.
 abbrev pub IsOwnOrEllipsis : LibName → Row → Type 0
 IsOwnOrEllipsis own r = IsOwn own r.label.0 ⊎ (r ≡ row_for dots ellipsis)
 
