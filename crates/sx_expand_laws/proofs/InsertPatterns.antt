@@ -1,11 +1,9 @@
 -- The pattern of the inserts of a `quasisyntax` form: its variables are theirs, each with its depth.
-use Rattle.std.proofs.Common.{◌≡◌, ℕ, zero, suc, ◌+◌, List, [], ◌∷◌, ◌++◌, map, refl, sym, ◌∙◌, ap, arith, append-nil}
-use Rattle.sx_base.specs.declared.name.Label.{Label}
-use Rattle.sx_tree.specs.Tree.{Tree}
+use Rattle.std.proofs.Common.{◌≡◌, ℕ, zero, suc, ◌+◌, List, [], ◌∷◌, ◌++◌, map, refl, ◌∙◌, ap, arith, append-nil}
 use Rattle.sx_core.specs.Pattern.{PlainPattern, variable, patterns}
 use Rattle.sx_core.specs.References.{variables, all_variables}
 use Rattle.sx_core_laws.specs.Parts.{literals, all_literals}
-use Rattle.sx_core_laws.specs.Templates.{Depths, depths, all_depths}
+use Rattle.sx_core_laws.specs.Templates.{depths, all_depths}
 use Rattle.sx_pattern.specs.declared.compile.PatternVariable.{PatternVariable}
 use Rattle.sx_quasi_code.specs.Inserted.{listed, pattern_under, insert_pattern, inserts_pattern}
 use Rattle.sx_expand_laws.proofs.Compiled.{variable_label, variable_depth}

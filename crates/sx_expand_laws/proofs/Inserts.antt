@@ -2,7 +2,6 @@
 -- for the ellipsis.
 use Rattle.std.proofs.Common.{◌≡◌, ℕ, ◌+◌, ◌<◌, Bool, true, false, List, [], ◌∷◌, map, Ok, Err, refl, sym, ◌∙◌, ap, subst, arith, inl, inr, if◌then◌else◌}
 use Rattle.std.specs.Prelude.{◌⊎◌, is_some}
-use Rattle.sx_base.specs.Act.{after}
 use Rattle.sx_base.specs.Named.{Named}
 use Rattle.sx_base.specs.declared.library.LibName.{LibName}
 use Rattle.sx_base.specs.declared.name.FrameNo.{FrameNo}
@@ -21,7 +20,7 @@ use Rattle.sx_quasi_code.specs.Inserted.{dots, ellipsis, insert_variable, insert
 use Rattle.sx_standing.specs.Binders.{row_put, put_row}
 use Rattle.sx_standing.specs.Patterns.{bind_pattern}
 use Rattle.sx_standing.specs.State.{State, fresh}
-use Rattle.sx_expand_laws.specs.States.{IsOwn, IsOwnOrCore, IsPattern, IsNumbered, Keeps, Grows, Adds, Later, LaterBut}
+use Rattle.sx_expand_laws.specs.States.{IsOwn, IsOwnOrEllipsis, IsPattern, IsNumbered, Keeps, Grows, Adds, Later, LaterBut}
 use Rattle.sx_expand_laws.proofs.Acts.{Gave, gave-after, gave-less, gave-each}
 use Rattle.sx_expand_laws.proofs.BindingKeywords.{BindsPatterns, binds-patterns, pattern-are, pattern-adds-so}
 use Rattle.sx_expand_laws.proofs.Compiled.{variable_label, variable_depth}
@@ -108,9 +107,9 @@ module _ (own : LibName) where
     numbered = λ h. h;
   }
     where
-      by : (g : FrameNo) (r : Row) → Among (rows_at g s.frames) r ⊎ (r ≡ row_for dots ellipsis) → Among (rows_at g s.frames) r ⊎ IsOwnOrCore own r.label
+      by : (g : FrameNo) (r : Row) → Among (rows_at g s.frames) r ⊎ (r ≡ row_for dots ellipsis) → Among (rows_at g s.frames) r ⊎ IsOwnOrEllipsis own r
       by g r (inl a) = inl a
-      by g r (inr e) = inr (inr (ap (λ (x : Row). x.label.0.library) e))
+      by g r (inr e) = inr (inr e)
 
   dots-but : (f : FrameNo) (s : State) → Names own s → LaterBut own f s (with_dots f s)
   dots-but f s n = record { here = refl; next = n; up = omega arith; same = λ g o d. rows_at-other s.frames f g (row_for dots ellipsis) d; grows = dots-grows f s }

@@ -1,8 +1,7 @@
 -- `quasiquote` and `quasisyntax` forms give good core code, given that expansion does inside forms.
-use Rattle.std.proofs.Common.{◌≡◌, ℕ, ◌+◌, ◌≤◌, ◌<◌, List, [], ◌∷◌, ◌++◌, map, None, refl, sym, ◌∙◌, ap, subst, arith}
+use Rattle.std.proofs.Common.{◌≡◌, ℕ, ◌+◌, ◌≤◌, ◌<◌, List, [], ◌∷◌, ◌++◌, map, None, sym, subst, arith}
 use Rattle.sx_base.specs.Act.{after, give}
 use Rattle.sx_base.specs.declared.library.LibName.{LibName}
-use Rattle.sx_base.specs.declared.name.FrameNo.{FrameNo}
 use Rattle.sx_base.specs.declared.name.Label.{Label}
 use Rattle.sx_base.specs.declared.op.Op.{Op}
 use Rattle.sx_base.specs.declared.span.Span.{Span}
@@ -13,7 +12,6 @@ use Rattle.sx_core.specs.Core.{PlainCore, no_clause, primitive, instance}
 use Rattle.sx_core.specs.CoreView.{clause_on}
 use Rattle.sx_core.specs.References.{variables}
 use Rattle.sx_core.specs.Template.{PlainTemplate}
-use Rattle.sx_core.specs.declared.binding.Binding.TheVariants as binding
 use Rattle.sx_core_laws.specs.Templates.{Depths, depths}
 use Rattle.sx_core_laws.specs.WellMade.{IsLeaf}
 use Rattle.sx_core_laws.specs.Words.{Each}
@@ -37,12 +35,12 @@ use Rattle.sx_standing.specs.State.{State, fresh_frame}
 use Rattle.sx_expand.specs.Inside.{Inside}
 use Rattle.sx_expand.specs.Quasi.{part_core, parts_in_order, quasi_made, quasi_form}
 use Rattle.sx_expand_laws.specs.States.{IsPattern, Later}
-use Rattle.sx_expand_laws.proofs.Acts.{Gave, gave-after, gave-less, gave-within, gave-each}
+use Rattle.sx_expand_laws.proofs.Acts.{Gave, gave-after, gave-within, gave-each}
 use Rattle.sx_expand_laws.proofs.Bodies.{starts-with}
 use Rattle.sx_expand_laws.proofs.Compiled.{variable_label, variable_depth}
 use Rattle.sx_expand_laws.proofs.Expand.{GivesGood, Safe, Starts, starts-later, lifted, Gives, gives}
 use Rattle.sx_expand_laws.proofs.Fresh.{FreshLabels, label_name, fresh-wider}
-use Rattle.sx_expand_laws.proofs.Good.{Bindings, Extends, IsPatternIn, PatternFits, InTurn, Good, GoodClauses, good-quoted, good-primitive, good-call, good-instance, good-wider, good-grown, good-clause, good-matching}
+use Rattle.sx_expand_laws.proofs.Good.{Bindings, Extends, IsPatternIn, InTurn, Good, GoodClauses, good-quoted, good-primitive, good-call, good-instance, good-wider, good-grown, good-clause, good-matching}
 use Rattle.sx_expand_laws.proofs.Inserts.{Labelled, labelled, labelled-patterned, BindsInserts, inserts-bound, inserts-add, inserts-are, inserts-made}
 use Rattle.sx_expand_laws.proofs.InsertPatterns.{inserts-variables, inserts-literals, inserts-depths}
 use Rattle.sx_expand_laws.proofs.Later.{later-self, later-then}

@@ -1,5 +1,5 @@
 -- `quasiquote` and `quasisyntax` forms spare the names of keywords, given that what is done inside forms does.
-use Rattle.std.proofs.Common.{◌≡◌, ℕ, false, List, [], ◌∷◌, ◌++◌, map, None, refl, sym, ◌∙◌, ap, subst}
+use Rattle.std.proofs.Common.{◌≡◌, ℕ, false, List, [], ◌∷◌, ◌++◌, map, refl, sym, ◌∙◌, ap, subst}
 use Rattle.sx_base.specs.Act.{after, give}
 use Rattle.sx_base.specs.declared.library.LibName.{LibName}
 use Rattle.sx_base.specs.declared.name.FrameNo.{FrameNo}
@@ -11,7 +11,7 @@ use Rattle.sx_tree.specs.Leaves.{strip}
 use Rattle.sx_tree.specs.Tree.{Tree}
 use Rattle.sx_core.specs.Core.{PlainCore, quoted, primitive, call, cores, instance, matching}
 use Rattle.sx_core.specs.CoreView.{clauses}
-use Rattle.sx_core.specs.References.{variables, all_binders, clause_binders}
+use Rattle.sx_core.specs.References.{all_binders, clause_binders}
 use Rattle.sx_core.specs.Template.{PlainTemplate}
 use Rattle.sx_core.specs.declared.code.Clause.{Clause}
 use Rattle.sx_core_laws.specs.Parts.{all_parts, clause_parts}
@@ -43,7 +43,7 @@ use Rattle.sx_expand_laws.proofs.Naming.{as_frame, counted}
 use Rattle.sx_expand_laws.proofs.Plans.{IsTemplate, template-is}
 use Rattle.sx_expand_laws.proofs.QuasiLater.{form-same}
 use Rattle.sx_expand_laws.proofs.Spares.{Spares, Gives, goes, goes-each, goes-within, C, core-lift}
-use Rattle.sx_expand_laws.proofs.Spent.{Known, Tracks, AreUnspent, Away, AwayClause, away-append, away-round, all-away, clauses-away, Begins, Onward, bound-unspent}
+use Rattle.sx_expand_laws.proofs.Spent.{Known, Tracks, AreUnspent, AwayClause, away-append, away-round, all-away, clauses-away, Begins, bound-unspent}
 use Rattle.sx_expand_laws.proofs.SpentBinding.{Same, bind-pattern-same, onward-self, onward-then, onward-but, onward-counted}
 use Rattle.sx_expand_laws.proofs.SpentOnStage.{Tells}
 
