@@ -4,6 +4,7 @@ use Rattle.std.specs.Prelude.{◌==◌, ◌&&◌, not, nat_lt, ◌↔◌}
 use Rattle.std.proofs.lemmas.Bool.{eqb-true}
 use Rattle.std.proofs.lemmas.Bool.Decides.{nat_tests}
 use Rattle.bstr.specs.Utf8.{Decoded}
+use Rattle.sx_base.specs.declared.fault.FaultKind.{FaultKind}
 use Rattle.sx_lexer.specs.Grammar.{BarePart, Bare, ends_bare, runs_first}
 use Rattle.sx_lexer.specs.Tokens.{bare_step, bare_end, escape_end, char_end}
 use Rattle.sx_lexer.proofs.BetweenLemmas.{some_bytes, first_some, by_first, not_equal, equal}
@@ -32,8 +33,8 @@ escape_some bytes l e =
     let n = digits_size 16 (drop 2 bytes) in
     escape_test n bytes l (slice_index bytes 1 == 0x78 && nat_lt 0 n && slice_index bytes (2 + n) == 0x3B) e
 
-module _ (file : List ℕ) (from : ℕ) where
-  escape_sound : (bytes : List ℕ) (at to : ℕ) (o : Option Letter) → slice_index bytes 0 ≡ 0x5C → escape bytes ≡ o → escape_end file from at o ≡ Ok to → StepsOver ends_bare BarePart bytes at to
+module _ (file : List ℕ) (bad : FaultKind) (from : ℕ) where
+  escape_sound : (bytes : List ℕ) (at to : ℕ) (o : Option Letter) → slice_index bytes 0 ≡ 0x5C → escape bytes ≡ o → escape_end file bad from at o ≡ Ok to → StepsOver ends_bare BarePart bytes at to
   escape_sound bytes at to None first e given = absurd (cc)
   escape_sound bytes at to (Some l) first e given = inr (l.size, (cc), BarePart.escaped bytes l first e)
 
@@ -51,18 +52,18 @@ module _ (file : List ℕ) (from : ℕ) where
   plain_sound bytes [] at to first e given = inl ((cc), rw (first, e) refl)
   plain_sound bytes (p ∷ ps) at to first e given = char_sound bytes p.char p.size ps at to first e given
 
-  step_test : (bytes : List ℕ) (at to : ℕ) (t : Bool) → slice_index bytes 0 == 0x5C ≡ t → cond t (escape_end file from at (escape bytes)) (Ok (char_end at (characters bytes))) ≡ Ok to
+  step_test : (bytes : List ℕ) (at to : ℕ) (t : Bool) → slice_index bytes 0 == 0x5C ≡ t → cond t (escape_end file bad from at (escape bytes)) (Ok (char_end at (characters bytes))) ≡ Ok to
       → StepsOver ends_bare BarePart bytes at to
   step_test bytes at to true first given = escape_sound bytes at to (escape bytes) (eqb-true (slice_index bytes 0) 0x5C first) refl given
   step_test bytes at to false first given =
       let same : char_end at (characters bytes) ≡ to = cc in
       plain_sound bytes (characters bytes) at to first refl same
 
-  step_sound : (bytes : List ℕ) (at to : ℕ) → bare_step file from bytes at ≡ Ok to → StepsOver ends_bare BarePart bytes at to
+  step_sound : (bytes : List ℕ) (at to : ℕ) → bare_step file bad from bytes at ≡ Ok to → StepsOver ends_bare BarePart bytes at to
   unfolding bare_step
   step_sound bytes at to given = step_test bytes at to (slice_index bytes 0 == 0x5C) refl given
 
-  step_complete : (bytes : List ℕ) (at n : ℕ) → BarePart bytes n → bare_step file from bytes at ≡ Ok (at + n)
+  step_complete : (bytes : List ℕ) (at n : ℕ) → BarePart bytes n → bare_step file bad from bytes at ≡ Ok (at + n)
   unfolding bare_step
   step_complete _ at _ (BarePart.char bytes c size rest first e d) = rw (not_equal (slice_index bytes 0) 0x5C first, e, d) refl
   step_complete _ at _ (BarePart.escaped bytes l first e) = rw (equal (slice_index bytes 0) 0x5C first, e) refl
@@ -76,7 +77,7 @@ module _ (file : List ℕ) (from : ℕ) where
   char_stays [] at h = refl
   char_stays (p ∷ ps) at h = rw h refl
 
-  step_stays : (bytes : List ℕ) (at : ℕ) → ends_bare bytes ≡ true → bare_step file from bytes at ≡ Ok at
+  step_stays : (bytes : List ℕ) (at : ℕ) → ends_bare bytes ≡ true → bare_step file bad from bytes at ≡ Ok at
   unfolding bare_step
   step_stays bytes at h =
       let f = two (slice_index bytes 0 == 0x5C) (runs_first (characters bytes)) h in
@@ -87,5 +88,5 @@ module _ (file : List ℕ) (from : ℕ) where
   part_some _ _ (BarePart.escaped bytes l first e) = (escape_some bytes l e, by_first bytes 0x5C (omega arith) first)
 
   -- a bare token ends exactly behind its characters and escapes
-  pub bare_is : (bytes : List ℕ) (at to : ℕ) → (bare_end file from bytes at ≡ Ok to) ↔ ((n : ℕ) × (to ≡ at + n) × Bare bytes n)
-  bare_is bytes at to = row_is (bare_step file from) ends_bare BarePart step_sound step_complete step_stays part_some bytes at to
+  pub bare_is : (bytes : List ℕ) (at to : ℕ) → (bare_end file bad from bytes at ≡ Ok to) ↔ ((n : ℕ) × (to ≡ at + n) × Bare bytes n)
+  bare_is bytes at to = row_is (bare_step file bad from) ends_bare BarePart step_sound step_complete step_stays part_some bytes at to

@@ -145,11 +145,11 @@ module _ (file : List ℕ) (bytes : List ℕ) (from : ℕ) where
       marked_number n to (integer base text) first mark run same some (right (nat_lt 0 base) (is_integer base text) e) refl
   marked_test n to false first mark run same e = fails bytes from _
 
-  marked_to : (to : ℕ) (r : Result ℕ Fault) → FirstIs 0x23 → is_number_mark (slice_index bytes 1) ≡ true → bare_end file from (drop 2 bytes) (from + 2) ≡ r
+  marked_to : (to : ℕ) (r : Result ℕ Fault) → FirstIs 0x23 → is_number_mark (slice_index bytes 1) ≡ true → bare_end file kind.BadNumber from (drop 2 bytes) (from + 2) ≡ r
       → Sound bytes from (r >>= λ to. integer_in file (radix (slice_index bytes 1)) (drop 2 (take (to - from) bytes)) from to >>= λ t. Ok (lexeme t from to))
   marked_to to (Err f) first mark e = fails bytes from f
   marked_to _ (Ok to) first mark e =
-      let g = (bare_is file from (drop 2 bytes) (from + 2) to).0 e in
+      let g = (bare_is file kind.BadNumber from (drop 2 bytes) (from + 2) to).0 e in
       let same : to ≡ from + (2 + g.0) = omega (arith, g.1) in
       let size : to - from ≡ 2 + g.0 = omega (arith, g.1) in
       rw size (marked_test g.0 to (nat_lt 0 (radix (slice_index bytes 1)) && is_integer (radix (slice_index bytes 1)) (drop 2 (take (2 + g.0) bytes))) first mark g.2 same refl)
@@ -176,7 +176,7 @@ module _ (file : List ℕ) (bytes : List ℕ) (from : ℕ) where
       branch P (slice_index bytes 1 == 0x60) (λ e. hash_leaf 0x60 (token.Abbreviation abbreviation.Quasisyntax) first e refl) (λ _.
       branch P (slice_index bytes 1 == 0x2C) (λ e. unsyntax_test (slice_index bytes 2 == 0x40) first (eqb-true (slice_index bytes 1) 0x2C e) refl) (λ _.
       branch P (slice_index bytes 1 == 0x5C) (λ e. character_gives first (eqb-true (slice_index bytes 1) 0x5C e)) (λ _.
-      branch P (is_number_mark (slice_index bytes 1)) (λ e. marked_to 0 (bare_end file from (drop 2 bytes) (from + 2)) first e refl) (λ _. word_sound first)))))))
+      branch P (is_number_mark (slice_index bytes 1)) (λ e. marked_to 0 (bare_end file kind.BadNumber from (drop 2 bytes) (from + 2)) first e refl) (λ _. word_sound first)))))))
 
   bare_token : (n to : ℕ) (r : Result Token Fault) → is_special (slice_index bytes 0) ≡ false → Bare bytes n → 0 < n → to ≡ from + n → bare file (take n bytes) from to ≡ r
       → Sound bytes from (r >>= λ t. Ok (lexeme t from to))
@@ -190,10 +190,10 @@ module _ (file : List ℕ) (bytes : List ℕ) (from : ℕ) where
       let some : 0 < n = grind (arith, nat_tests, differs to from e) in
       bare_token n to (bare file (take n bytes) from to) special run some same refl
 
-  bare_result : (to : ℕ) (r : Result ℕ Fault) → is_special (slice_index bytes 0) ≡ false → bare_end file from bytes from ≡ r → Sound bytes from (r >>= λ to. bare_to file bytes from to)
+  bare_result : (to : ℕ) (r : Result ℕ Fault) → is_special (slice_index bytes 0) ≡ false → bare_end file kind.BadEscape from bytes from ≡ r → Sound bytes from (r >>= λ to. bare_to file bytes from to)
   bare_result to (Err f) special e = fails bytes from f
   bare_result _ (Ok to) special e =
-      let g = (bare_is file from bytes from to).0 e in
+      let g = (bare_is file kind.BadEscape from bytes from to).0 e in
       let size : to - from ≡ g.0 = omega (arith, g.1) in
       rw size (bare_test g.0 to (to == from) special g.2 g.1 refl)
 
@@ -213,7 +213,7 @@ module _ (file : List ℕ) (bytes : List ℕ) (from : ℕ) where
       branch P (b == 0x2C) (λ e. unquote_test (slice_index bytes 1 == 0x40) (eqb-true b 0x2C e) refl) (λ e7.
       branch P (b == 0x22) (λ e. string_sound (eqb-true b 0x22 e)) (λ e8.
       branch P (b == 0x23) (λ e. hash_sound (eqb-true b 0x23 e)) (λ e9.
-      bare_result 0 (bare_end file from bytes from) (rw (e1, e2, e3, e4, e5, e6, e7, e8, e9) refl) refl)))))))))
+      bare_result 0 (bare_end file kind.BadEscape from bytes from) (rw (e1, e2, e3, e4, e5, e6, e7, e8, e9) refl) refl)))))))))
 
 some_same : (a b : Token) → ◌≡◌ {A = Option Token} (Some a) (Some b) → a ≡ b
 some_same a b e = cc
@@ -350,11 +350,11 @@ module _ (file : List ℕ) (bytes : List ℕ) (from : ℕ) where
       let base = radix (slice_index bytes 1) in
       let text = drop 2 (take (2 + n) bytes) in
       let to = from + 2 + n in
-      let end = (bare_is file from (drop 2 bytes) (from + 2) to).1 (n, refl, run) in
+      let end = (bare_is file kind.BadNumber from (drop 2 bytes) (from + 2) to).1 (n, refl, run) in
       let size : to - from ≡ 2 + n = omega arith in
       let positive : nat_lt 0 base ≡ true = grind (arith, nat_tests) in
       mark_first first mark
-      ∙ bind_ok (bare_end file from (drop 2 bytes) (from + 2)) to (λ to. integer_in file base (drop 2 (take (to - from) bytes)) from to >>= λ t. Ok (lexeme t from to)) end
+      ∙ bind_ok (bare_end file kind.BadNumber from (drop 2 bytes) (from + 2)) to (λ to. integer_in file base (drop 2 (take (to - from) bytes)) from to >>= λ t. Ok (lexeme t from to)) end
       ∙ rw (size, delimited_after (nat_lt 0 base) (is_integer base text) positive is, e) refl
 
   bare_first : is_special (slice_index bytes 0) ≡ false → lexeme_at file bytes from ≡ bare_at file bytes from
@@ -377,10 +377,10 @@ module _ (file : List ℕ) (bytes : List ℕ) (from : ℕ) where
   bare_complete : (n : ℕ) (t : Token) → is_special (slice_index bytes 0) ≡ false → Bare bytes n → 0 < n → IsBare (take n bytes) t → lexeme_at file bytes from ≡ Ok (lexeme t from (from + n))
   bare_complete n t special run some is =
       let to = from + n in
-      let end = (bare_is file from bytes from to).1 (n, refl, run) in
+      let end = (bare_is file kind.BadEscape from bytes from to).1 (n, refl, run) in
       let size : to - from ≡ n = omega arith in
       let further : to == from ≡ false = not_equal to from (λ e. omega (arith, e, some)) in
-      bare_first special ∙ bind_ok (bare_end file from bytes from) to (λ to. bare_to file bytes from to) end
+      bare_first special ∙ bind_ok (bare_end file kind.BadEscape from bytes from) to (λ to. bare_to file bytes from to) end
       ∙ rw (further, size, text_complete file (take n bytes) from to t is) refl
 
 token_complete : (file bytes : List ℕ) (from n : ℕ) (t : Token) → IsToken bytes n t → lexeme_at file bytes from ≡ Ok (lexeme t from (from + n))
@@ -414,7 +414,7 @@ no_sign (b ∷ bs) t h = omega arith
 
 row_some : (n : ℕ) (bytes : List ℕ) → Bare bytes n → 0 < n → 0 < length bytes
 row_some _ _ (Row.none bytes ends) some = absurd (omega arith)
-row_some _ _ (Row.more bytes size n part rest) some = (part_some [] 0 bytes size part).1
+row_some _ _ (Row.more bytes size n part rest) some = (part_some [] kind.BadEscape 0 bytes size part).1
 
 token_some : (bytes : List ℕ) (n : ℕ) (t : Token) → IsToken bytes n t → 0 < length bytes
 token_some _ _ _ (IsToken.sign bytes t h) = no_sign bytes t h

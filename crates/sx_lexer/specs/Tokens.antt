@@ -5,6 +5,7 @@ use Rattle.bstr.specs.Utf8.{Decoded}
 use Rattle.sx_base.specs.Gives.{◌>>=◌}
 use Rattle.sx_base.specs.declared.atom.Atom.TheVariants as atom
 use Rattle.sx_base.specs.declared.fault.Fault.{Fault}
+use Rattle.sx_base.specs.declared.fault.FaultKind.{FaultKind}
 use Rattle.sx_base.specs.declared.fault.FaultKind.TheVariants as kind
 use Rattle.sx_lexer.specs.Characters.{character_at}
 use Rattle.sx_spelling.specs.Escapes.{escape}
@@ -31,17 +32,18 @@ abbrev pub char_end : ℕ → List Decoded → ℕ
 char_end at [] = at
 char_end at (p ∷ ps) = if runs_on p.char then at + p.size else at
 
-abbrev pub escape_end : List ℕ → ℕ → ℕ → Option Letter → Result ℕ Fault
-escape_end file from at (Some l) = Ok (at + l.size)
-escape_end file from at None = refused file kind.BadEscape from at
+-- bad is the fault of a backslash that begins no escape
+abbrev pub escape_end : List ℕ → FaultKind → ℕ → ℕ → Option Letter → Result ℕ Fault
+escape_end file bad from at (Some l) = Ok (at + l.size)
+escape_end file bad from at None = refused file bad from at
 
 -- a bare token goes on with an escape, or with a character that is no delimiter
-unfoldable pub bare_step : List ℕ → ℕ → List ℕ → ℕ → Result ℕ Fault
-bare_step file from bytes at = if slice_index bytes 0 == 0x5C then escape_end file from at (escape bytes) else Ok (char_end at (characters bytes))
+unfoldable pub bare_step : List ℕ → FaultKind → ℕ → List ℕ → ℕ → Result ℕ Fault
+bare_step file bad from bytes at = if slice_index bytes 0 == 0x5C then escape_end file bad from at (escape bytes) else Ok (char_end at (characters bytes))
 
 -- the offset behind the bare token that begins at from, where the bytes at this offset are what is left
-abbrev pub bare_end : List ℕ → ℕ → List ℕ → ℕ → Result ℕ Fault
-bare_end file from bytes at = repeat (bare_step file from) bytes at
+abbrev pub bare_end : List ℕ → FaultKind → ℕ → List ℕ → ℕ → Result ℕ Fault
+bare_end file bad from bytes at = repeat (bare_step file bad from) bytes at
 
 abbrev pub number : List ℕ → ℕ → ℕ → Option ℤ → Result Token Fault
 number file from to (Some z) = Ok (token.Atom (atom.Int z))
@@ -80,7 +82,7 @@ bare_to file bytes from to = if to == from then refused file kind.BadUtf8 from (
     else bare file (take (to - from) bytes) from to >>= λ t. Ok (lexeme t from to)
 
 abbrev pub bare_at : List ℕ → List ℕ → ℕ → Result Lexeme Fault
-bare_at file bytes from = bare_end file from bytes from >>= λ to. bare_to file bytes from to
+bare_at file bytes from = bare_end file kind.BadEscape from bytes from >>= λ to. bare_to file bytes from to
 
 -- x b o d e i in either case
 abbrev pub is_number_mark : ℕ → Bool
@@ -96,9 +98,9 @@ radix b = if b == 0x78 || b == 0x58 then 16 else if b == 0x62 || b == 0x42 then 
 abbrev pub integer_in : List ℕ → ℕ → List ℕ → ℕ → ℕ → Result Token Fault
 integer_in file base text from to = if nat_lt 0 base && is_integer base text then number file from to (integer base text) else refused file kind.BadNumber from to
 
--- a number behind its mark, which is the second of the bytes
+-- a number behind its mark, which is the second of the bytes; no number has a backslash, so a bad escape is a bad number
 abbrev pub marked_at : List ℕ → List ℕ → ℕ → Result Lexeme Fault
-marked_at file bytes from = bare_end file from (drop 2 bytes) (from + 2)
+marked_at file bytes from = bare_end file kind.BadNumber from (drop 2 bytes) (from + 2)
     >>= λ to. integer_in file (radix (slice_index bytes 1)) (drop 2 (take (to - from) bytes)) from to
     >>= λ t. Ok (lexeme t from to)
 

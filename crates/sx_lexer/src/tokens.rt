@@ -190,14 +190,21 @@ fn radix(b: u8) -> u8
     }
 }
 
-/// A number behind its mark, which is the second of the bytes.
+/// A number behind its mark, which is the second of the bytes. No number has a backslash, so a bad escape is a bad number.
 fn marked_at(alloc: Global, file: &Symbol, bytes: &[u8], from: u32) -> Result<Lexeme, Stop>
     requires some { 2 ≤ length bytes.now }
     requires fits { from + length bytes.now < 2 ^ 32 }
     ensures gives { Gives (λ x. x) result (marked_at file.now bytes.now from) }
     ensures forward { IfOk result (λ l. (l.from ≡ from) × (from < l.to) × (l.to ≤ from + length bytes.now)) }
 {
-    let to = bare_end(alloc, file, from, behind(bytes, 2), from + 2)?;
+    let to = bare_end(
+        alloc,
+        file,
+        FaultKind::BadNumber,
+        from,
+        behind(bytes, 2),
+        from + 2,
+    )?;
     let (text, _) = bytes.split_at((to - from) as usize);
     let token = integer_in(
         alloc,
@@ -237,7 +244,7 @@ fn bare_at(alloc: Global, file: &Symbol, bytes: &[u8], from: u32) -> Result<Lexe
     ensures gives { Gives (λ x. x) result (bare_at file.now bytes.now from) }
     ensures forward { IfOk result (λ l. (l.from ≡ from) × (from < l.to) × (l.to ≤ from + length bytes.now)) }
 {
-    let to = bare_end(alloc, file, from, bytes, from)?;
+    let to = bare_end(alloc, file, FaultKind::BadEscape, from, bytes, from)?;
     if to == from {
         return refuse(alloc, file, FaultKind::BadUtf8, from, from + 1);
     }
@@ -246,16 +253,24 @@ fn bare_at(alloc: Global, file: &Symbol, bytes: &[u8], from: u32) -> Result<Lexe
     Ok(lexeme(token, from, to))
 }
 
-/// The offset behind the bare token that begins at `from`, where the bytes at `at` are what is left.
-fn bare_end(alloc: Global, file: &Symbol, from: u32, bytes: &[u8], at: u32) -> Result<u32, Stop>
+/// The offset behind the bare token that begins at `from`, where the bytes at `at` are what is left. A backslash that
+/// begins no escape is the fault `bad`.
+fn bare_end(
+    alloc: Global,
+    file: &Symbol,
+    bad: FaultKind,
+    from: u32,
+    bytes: &[u8],
+    at: u32,
+) -> Result<u32, Stop>
     requires { at + length bytes.now < 2 ^ 32 }
-    ensures gives { Gives (λ x. x) result (bare_end file.now from bytes.now at) }
+    ensures gives { Gives (λ x. x) result (bare_end file.now bad from bytes.now at) }
     ensures within { IfOk result (λ to. (at ≤ to) × (to ≤ at + length bytes.now)) }
 {
     let mut rest = bytes;
     let mut here = at;
     loop {
-        let to = bare_step(alloc, file, from, rest, here)?;
+        let to = bare_step(alloc, file, bad, from, rest, here)?;
         if to == here {
             return Ok(here);
         }
@@ -267,9 +282,16 @@ fn bare_end(alloc: Global, file: &Symbol, from: u32, bytes: &[u8], at: u32) -> R
 
 /// The offset behind an escape, or behind a character that is no delimiter.
 #[tactic(auto, unfolding(crate::specs::Tokens::bare_step))]
-fn bare_step(alloc: Global, file: &Symbol, from: u32, bytes: &[u8], at: u32) -> Result<u32, Stop>
+fn bare_step(
+    alloc: Global,
+    file: &Symbol,
+    bad: FaultKind,
+    from: u32,
+    bytes: &[u8],
+    at: u32,
+) -> Result<u32, Stop>
     requires { at + length bytes.now < 2 ^ 32 }
-    ensures gives { Gives (λ x. x) result (bare_step file.now from bytes.now at) }
+    ensures gives { Gives (λ x. x) result (bare_step file.now bad from bytes.now at) }
     ensures within { IfOk result (λ to. (at ≤ to) × (to ≤ at + length bytes.now)) }
 {
     if byte_at(bytes, 0) != b'\\' {
@@ -277,7 +299,7 @@ fn bare_step(alloc: Global, file: &Symbol, from: u32, bytes: &[u8], at: u32) -> 
     }
     match escape(bytes) {
         Some(letter) => Ok(at + letter.size as u32),
-        None => refuse(alloc, file, FaultKind::BadEscape, from, at),
+        None => refuse(alloc, file, bad, from, at),
     }
 }
 

@@ -103,6 +103,11 @@ module _ (files : Paths) (roots : List (List ℕ)) where
   unfolding meaning
   turn_builtin o os s h = let x = seen o s known.Builtin h in on_known o os s x.0 (Ok known.Builtin) x.1 x.3
 
+  pub turn_joined : (o : Open) (os : List Open) (s : Loading) → known_next o s ≡ Ok (Some known.Joined)
+      → meaning files roots o os s ≡ meaning files roots (next_of o o.needs (o.next + 1)) os s
+  unfolding meaning
+  turn_joined o os s h = let x = seen o s known.Joined h in on_known o os s x.0 (Ok known.Joined) x.1 x.3
+
   pub turn_loaded : (o : Open) (os : List Open) (s : Loading) (needs : List Bool) → known_next o s ≡ Ok (Some (known.Loaded needs))
       → meaning files roots o os s ≡ meaning files roots (next_of o needs (o.next + 1)) os s
   unfolding meaning

@@ -1,5 +1,5 @@
 -- Loading: which files a program needs, in which order (R6RS 7.1 and 7.2).
-use Rattle.std.specs.Prelude.{ℕ, zero, suc, ◌-◌, Bool, true, false, List, [], ◌∷◌, ◌++◌, length, min, nat_le, Option, Some, None, is_some, Result, Ok, Err, if◌then◌else◌}
+use Rattle.std.specs.Prelude.{ℕ, zero, suc, ◌-◌, Bool, true, false, List, [], ◌∷◌, ◌++◌, length, min, nat_le, Option, Some, None, is_some, slice_get, Result, Ok, Err, if◌then◌else◌}
 use Rattle.sx_base.specs.Datum.{PlainDatum}
 use Rattle.sx_base.specs.Gives.{◌>>=◌}
 use Rattle.sx_base.specs.Same.{same_library}
@@ -18,7 +18,7 @@ use Rattle.sx_import.specs.declared.set.ImportSet.{ImportSet}
 use Rattle.sx_outside.specs.Contents.{Paths, at_path, Reading, bytes, longer, absent, read_of}
 use Rattle.sx_reader.specs.Read.{data_of}
 use Rattle.sx_report.specs.Name.{name_text}
-use Rattle.sx_load.specs.Found.{nothing_loaded, with_needs, no_needs, most_libraries, absent_at, with_source, with_sources, with_begun, with_done, found_of}
+use Rattle.sx_load.specs.Found.{nothing_loaded, is_marked, with_needs, no_needs, most_libraries, absent_at, with_source, with_sources, with_begun, with_done, found_of}
 use Rattle.sx_file_names.specs.File.{file_of}
 use Rattle.sx_load.specs.declared.found.Source.{Source}
 use Rattle.sx_load.specs.declared.found.Opened.{Opened}
@@ -121,9 +121,13 @@ abbrev pub by_begun : ImportSet → Bool → Result Known Fault
 by_begun set true = Err (about kind.ImportCycle set)
 by_begun set false = Ok known.New
 
+-- what a library needs comes to what is needed once, with the first reference to it
+abbrev pub joined : List Bool → Found → Known
+joined needs found = if is_marked (slice_get needs found.place) then known.Joined else known.Loaded (with_needs needs found)
+
 abbrev pub by_done : Loading → List Bool → ImportSet → Option Found → Result Known Fault
 by_done s needs set None = by_begun set (is_some (value_of (file_of set.library) s.begun))
-by_done s needs set (Some found) = fitting found.opened.form.version set (known.Loaded (with_needs needs found))
+by_done s needs set (Some found) = fitting found.opened.form.version set (joined needs found)
 
 -- what is known of the library that a reference names: it is given with the implementation, it is loaded, it is being
 -- loaded, which is a cycle, or it is new
@@ -152,6 +156,7 @@ module _ (files : Paths) (roots : List (List ℕ)) where
   abbrev pub refer_to : Option Loader → List Bool → Loading → ImportSet → Result Known Fault → Loads (List Bool × Loading)
   refer_to inside needs s set (Err f) = Err (s, f)
   refer_to inside needs s set (Ok known.Builtin) = Ok (needs, s)
+  refer_to inside needs s set (Ok known.Joined) = Ok (needs, s)
   refer_to inside needs s set (Ok (known.Loaded more)) = Ok (more, s)
   refer_to inside needs s set (Ok known.New) = load_new inside needs s set
 

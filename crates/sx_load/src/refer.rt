@@ -5,7 +5,7 @@ ghost use Rattle.sx_base.specs.Gives.{Gives, StopsWith};
 ghost use Rattle.sx_builtin.specs.Exports.{exports};
 ghost use Rattle.sx_report.specs.Name.{name_text};
 ghost use Rattle.sx_load.specs.Found.{is_marked, is_needed_by, marks_with, with_needs};
-ghost use Rattle.sx_load.specs.Load.{about, builtin_version, fitting, by_begun, by_done, known_of};
+ghost use Rattle.sx_load.specs.Load.{about, builtin_version, fitting, joined, by_begun, by_done, known_of};
 
 use crate::found::{Found, Loading};
 use std::alloc::Global;
@@ -28,6 +28,8 @@ pub const VERSION: [u64; 1] = [6];
 pub enum Known {
     /// It is given with the implementation.
     Builtin,
+    /// It is loaded, and who refers to it needs it already.
+    Joined,
     /// It is loaded. These are needed by who refers to it.
     Loaded(Items<bool>),
     /// It isn't begun.
@@ -119,9 +121,12 @@ pub fn with_needs(alloc: Global, needs: &[bool], found: &Found) -> Result<Items<
 
 // A library that is loaded, whose version must fit.
 fn loaded(alloc: Global, needs: &[bool], set: &ImportSet, found: &Found) -> Result<Known, Stop>
-    ensures { Gives (λ k. k) result (fitting found.now.opened.form.version set.now (Known.Loaded (with_needs needs.now found.now))) }
+    ensures { Gives (λ k. k) result (fitting found.now.opened.form.version set.now (joined needs.now found.now)) }
 {
     check_version(alloc, found.opened.form.version.as_slice(), set)?;
+    if is_marked(needs, found.place) {
+        return Ok(Known::Joined);
+    }
     Ok(Known::Loaded(with_needs(alloc, needs, found)?))
 }
 

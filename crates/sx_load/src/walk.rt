@@ -197,7 +197,7 @@ fn enter<F: Files>(
     }
 }
 
-// The next import of a file is given with the implementation.
+// The next import of a file needs nothing more.
 fn passed(at: Open) -> Result<Turn, Halt>
     ensures given { IfOk result (λ t. t ≡ Turn.On (next_of at at.needs (at.next + 1))) }
     ensures err { OnErr result (result ≡ Err Halt.Memory) }
@@ -249,6 +249,7 @@ fn step<F: Files>(
         Ok(None) => close(alloc, at, stack, loading),
         Ok(Some(Known::New)) => enter(alloc, files, roots, at, stack, loading),
         Ok(Some(Known::Builtin)) => passed(at),
+        Ok(Some(Known::Joined)) => passed(at),
         Ok(Some(Known::Loaded(needs))) => passed_with(at, needs),
     }
 }

@@ -1,6 +1,6 @@
 -- What is known of the library of a reference.
 use Rattle.std.proofs.Common.{◌≡◌, ℕ, Bool, true, false, List, Result, Ok, Err, Option, Some, None, refl, ap}
-use Rattle.std.specs.Prelude.{is_some, if◌then◌else◌}
+use Rattle.std.specs.Prelude.{is_some, slice_get, if◌then◌else◌}
 use Rattle.sx_base.specs.declared.fault.Fault.{Fault}
 use Rattle.sx_base.specs.declared.fault.FaultKind.TheVariants as kind
 use Rattle.sx_builtin.specs.Exports.{exports}
@@ -8,8 +8,8 @@ use Rattle.sx_file_names.specs.File.{file_of}
 use Rattle.sx_forms.specs.Version.{version_fits}
 use Rattle.sx_import.specs.Table.{value_of}
 use Rattle.sx_import.specs.declared.set.ImportSet.{ImportSet}
-use Rattle.sx_load.specs.Found.{with_needs}
-use Rattle.sx_load.specs.Load.{about, builtin_version, fitting, by_begun, by_done, known_of}
+use Rattle.sx_load.specs.Found.{is_marked, with_needs}
+use Rattle.sx_load.specs.Load.{about, builtin_version, fitting, joined, by_begun, by_done, known_of}
 use Rattle.sx_load.specs.declared.found.Found.{Found}
 use Rattle.sx_load.specs.declared.found.Loading.{Loading}
 use Rattle.sx_load.specs.declared.refer.Known.{Known}
@@ -27,6 +27,14 @@ pub record Loaded (s : Loading) (needs : List Bool) (set : ImportSet) (more : Li
   pub fits : version_fits library.opened.form.version set.version ≡ true
   pub marks : with_needs needs library ≡ more
 
+-- it is needed already
+pub record Joined (s : Loading) (needs : List Bool) (set : ImportSet) : Type 0 where
+  pub not_given : is_some (exports set.library) ≡ false
+  pub library : Found
+  pub there : value_of (file_of set.library) s.done ≡ Some library
+  pub fits : version_fits library.opened.form.version set.version ≡ true
+  pub marked : is_marked (slice_get needs library.place) ≡ true
+
 pub record New (s : Loading) (set : ImportSet) : Type 0 where
   pub not_given : is_some (exports set.library) ≡ false
   pub not_done : IsNotIn s.done (file_of set.library)
@@ -34,6 +42,7 @@ pub record New (s : Loading) (set : ImportSet) : Type 0 where
 
 abbrev pub Is : Loading → List Bool → ImportSet → Known → Type 0
 Is s needs set known.Builtin = Given set
+Is s needs set known.Joined = Joined s needs set
 Is s needs set (known.Loaded more) = Loaded s needs set more
 Is s needs set known.New = New s set
 
@@ -47,22 +56,33 @@ fitted {A} version set x y h = by (version_fits version set.version) refl h
 module _ (s : Loading) (needs : List Bool) (set : ImportSet) where
   given : (k : Known) → is_some (exports set.library) ≡ true → fitting builtin_version set known.Builtin ≡ Ok k → Is s needs set k
   given known.Builtin e h = record { given = e; fits = (fitted builtin_version set known.Builtin known.Builtin h).0 }
+  given known.Joined e h = let x = fitted builtin_version set known.Builtin known.Joined h in absurd (let y = x.1 in cc)
   given (known.Loaded more) e h = let x = fitted builtin_version set known.Builtin (known.Loaded more) h in absurd (let y = x.1 in cc)
   given known.New e h = let x = fitted builtin_version set known.Builtin known.New h in absurd (let y = x.1 in cc)
 
+  module _ (library : Found) (e : is_some (exports set.library) ≡ false) (there : value_of (file_of set.library) s.done ≡ Some library)
+      (fits : version_fits library.opened.form.version set.version ≡ true) where
+    joins : (b : Bool) (k : Known) → is_marked (slice_get needs library.place) ≡ b → (if b then known.Joined else known.Loaded (with_needs needs library)) ≡ k → Is s needs set k
+    joins true known.Joined m h = record { not_given = e; library = library; there = there; fits = fits; marked = m }
+    joins true known.Builtin m h = absurd (cc)
+    joins true (known.Loaded more) m h = absurd (cc)
+    joins true known.New m h = absurd (cc)
+    joins false known.Joined m h = absurd (cc)
+    joins false known.Builtin m h = absurd (cc)
+    joins false (known.Loaded more) m h = record { not_given = e; library = library; there = there; fits = fits; marks = cc }
+    joins false known.New m h = absurd (cc)
+
   loaded : (k : Known) (library : Found) → is_some (exports set.library) ≡ false → value_of (file_of set.library) s.done ≡ Some library
-      → fitting library.opened.form.version set (known.Loaded (with_needs needs library)) ≡ Ok k → Is s needs set k
-  loaded known.Builtin library e there h = let x = fitted library.opened.form.version set (known.Loaded (with_needs needs library)) known.Builtin h in absurd (let y = x.1 in cc)
-  loaded (known.Loaded more) library e there h =
-      let x = fitted library.opened.form.version set (known.Loaded (with_needs needs library)) (known.Loaded more) h in
-      let y = x.1 in
-      record { not_given = e; library = library; there = there; fits = x.0; marks = cc }
-  loaded known.New library e there h = let x = fitted library.opened.form.version set (known.Loaded (with_needs needs library)) known.New h in absurd (let y = x.1 in cc)
+      → fitting library.opened.form.version set (joined needs library) ≡ Ok k → Is s needs set k
+  loaded k library e there h =
+      let x = fitted library.opened.form.version set (joined needs library) k h in
+      joins library e there x.0 (is_marked (slice_get needs library.place)) k refl x.1
 
   fresh : (k : Known) (b : Bool) → is_some (exports set.library) ≡ false → value_of (file_of set.library) s.done ≡ None → is_some (value_of (file_of set.library) s.begun) ≡ b
       → by_begun set b ≡ Ok k → Is s needs set k
   fresh k true e there begun h = absurd (cc)
   fresh known.Builtin false e there begun h = absurd (cc)
+  fresh known.Joined false e there begun h = absurd (cc)
   fresh (known.Loaded more) false e there begun h = absurd (cc)
   fresh known.New false e there begun h = record { not_given = e; not_done = ap is_some there; not_begun = begun }
 

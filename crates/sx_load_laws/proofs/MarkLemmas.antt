@@ -55,17 +55,18 @@ needs_marked found p h = by (p == found.place)
     by true = refl
     by false = ap is_marked h
 
+-- a mark that is set
+pub mark_is : (o : Option Bool) → is_marked o ≡ true → o ≡ Some true
+mark_is None h = cc
+mark_is (Some m) h = ap Some h
+
 -- and nothing else
 needs_cases : (found : Found) (p : ℕ) → is_needed_by found p ≡ true → (p ≡ found.place) ⊎ Needs found p
 needs_cases found p h = by (p == found.place) refl h
   where
-    marked : (o : Option Bool) → is_marked o ≡ true → o ≡ Some true
-    marked None h = cc
-    marked (Some m) h = ap Some h
-
     by : (b : Bool) → (p == found.place) ≡ b → (b || is_marked (slice_get found.needs p)) ≡ true → (p ≡ found.place) ⊎ Needs found p
     by true e h = inl ((unsigned_Decides p found.place).0 e)
-    by false e h = inr (marked (slice_get found.needs p) h)
+    by false e h = inr (mark_is (slice_get found.needs p) h)
 
 -- where a mark comes from
 pub mark_cases : (needs : List Bool) (found : Found) (p : ℕ) → slice_get (with_needs needs found) p ≡ Some true → (slice_get needs p ≡ Some true) ⊎ ((p ≡ found.place) ⊎ Needs found p)

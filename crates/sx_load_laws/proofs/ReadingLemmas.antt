@@ -63,6 +63,7 @@ module _ (files : Paths) (roots : List (List ℕ)) where
     where
       by_known : (k : Known) → Is s needs set k → EndsWell files (refer_to files roots inside needs s set (Ok k))
       by_known known.Builtin h = r
+      by_known known.Joined h = r
       by_known (known.Loaded _) h = r
       by_known known.New h = reads_new inside well needs s set r h
 

@@ -19,7 +19,7 @@ use Rattle.sx_load.specs.declared.refer.Known.{Known}
 use Rattle.sx_load.specs.declared.refer.Known.TheVariants as known
 use Rattle.sx_load_laws.specs.Laws.{Libraries, IsAt, Needs, IsImported, NeedsAreClosed, Brings}
 use Rattle.sx_load_laws.proofs.RowLemmas.{at_first, at_end, IsIn, IsNotIn, row_of, put_new, still_in, new_in, still_not_in}
-use Rattle.sx_load_laws.proofs.MarkLemmas.{length-with_needs, mark_stays, mark_comes, needs_itself, needs_marked, mark_cases}
+use Rattle.sx_load_laws.proofs.MarkLemmas.{length-with_needs, mark_stays, mark_comes, needs_itself, needs_marked, mark_is, mark_cases}
 use Rattle.sx_load_laws.proofs.Invariant.{Begun, Stands, Sound, needed_still, sound_with, Grows, grows_not}
 use Rattle.sx_load_laws.proofs.OpenLemmas.{Ends, ends_on, ends_err, Idle, Opens, opens}
 use Rattle.sx_load_laws.proofs.KnownLemmas.{New, Is, known_is}
@@ -240,6 +240,28 @@ module _ (files : Paths) (roots : List (List ℕ)) (p : Opened) (needs : List Bo
         only = λ q m. inl m;
         covers = λ q low high. absurd (omega (arith, low, high));
       }
+      by_known known.Joined h =
+          let r = row_of (file_of set.library) s.done h.library h.there in
+          let here = sound.once.in_order r.0 (file_of set.library) h.library r.1 in
+          record {
+            sound = sound;
+            grows = grows_not s;
+            standing = standing;
+            keeps = λ q m. m;
+            imported = record {
+              given = λ e. absurd (true≢false (sym e ∙ h.not_given));
+              loaded_before = λ e. record {
+                place = r.0;
+                library = h.library;
+                there = r.1;
+                before = slice_get_within s.done r.0 (file_of set.library, h.library) r.1;
+                fits = h.fits;
+                needed = subst (λ q. slice_get needs q ≡ Some true) here (mark_is (slice_get needs h.library.place) h.marked);
+              };
+            };
+            only = λ q m. inl m;
+            covers = λ q low high. absurd (omega (arith, low, high));
+          }
       by_known (known.Loaded _) h =
           let r = row_of (file_of set.library) s.done h.library h.there in
           subst (λ n. Referred p needs s set (n, s)) h.marks (takes p needs s set h.library r.0 sound standing r.1 s (grows_not s) h.not_given h.fits (λ p low high. absurd (omega (arith, low, high))))

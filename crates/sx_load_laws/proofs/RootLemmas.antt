@@ -175,6 +175,7 @@ module _ (files : Paths) (roots : List (List ℕ)) where
     where
       by : (r : Result Known Fault) → Ends AreBelow Below (refer_to files roots inside needs s set r)
       by (Ok known.Builtin) = b
+      by (Ok known.Joined) = b
       by (Ok (known.Loaded more)) = b
       by (Ok known.New) = loads_new_below inside well needs s set b
       by (Err f) = b

@@ -390,7 +390,11 @@ fn numbers_of_the_report(rt: HostRuntime) -> Result<(), Fail> {
             ("#e1", "BadNumber 0 3"),
             ("#I1.0", "BadNumber 0 5"),
             ("#d1/2", "BadNumber 0 5"),
-            ("#x1\\q", "BadEscape 0 3"),
+            ("#x1\\q", "BadNumber 0 3"),
+            ("#xFF\\q", "BadNumber 0 4"),
+            ("#e\\q", "BadNumber 0 2"),
+            ("#b1\\x31", "BadNumber 0 3"),
+            ("#d\\x31;", "BadNumber 0 7"),
             (
                 "1/2 -3/4 +10/05",
                 "spelt 1/2 0 3|spelt -3/4 4 8|spelt +10/05 9 15|",

@@ -5,6 +5,7 @@ use Rattle.std.specs.List.{list_all}
 use Rattle.std.proofs.Math.Seq.{drop-append_seam, take-append_seam}
 use Rattle.std.proofs.lemmas.Bool.Decides.{nat_tests}
 use Rattle.sx_base.specs.Gives.{◌>>=◌}
+use Rattle.sx_base.specs.declared.fault.FaultKind.TheVariants as kind
 use Rattle.sx_spelling.specs.Escapes.{escape}
 use Rattle.sx_spelling.specs.Source.{characters}
 use Rattle.sx_spelling.specs.Whitespace.{is_delimiter}
@@ -48,9 +49,9 @@ both false b h = absurd (cc)
 module _ (file : List ℕ) (from : ℕ) where
   -- a token goes on over these bytes up to this offset
   pub record Runs (bytes : List ℕ) (at end : ℕ) : Type 0 where
-    pub same : (k : ℕ) → length bytes < k → repeated (bare_step file from) k bytes at ≡ Ok end
+    pub same : (k : ℕ) → length bytes < k → repeated (bare_step file kind.BadEscape from) k bytes at ≡ Ok end
 
-  stops : (rest : List ℕ) (at : ℕ) → ends rest ≡ true → bare_step file from rest at ≡ Ok at
+  stops : (rest : List ℕ) (at : ℕ) → ends rest ≡ true → bare_step file kind.BadEscape from rest at ≡ Ok at
   unfolding bare_step
   stops [] at h = rw characters-nil refl
   stops (b ∷ bs) at h = let p = end_is b h in rw (p.1, characters-ascii b bs p.0, p.2) refl
@@ -58,19 +59,19 @@ module _ (file : List ℕ) (from : ℕ) where
   pub runs_end : (rest : List ℕ) (at : ℕ) → ends rest ≡ true → Runs rest at at
   unfolding repeated
   runs_end rest at h = record { same = turn } where
-    turn : (k : ℕ) → length rest < k → repeated (bare_step file from) k rest at ≡ Ok at
+    turn : (k : ℕ) → length rest < k → repeated (bare_step file kind.BadEscape from) k rest at ≡ Ok at
     turn zero few = absurd (omega arith)
     turn (suc k) few = rw (stops rest at h, itself at) refl
 
-  steps : (b : ℕ) (bs : List ℕ) (at : ℕ) → plain b ≡ true → bare_step file from (b ∷ bs) at ≡ Ok (at + 1)
+  steps : (b : ℕ) (bs : List ℕ) (at : ℕ) → plain b ≡ true → bare_step file kind.BadEscape from (b ∷ bs) at ≡ Ok (at + 1)
   unfolding bare_step
   steps b bs at h = let p = three (nat_lt b 0x80) (b == 0x5C) (is_delimiter b) h in rw (p.1, characters-ascii b bs (small b p.0), p.2) refl
 
   -- one step over some bytes
-  step_on : (w rest : List ℕ) (at end : ℕ) → 0 < length w → bare_step file from (w ++ rest) at ≡ Ok (at + length w) → Runs rest (at + length w) end → Runs (w ++ rest) at end
+  step_on : (w rest : List ℕ) (at end : ℕ) → 0 < length w → bare_step file kind.BadEscape from (w ++ rest) at ≡ Ok (at + length w) → Runs rest (at + length w) end → Runs (w ++ rest) at end
   unfolding repeated
   step_on w rest at end some step others = record { same = turn } where
-    turn : (k : ℕ) → length (w ++ rest) < k → repeated (bare_step file from) k (w ++ rest) at ≡ Ok end
+    turn : (k : ℕ) → length (w ++ rest) < k → repeated (bare_step file kind.BadEscape from) k (w ++ rest) at ≡ Ok end
     turn zero few = absurd (omega arith)
     turn (suc k) few = rw (step, moved at (length w) some, ahead at (length w), drop-append_seam w rest, others.same k (omega (arith, length-append w rest))) refl
 
@@ -117,7 +118,7 @@ to_is : (file bytes text : List ℕ) (from to : ℕ) (k : Token) → to == from 
     → bare_to file bytes from to ≡ Ok (lexeme k from to)
 to_is file bytes text from to k differs taken spells = rw (differs, taken) (ap (λ r. r >>= λ t. Ok (lexeme t from to)) spells)
 
-at_is : (file bytes : List ℕ) (from to : ℕ) (k : Token) → bare_end file from bytes from ≡ Ok to → bare_to file bytes from to ≡ Ok (lexeme k from to)
+at_is : (file bytes : List ℕ) (from to : ℕ) (k : Token) → bare_end file kind.BadEscape from bytes from ≡ Ok to → bare_to file bytes from to ≡ Ok (lexeme k from to)
     → bare_at file bytes from ≡ Ok (lexeme k from to)
 at_is file bytes from to k end given = ap (λ r. r >>= λ to. bare_to file bytes from to) end ∙ given
 

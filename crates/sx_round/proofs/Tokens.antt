@@ -13,6 +13,8 @@ use Rattle.sx_base.specs.Gives.{◌>>=◌}
 use Rattle.sx_base.specs.Place.{line_end}
 use Rattle.sx_base.specs.declared.atom.Atom.TheVariants as a
 use Rattle.sx_base.specs.declared.fault.Fault.{Fault}
+use Rattle.sx_base.specs.declared.fault.FaultKind.{FaultKind}
+use Rattle.sx_base.specs.declared.fault.FaultKind.TheVariants as kind
 use Rattle.sx_spelling.specs.Escapes.{scalar_of, escape}
 use Rattle.sx_spelling.specs.Identifiers.{identifier, letter_here, name_from, char_letter, first_letter, is_of, is_peculiar}
 use Rattle.sx_spelling.specs.Numbers.{digits_size, value_from, integer, signed, greatest, spelt, is_spelt, is_integer, is_minus, unsigned, is_digits}
@@ -241,24 +243,24 @@ further : (at to : ℕ) (r : Result ℕ Fault) → at ≤ to → Forward to r �
 further at to (Ok x) h g = omega (arith, h, g)
 further at to (Err e) h g = tt
 
-escape_forward : (file : List ℕ) (from at : ℕ) (o : Option Letter) → Forward at (escape_end file from at o)
-escape_forward file from at None = tt
-escape_forward file from at (Some l) = omega arith
+escape_forward : (file : List ℕ) (bad : FaultKind) (from at : ℕ) (o : Option Letter) → Forward at (escape_end file bad from at o)
+escape_forward file bad from at None = tt
+escape_forward file bad from at (Some l) = omega arith
 
 char_forward : (at : ℕ) (ps : List Decoded) → at ≤ char_end at ps
 char_forward at [] = omega arith
 char_forward at (p ∷ ps) = branch (λ to. at ≤ to) (runs_on p.char) (λ _. omega arith) (λ _. omega arith)
 
-step_forward : (file : List ℕ) (from : ℕ) (bytes : List ℕ) (at : ℕ) → Forward at (bare_step file from bytes at)
+step_forward : (file : List ℕ) (bad : FaultKind) (from : ℕ) (bytes : List ℕ) (at : ℕ) → Forward at (bare_step file bad from bytes at)
 unfolding bare_step
-step_forward file from bytes at = branch (Forward at) (slice_index bytes 0 == 0x5C) (λ _. escape_forward file from at (escape bytes)) (λ _. char_forward at (characters bytes))
+step_forward file bad from bytes at = branch (Forward at) (slice_index bytes 0 == 0x5C) (λ _. escape_forward file bad from at (escape bytes)) (λ _. char_forward at (characters bytes))
 
-runs_forward : (k : ℕ) (file : List ℕ) (from : ℕ) (bytes : List ℕ) (at : ℕ) → Forward at (repeated (bare_step file from) k bytes at)
+runs_forward : (k : ℕ) (file : List ℕ) (bad : FaultKind) (from : ℕ) (bytes : List ℕ) (at : ℕ) → Forward at (repeated (bare_step file bad from) k bytes at)
 unfolding repeated
-runs_forward zero file from bytes at = omega arith
-runs_forward (suc k) file from bytes at =
-    bind (λ to. at ≤ to) (λ to. at ≤ to) (bare_step file from bytes at) (λ to. cond (to == at) (Ok at) (repeated (bare_step file from) k (drop (to - at) bytes) to)) (step_forward file from bytes at)
-    (λ to h. branch (Forward at) (to == at) (λ _. omega arith) (λ _. further at to (repeated (bare_step file from) k (drop (to - at) bytes) to) h (runs_forward k file from (drop (to - at) bytes) to)))
+runs_forward zero file bad from bytes at = omega arith
+runs_forward (suc k) file bad from bytes at =
+    bind (λ to. at ≤ to) (λ to. at ≤ to) (bare_step file bad from bytes at) (λ to. cond (to == at) (Ok at) (repeated (bare_step file bad from) k (drop (to - at) bytes) to)) (step_forward file bad from bytes at)
+    (λ to h. branch (Forward at) (to == at) (λ _. omega arith) (λ _. further at to (repeated (bare_step file bad from) k (drop (to - at) bytes) to) h (runs_forward k file bad from (drop (to - at) bytes) to)))
 
 apart : (to from : ℕ) → to == from ≡ false → from ≤ to → 0 < to - from
 apart to from h f = grind (arith, nat_tests)
@@ -274,12 +276,12 @@ to_bare_good file bytes from to some forward =
 
 bare_at_good : (file bytes : List ℕ) (from : ℕ) → 0 < length bytes → GoodLexeme (bare_at file bytes from)
 bare_at_good file bytes from some =
-    bind (λ to. from ≤ to) (λ l. IsGood l.token) (bare_end file from bytes from) (λ to. bare_to file bytes from to) (runs_forward (suc (length bytes)) file from bytes from) (λ to h. to_bare_good file bytes from to some h)
+    bind (λ to. from ≤ to) (λ l. IsGood l.token) (bare_end file kind.BadEscape from bytes from) (λ to. bare_to file bytes from to) (runs_forward (suc (length bytes)) file kind.BadEscape from bytes from) (λ to h. to_bare_good file bytes from to some h)
 
 -- a number behind its mark
 marked_good : (file bytes : List ℕ) (from : ℕ) → GoodLexeme (marked_at file bytes from)
 marked_good file bytes from =
-    let end = bare_end file from (drop 2 bytes) (from + 2) in
+    let end = bare_end file kind.BadNumber from (drop 2 bytes) (from + 2) in
     let token = λ (to : ℕ). integer_in file (radix (slice_index bytes 1)) (drop 2 (take (to - from) bytes)) from to in
     bind (λ (_ : ℕ). Unit {0}) (λ (l : Lexeme). IsGood l.token) end (λ to. token to >>= λ k. Ok (lexeme k from to)) (anything end)
     (λ to _. bind IsGood (λ (l : Lexeme). IsGood l.token) (token to) (λ k. Ok (lexeme k from to)) (integer_good file (radix (slice_index bytes 1)) (drop 2 (take (to - from) bytes)) from to) (λ k h. h))

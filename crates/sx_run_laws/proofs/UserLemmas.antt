@@ -226,6 +226,7 @@ module _ (files : Paths) (roots : List (List ℕ)) where
       → Ends UsersMarked Nothing (refer_to files roots inside needs s set k)
   users_referred inside well needs s set users (Err f) = tt
   users_referred inside well needs s set users (Ok known.Builtin) = users
+  users_referred inside well needs s set users (Ok known.Joined) = users
   users_referred inside well needs s set users (Ok (known.Loaded more)) = users
   users_referred inside well needs s set users (Ok known.New) = users_new inside well needs s set users
 

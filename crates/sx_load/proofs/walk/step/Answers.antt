@@ -3,7 +3,7 @@ use Rattle.sx_load.specs.Gives.{Turns}
 use Rattle.sx_load.specs.Stack.{known_next, next_of, meaning}
 use Rattle.sx_load.specs.declared.refer.Known.TheVariants as known
 use Rattle.sx_load.proofs.HaltLemmas.{halts_at, turns_on}
-use Rattle.sx_load.proofs.WalkLemmas.{turn_builtin, turn_loaded, turn_fault, turn_end}
+use Rattle.sx_load.proofs.WalkLemmas.{turn_builtin, turn_joined, turn_loaded, turn_fault, turn_end}
 use Rattle.sx_load.proofs.walk.step.Goals as goal
 
 pub returns-in-Err-clause-given : goal.returns-in-Err-clause-given
@@ -26,6 +26,13 @@ returns-in-Ok-Some-Builtin-clause-given g c = λ fs h.
     turns_on fs c.args.roots.now c.passed.result (next_of c.args.at c.args.at.needs (c.args.at.next + 1)) c.args.stack.now.items c.args.loading.now
     (meaning fs c.args.roots.now c.args.at (reverse c.args.stack.now.items) c.args.loading.now) c.passed.ensures.given c.passed.ensures.err
     (turn_builtin fs c.args.roots.now c.args.at (reverse c.args.stack.now.items) c.args.loading.now seen)
+
+pub returns-in-Ok-Some-Joined-clause-given : goal.returns-in-Ok-Some-Joined-clause-given
+returns-in-Ok-Some-Joined-clause-given g c = λ fs h.
+    let seen : known_next c.args.at c.args.loading.now ≡ Ok (Some known.Joined) = cc (c.in-Ok-Some-Joined.ensures, c.in-Ok-Some-Joined.field-0-is, c.in-Ok-Some-Joined.field-0-0-is) in
+    turns_on fs c.args.roots.now c.passed-in-Ok-Some-Joined.result (next_of c.args.at c.args.at.needs (c.args.at.next + 1)) c.args.stack.now.items c.args.loading.now
+    (meaning fs c.args.roots.now c.args.at (reverse c.args.stack.now.items) c.args.loading.now) c.passed-in-Ok-Some-Joined.ensures.given c.passed-in-Ok-Some-Joined.ensures.err
+    (turn_joined fs c.args.roots.now c.args.at (reverse c.args.stack.now.items) c.args.loading.now seen)
 
 pub returns-in-Ok-Some-Loaded-clause-given : goal.returns-in-Ok-Some-Loaded-clause-given
 returns-in-Ok-Some-Loaded-clause-given g c = λ fs h.
