@@ -1,2 +1,2 @@
-pub mod Names
+pub mod NameLemmas
 pub mod Exports

@@ -1,6 +1,6 @@
 //! The record of the derived library.
 
-ghost use Rattle.std.specs.Prelude.{◌≡◌, [], false, IfOk, Ok};
+ghost use Rattle.std.specs.Prelude.{◌≡◌, ◌<◌, ◌^◌, length, [], false, IfOk, Ok};
 ghost use Rattle.std.specs.Map.{lookup};
 ghost use Rattle.sx_base.specs.Gives.{Gives};
 ghost use Rattle.sx_import.specs.Table.{same_text};
@@ -53,12 +53,12 @@ fn tree_at(alloc: Global, place: &Span, datum: &Datum) -> Result<Syn, Stop>
     }
 }
 
-fn trees(alloc: Global, place: &Span, data: &[Datum]) -> Result<Items<Syn>, Stop>
+fn trees(alloc: Global, place: &Span, found: &[Datum]) -> Result<Items<Syn>, Stop>
     requires { place.now ≡ start }
-    ensures { Gives (λ ts. ts) result (trees [] data.now) }
+    ensures { Gives (λ ts. ts) result (trees [] found.now) }
 {
     let mut done = Items::new(alloc);
-    for datum in data {
+    for datum in found {
         let tree = tree_at(alloc, place, datum)?;
         done.push(tree)?;
     }
@@ -68,11 +68,12 @@ fn trees(alloc: Global, place: &Span, data: &[Datum]) -> Result<Items<Syn>, Stop
 // The forms of a text.
 #[tactic(auto, unfolding(crate::specs::Derived::forms_of))]
 fn forms_of(alloc: Global, place: &Span, text: &[u8]) -> Result<Items<Syn>, Stop>
-    requires { place.now ≡ start }
+    requires place { place.now ≡ start }
+    requires fits { length text.now < 2 ^ 32 }
     ensures { Gives (λ ts. ts) result (forms_of text.now) }
 {
-    let data = read_all(alloc, &place.file, text)?;
-    trees(alloc, place, &data)
+    let found = read_all(alloc, &place.file, text)?;
+    trees(alloc, place, &found)
 }
 
 // An expander behind no records.
@@ -158,10 +159,10 @@ pub fn derived_record<N: Ledger, L: Ledger>(
 }
 
 // The label under which a record exports a name, or another.
-fn label_in(record: &LibRecord, name: &Symbol, label: &Label) -> Result<Label, Memory>
-    ensures { IfOk result (λ l. l ≡ label_or label.now (lookup (same_text name.now) record.now.exports)) }
+fn label_in(derived: &LibRecord, name: &Symbol, label: &Label) -> Result<Label, Memory>
+    ensures { IfOk result (λ l. l ≡ label_or label.now (lookup (same_text name.now) derived.now.exports)) }
 {
-    for (exported, own) in record.exports.as_slice() {
+    for (exported, own) in derived.exports.as_slice() {
         if *name == *exported {
             return own.share();
         }

@@ -3,4 +3,4 @@ use Rattle.sx_derived.specs.Derived.{trees}
 use Rattle.sx_derived.proofs.derived.trees.Given as goal
 
 abbrev pub invariant-loop-datum : goal.invariant-loop-datum
-invariant-loop-datum l = trees l.done (drop l.datum-index l.data) ≡ trees [] l.data
+invariant-loop-datum l = trees l.done (drop l.datum-index l.found) ≡ trees [] l.found
