@@ -29,7 +29,7 @@ use Rattle.sx_standing.specs.Patterns.{bind_pattern, template_of}
 use Rattle.sx_standing.specs.State.{Does, fresh, fresh_frame}
 use Rattle.sx_quasi_code.specs.Filled.{call_of}
 
--- the identifier that stands for the ellipsis behind splices: no other leaf has its mark
+-- the identifier that stands for the ellipsis behind splices: no leaf of a program has its mark
 abbrev pub dots : Tree
 dots = leaf None (codes "...") (record { marks = core_mark 0 ∷ []; stamps = [] })
 

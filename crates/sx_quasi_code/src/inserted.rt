@@ -28,7 +28,7 @@ use sx_shapes::at::place_of;
 use sx_standing::expansion::Expansion;
 use sx_syntax::syn::Syn;
 
-/// The identifier that stands for the ellipsis behind splices: no other leaf has its mark.
+/// The identifier that stands for the ellipsis behind splices: no leaf of a program has its mark.
 pub(crate) fn dots(alloc: Global) -> Result<Syn, Memory>
     ensures { IfOk result (λ t. t ≡ dots) }
 {
