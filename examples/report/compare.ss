@@ -11,11 +11,9 @@
 
 ;; The values of the last form, as a list.
 (define (run core)
-  (let ((top (copy-environment (environment '(rnrs)))))
-    (let loop ((forms core))
-      (if (null? (cdr forms))
-          (call-with-values (lambda () (eval (car forms) top)) list)
-          (begin (eval (car forms) top) (loop (cdr forms)))))))
+  (if (null? (cdr core))
+      (call-with-values (lambda () (interpret (car core))) list)
+      (begin (interpret (car core)) (run (cdr core)))))
 
 (define (given folder)
   (if (file-exists? (string-append folder "/fault"))
@@ -28,29 +26,34 @@
                                      (lambda (port) (display-condition raised port))))))
             (lambda () (run (data (string-append folder "/core.sps")))))))))
 
-;; Whether the values are those wanted before an `or`, or after it.
+;; The part of a list before a word, and the part behind it, which is #f where the word isn't there.
+(define (before word all) (if (memq word all) (list-head all (- (length all) (length (memq word all)))) all))
+(define (behind word all) (cond ((memq word all) => cdr) (else #f)))
+
+;; Whether the values are those before an `or`, or after it.
 (define (fits? values wanted)
-  (let ((rest (memq 'or wanted)))
-    (or (equal? values (if rest (list-head wanted (- (length wanted) (length rest))) wanted))
-        (and rest (fits? values (cdr rest))))))
+  (or (equal? values (before 'or wanted))
+      (let ((others (behind 'or wanted)))
+        (and others (fits? values others)))))
 
 (define (write-all all)
   (for-each (lambda (one) (display " ") (write one)) all)
   (newline))
 
-(let loop ((folders (command-line-arguments)) (right 0) (wrong 0))
+(let loop ((folders (command-line-arguments)) (right 0) (known 0) (wrong 0))
   (if (null? folders)
       (begin
-        (printf "~a programs, ~a of them as in the report, ~a not\n" (+ right wrong) right wrong)
+        (printf "~a programs: ~a give what the report has, ~a a known other value, ~a differ\n"
+                (+ right known wrong) right known wrong)
         (exit (if (= wrong 0) 0 1)))
       (let* ((folder (car folders))
              (wanted (data (string-append folder "/wanted")))
              (values (given folder)))
-        (if (fits? values wanted)
-            (loop (cdr folders) (+ right 1) wrong)
-            (begin
-              (printf "~a gives" (line (string-append folder "/place")))
-              (write-all values)
-              (display "    the report has")
-              (write-all wanted)
-              (loop (cdr folders) right (+ wrong 1)))))))
+        (cond ((fits? values (before 'but wanted)) (loop (cdr folders) (+ right 1) known wrong))
+              ((equal? values (behind 'but wanted)) (loop (cdr folders) right (+ known 1) wrong))
+              (else
+               (printf "~a gives" (line (string-append folder "/place")))
+               (write-all values)
+               (display "    wanted")
+               (write-all wanted)
+               (loop (cdr folders) right known (+ wrong 1)))))))
