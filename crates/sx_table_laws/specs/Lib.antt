@@ -1,0 +1,4 @@
+pub mod CoreForms
+pub mod Prelude
+pub mod Derived
+pub mod Kept

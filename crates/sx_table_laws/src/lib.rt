@@ -1,0 +1,44 @@
+//! The tables of the code, against what is written out in `specs/`.
+//!
+//! Some definitions cite a table of the code itself: which keyword has a number, what `map` means during expansion, what
+//! `or` expands to, which bytes of a library's name stand in a path. A wrong row there would be a wrong definition. So each
+//! such table stands here a second time, written out as R6RS has it:
+//!
+//! ```text
+//! (form.Letrec, codes "letrec") ∷ (form.LetrecStar, codes "letrec*") ∷ ..
+//! ```
+//!
+//! The promise: the table of the code is what is written out here.
+//!
+//! Here are no calls to make: each function stands for the law that it ensures.
+#![tactic(auto)]
+
+ghost use Rattle.sx_table_laws.specs.CoreForms.{FormsAreWritten, FormsAreFound};
+ghost use Rattle.sx_table_laws.specs.Derived.{DerivedIsWritten};
+ghost use Rattle.sx_table_laws.specs.Kept.{OthersAreEscaped};
+ghost use Rattle.sx_table_laws.specs.Prelude.{TextsAreWritten};
+
+/// The keywords that expansion itself knows are those that are written out, under their report names.
+pub fn core_forms_are_written()
+    ensures { FormsAreWritten }
+{}
+
+/// Each of them is found by its place and by its number.
+pub fn core_forms_are_found()
+    ensures { FormsAreFound }
+{}
+
+/// The list procedures that take a procedure have the texts that are written out.
+pub fn prelude_is_written()
+    ensures { TextsAreWritten }
+{}
+
+/// The library of derived forms has the text that is written out.
+pub fn derived_is_written()
+    ensures { DerivedIsWritten }
+{}
+
+/// Of the name of a library, letters and digits of ASCII and six signs stand in the name of its file as they are.
+pub fn others_are_escaped()
+    ensures { OthersAreEscaped }
+{}
