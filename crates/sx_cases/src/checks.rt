@@ -3,11 +3,14 @@ ghost use Rattle.std.specs.Prelude.{◌≡◌, ◌<◌};
 use crate::case::read_case;
 use crate::outcome::outcome;
 use crate::primitives::primitives;
+use crate::tables::bindings::BINDINGS;
+use crate::tables::choices::CHOICES;
 use crate::tables::core_faults::{BAD_FORMS, BINDERS, BODIES, KEYWORDS, REFERENCES};
 use crate::tables::core_forms::{DEFINITIONS, EXPRESSIONS, PROCEDURES};
 use crate::tables::deep::DEEP;
 use crate::tables::defining::DEFINING;
 use crate::tables::derived::DERIVED;
+use crate::tables::derived_names::{DERIVED_LEVELS, DERIVED_NAMES};
 use crate::tables::endless::ENDLESS;
 use crate::tables::fault_pairs::FAULT_PAIRS;
 use crate::tables::form_faults::FORM_FAULTS;
@@ -23,6 +26,8 @@ use crate::tables::patterns::PATTERNS;
 use crate::tables::positions::POSITIONS;
 use crate::tables::quasi::QUASI;
 use crate::tables::realistic::REALISTIC;
+use crate::tables::rules::RULES;
+use crate::tables::templates::{LIST_TEMPLATES, SYNTAX_TEMPLATES};
 use crate::tables::transformer_faults::TRANSFORMER_FAULTS;
 use crate::tables::transformers::TRANSFORMERS;
 use std::alloc::{AllocError, Global};
@@ -184,7 +189,17 @@ const MACROS: [&str; 6] = [HYGIENE, DEEP, DEFINING, IDENTIFIERS, PATTERNS, TRANS
 const SCOPES: [&str; 5] = [LET_SYNTAX, LEVELS, LATE, LIBRARIES, REALISTIC];
 
 // Derived forms and quasi forms.
-const DERIVED_FORMS: [&str; 2] = [DERIVED, QUASI];
+const DERIVED_FORMS: [&str; 9] = [
+    DERIVED,
+    QUASI,
+    BINDINGS,
+    CHOICES,
+    RULES,
+    LIST_TEMPLATES,
+    SYNTAX_TEMPLATES,
+    DERIVED_NAMES,
+    DERIVED_LEVELS,
+];
 
 // Uses, transformers, patterns and templates at fault.
 const FAULTS: [&str; 5] = [

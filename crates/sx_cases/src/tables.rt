@@ -1,10 +1,13 @@
 //! Tables of cases, by what they are about.
 
+pub mod bindings;
+pub mod choices;
 pub mod core_faults;
 pub mod core_forms;
 pub mod deep;
 pub mod defining;
 pub mod derived;
+pub mod derived_names;
 pub mod endless;
 pub mod fault_pairs;
 pub mod form_faults;
@@ -20,5 +23,7 @@ pub mod patterns;
 pub mod positions;
 pub mod quasi;
 pub mod realistic;
+pub mod rules;
+pub mod templates;
 pub mod transformer_faults;
 pub mod transformers;
