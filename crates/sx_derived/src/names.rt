@@ -72,7 +72,6 @@ fn push_name(
 }
 
 // So many names, without those of these definitions.
-#[tactic(auto, using(crate::proofs::NameLemmas::names_on, crate::proofs::NameLemmas::names_done))]
 fn names_of(
     alloc: Global,
     definitions: &[Option<u16>],
