@@ -4,6 +4,7 @@ pub mod bindings;
 pub mod choices;
 pub mod core_faults;
 pub mod core_forms;
+pub mod corners;
 pub mod deep;
 pub mod defining;
 pub mod derived;
