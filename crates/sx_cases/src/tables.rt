@@ -1,5 +1,6 @@
 //! Tables of cases, by what they are about.
 
+pub mod aliases;
 pub mod bindings;
 pub mod choices;
 pub mod core_faults;
