@@ -3,10 +3,12 @@ ghost use Rattle.std.specs.Prelude.{◌≡◌, ◌<◌};
 use crate::case::read_case;
 use crate::outcome::outcome;
 use crate::primitives::primitives;
+use crate::tables::aliases::ALIASES;
 use crate::tables::bindings::BINDINGS;
 use crate::tables::choices::CHOICES;
 use crate::tables::core_faults::{BAD_FORMS, BINDERS, BODIES, KEYWORDS, REFERENCES};
 use crate::tables::core_forms::{DEFINITIONS, EXPRESSIONS, PROCEDURES};
+use crate::tables::corners::{BAD_DERIVED, DERIVED_CORNERS};
 use crate::tables::deep::DEEP;
 use crate::tables::defining::DEFINING;
 use crate::tables::derived::DERIVED;
@@ -189,7 +191,7 @@ const MACROS: [&str; 6] = [HYGIENE, DEEP, DEFINING, IDENTIFIERS, PATTERNS, TRANS
 const SCOPES: [&str; 5] = [LET_SYNTAX, LEVELS, LATE, LIBRARIES, REALISTIC];
 
 // Derived forms and quasi forms.
-const DERIVED_FORMS: [&str; 9] = [
+const DERIVED_FORMS: [&str; 12] = [
     DERIVED,
     QUASI,
     BINDINGS,
@@ -199,6 +201,9 @@ const DERIVED_FORMS: [&str; 9] = [
     SYNTAX_TEMPLATES,
     DERIVED_NAMES,
     DERIVED_LEVELS,
+    DERIVED_CORNERS,
+    BAD_DERIVED,
+    ALIASES,
 ];
 
 // Uses, transformers, patterns and templates at fault.

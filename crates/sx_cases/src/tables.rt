@@ -1,9 +1,11 @@
 //! Tables of cases, by what they are about.
 
+pub mod aliases;
 pub mod bindings;
 pub mod choices;
 pub mod core_faults;
 pub mod core_forms;
+pub mod corners;
 pub mod deep;
 pub mod defining;
 pub mod derived;

@@ -1,7 +1,7 @@
 //! Derived forms that make transformers, and `with-syntax`.
 
-/// What `syntax-rules`, `identifier-syntax` and `with-syntax` come to (R6RS 11.18 and 11.19; libraries report 12.8), and
-/// those at fault.
+/// What `syntax-rules`, `identifier-syntax` and `with-syntax` come to (R6RS 11.18 and 11.19; libraries report 12.8),
+/// and those at fault.
 pub const RULES: &str = r##"; the first clause that matches is taken
 (import (rnrs))
 (define-syntax m (syntax-rules () ((_) 'none) ((_ a) '(one a)) ((_ . r) '(more . r))))

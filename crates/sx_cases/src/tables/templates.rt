@@ -277,7 +277,7 @@ pub const LIST_TEMPLATES: &str = r##"; the examples of R6RS 11.17
 (list 1 §,@'(2))
 => 25 KeywordMisuse: unquote-splicing"##;
 
-/// What `quasisyntax` comes to (libraries report 12.6), and those at fault.
+/// What `quasisyntax` comes to (libraries report 12.8), and those at fault.
 pub const SYNTAX_TEMPLATES: &str = r##"; tails
 (import (rnrs))
 (define-syntax m (lambda (s) #`(quote ((a . #,(list 1 2)) (#,@'(1 2) . 3) (#,@'(1) . #,2)))))
@@ -355,7 +355,7 @@ pub const SYNTAX_TEMPLATES: &str = r##"; tails
 (m t 1)
 => ((lambda (%/t/0 %/t/1) (list %/t/0 %/t/1)) 1 2)
 
-; the example of the libraries report 12.6
+; the example of the libraries report 12.8
 (import (except (rnrs) case))
 (define-syntax case (lambda (x) (syntax-case x ()
   [(_ e c1 c2 ...)
