@@ -1,4 +1,4 @@
--- `quasiquote` and `quasisyntax` (R6RS 11.17; libraries report 12.6): their parts are expanded in order, each at its depth.
+-- `quasiquote` and `quasisyntax` (R6RS 11.17; libraries report 12.8): their parts are expanded in order, each at its depth.
 use Rattle.std.specs.Prelude.{ℕ, List, []}
 use Rattle.sx_base.specs.Act.{after, each}
 use Rattle.sx_base.specs.declared.span.Span.{Span}

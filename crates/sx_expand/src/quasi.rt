@@ -1,4 +1,4 @@
-//! `quasiquote` and `quasisyntax` (R6RS 11.17; libraries report 12.6).
+//! `quasiquote` and `quasisyntax` (R6RS 11.17; libraries report 12.8).
 
 ghost use Rattle.std.specs.Prelude.{◌≡◌};
 ghost use Rattle.sx_base.specs.Act.{GivesAfter};

@@ -1,4 +1,4 @@
--- A `quasiquote` or `quasisyntax` form (R6RS 11.17; libraries report 12.6): what it comes to, what is to be expanded of it, and its code.
+-- A `quasiquote` or `quasisyntax` form (R6RS 11.17; libraries report 12.8): what it comes to, what is to be expanded of it, and its code.
 use Rattle.std.specs.Prelude.{ℕ, List, [], Result, Ok, Err}
 use Rattle.sx_base.specs.Act.{give}
 use Rattle.sx_base.specs.declared.fault.Fault.{Fault}

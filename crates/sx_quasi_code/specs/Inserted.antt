@@ -1,4 +1,4 @@
--- The code of a `quasisyntax` form (libraries report 12.6).
+-- The code of a `quasisyntax` form (libraries report 12.8).
 use Rattle.std.specs.Prelude.{ℕ, zero, suc, List, [], ◌∷◌, codes, map, None}
 use Rattle.sx_base.specs.Act.{after, give, each}
 use Rattle.sx_base.specs.declared.atom.Atom.TheVariants as atoms

@@ -1,6 +1,6 @@
 //! The core code of `quasiquote` and `quasisyntax` forms.
 //!
-//! R6RS says what these forms mean by other forms (R6RS 11.17; libraries report 12.6):
+//! R6RS says what these forms mean by other forms (R6RS 11.17; libraries report 12.8):
 //!
 //! ```text
 //! `(1 ,x ,@y)      is   (append (list '1 x) y '())

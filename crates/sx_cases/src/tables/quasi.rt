@@ -1,6 +1,6 @@
 //! `quasiquote` and `quasisyntax`.
 
-/// What templates come to (R6RS 11.17; libraries report 12.6), and those at fault.
+/// What templates come to (R6RS 11.17; libraries report 12.8), and those at fault.
 pub const QUASI: &str = r##"(import (rnrs))
 (list `a `1 `(1 a) `#(1 2) `())
 => (list (quote a) 1 (quote (1 a)) (quote #(1 2)) (quote ()))
@@ -117,7 +117,7 @@ pub const QUASI: &str = r##"(import (rnrs))
 (m)
 => (list 1 2)
 
-; levels (libraries report 12.6)
+; levels (libraries report 12.8)
 (import (rnrs))
 (define-syntax m (lambda (s) #`(quote (a #`(b #,(c #,(+ 1 1)))))))
 (m)
