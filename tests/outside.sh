@@ -219,17 +219,29 @@ large 4194304
 run large.sps
 answers "a file of 4 MiB" 0 large.core nothing
 
-# The writer takes only a part where it is stopped while it waits, and is asked for the rest.
+# A writer that is stopped while the pipe is full has written a part, and writes the rest when it goes on.
+rm -f started stopped
 {
     "$program" large.sps 2>err &
     writer=$!
-    for _ in 1 2 3 4 5 6 7 8; do
-        sleep 0.3
-        kill -STOP $writer 2>/dev/null && kill -CONT $writer 2>/dev/null
+    for _ in $(seq 1 300); do
+        [ -e started ] && break
+        sleep 0.1
     done
+    for _ in 1 2 3; do
+        sleep 0.1
+        kill -STOP $writer 2>/dev/null
+        kill -CONT $writer 2>/dev/null
+    done
+    : >stopped
     wait $writer
     echo $? >got
-} | { sleep 2; cat >out; }
+} | {
+    dd bs=1 count=1 of=first 2>/dev/null
+    : >started
+    until [ -e stopped ]; do sleep 0.1; done
+    cat first - >out
+}
 got=$(cat got)
 answers "a pipe that takes a part at a time" 0 large.core nothing
 
