@@ -9,7 +9,7 @@ use Rattle.sx_library.proofs.loaded.records_behind.Goals as goal
 
 pub returns-in_err-expand_next : goal.returns-in_err-expand_next
 returns-in_err-expand_next g c =
-    let p = err_from_is_err_and c.from_residual-in_err-expand_next.result c.from_residual-in_err-expand_next.ensures.1 in
+    let p = err_from_is_err_and c.from_residual.result c.from_residual.ensures.1 in
     let row : List ℕ × Found = (c.in-Some.field-0-0.now, c.in-Some.found.now) in
     rw (p.1, p.2) (got_stop (expand_next (kept c.args.prelude.now)) c.args.libraries.now c.loop-place.place row c.loop-place.records (turns (expand_next (kept c.args.prelude.now)) c.args.records c.args.libraries.now) c.in_err-expand_next.field-0.0 (sym c.in-Some.ensures) c.in_err-expand_next.ensures c.loop-place.invariant)
 
