@@ -16,6 +16,10 @@ use crate::tables::derived_names::{DERIVED_LEVELS, DERIVED_NAMES};
 use crate::tables::endless::ENDLESS;
 use crate::tables::fault_pairs::FAULT_PAIRS;
 use crate::tables::form_faults::FORM_FAULTS;
+use crate::tables::fuel_calls::FUEL_CALLS;
+use crate::tables::fuel_forms::FUEL_FORMS;
+use crate::tables::fuel_syntax::FUEL_SYNTAX;
+use crate::tables::fuel_texts::FUEL_TEXTS;
 use crate::tables::hygiene::HYGIENE;
 use crate::tables::identifiers::IDENTIFIERS;
 use crate::tables::imports::IMPORTS;
@@ -26,6 +30,14 @@ use crate::tables::libraries::LIBRARIES;
 use crate::tables::loading::{BAD, FIRST_FAULTS, NAMES, ORDER, ROOTS, SETS, VERSIONS};
 use crate::tables::patterns::PATTERNS;
 use crate::tables::positions::POSITIONS;
+use crate::tables::prim_basics::BASIC_CALLS;
+use crate::tables::prim_characters::CHARACTER_CALLS;
+use crate::tables::prim_data::DATA_CALLS;
+use crate::tables::prim_equality::EQUALITY_CALLS;
+use crate::tables::prim_lists::LIST_CALLS;
+use crate::tables::prim_numbers::NUMBER_CALLS;
+use crate::tables::prim_strings::STRING_CALLS;
+use crate::tables::prim_syntax::SYNTAX_CALLS;
 use crate::tables::quasi::QUASI;
 use crate::tables::realistic::REALISTIC;
 use crate::tables::rules::RULES;
@@ -215,6 +227,21 @@ const FAULTS: [&str; 5] = [
     ENDLESS,
 ];
 
+// What primitives compute, each called in a transformer.
+const PRIMITIVES: [&str; 8] = [
+    BASIC_CALLS,
+    NUMBER_CALLS,
+    CHARACTER_CALLS,
+    STRING_CALLS,
+    LIST_CALLS,
+    EQUALITY_CALLS,
+    SYNTAX_CALLS,
+    DATA_CALLS,
+];
+
+// Evaluation with exactly the fuel that it needs, and with less.
+const FUEL: [&str; 4] = [FUEL_FORMS, FUEL_CALLS, FUEL_TEXTS, FUEL_SYNTAX];
+
 #[test]
 fn core_forms_expand(rt: HostRuntime) -> Result<(), Fail> {
     check(rt.alloc(), &CORE_FORMS)
@@ -243,4 +270,14 @@ fn macros_at_fault_are_told_at_their_places(rt: HostRuntime) -> Result<(), Fail>
 #[test]
 fn derived_forms_expand(rt: HostRuntime) -> Result<(), Fail> {
     check(rt.alloc(), &DERIVED_FORMS)
+}
+
+#[test]
+fn primitives_come_to_what_r6rs_says(rt: HostRuntime) -> Result<(), Fail> {
+    check(rt.alloc(), &PRIMITIVES)
+}
+
+#[test]
+fn evaluation_spends_what_it_says(rt: HostRuntime) -> Result<(), Fail> {
+    check(rt.alloc(), &FUEL)
 }
