@@ -17,7 +17,9 @@ use crate::tables::endless::ENDLESS;
 use crate::tables::fault_pairs::FAULT_PAIRS;
 use crate::tables::form_faults::FORM_FAULTS;
 use crate::tables::fuel_calls::FUEL_CALLS;
+use crate::tables::fuel_costs::FUEL_COSTS;
 use crate::tables::fuel_forms::FUEL_FORMS;
+use crate::tables::fuel_runs::FUEL_RUNS;
 use crate::tables::fuel_syntax::FUEL_SYNTAX;
 use crate::tables::fuel_texts::FUEL_TEXTS;
 use crate::tables::hygiene::HYGIENE;
@@ -240,7 +242,14 @@ const PRIMITIVES: [&str; 8] = [
 ];
 
 // Evaluation with exactly the fuel that it needs, and with less.
-const FUEL: [&str; 4] = [FUEL_FORMS, FUEL_CALLS, FUEL_TEXTS, FUEL_SYNTAX];
+const FUEL: [&str; 6] = [
+    FUEL_FORMS,
+    FUEL_CALLS,
+    FUEL_TEXTS,
+    FUEL_SYNTAX,
+    FUEL_COSTS,
+    FUEL_RUNS,
+];
 
 #[test]
 fn core_forms_expand(rt: HostRuntime) -> Result<(), Fail> {

@@ -1,7 +1,6 @@
 //! Calls of primitives and of apply with the fuel that they need.
 
-pub const FUEL_CALLS: &str =
-    r#"; each with all fuel that it needs, and its value
+pub const FUEL_CALLS: &str = r#"; each with all fuel that it needs, and its value
 (import (rnrs))
 (define-syntax spends
   (lambda (s)

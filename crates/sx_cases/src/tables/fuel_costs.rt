@@ -1,7 +1,6 @@
 //! What calls of primitives cost beside their expression, by the fuel that they need.
 
-pub const FUEL_COSTS: &str =
-    r#"; each with all fuel that it needs, and its value
+pub const FUEL_COSTS: &str = r#"; each with all fuel that it needs, and its value
 (import (rnrs))
 (define-syntax spends
   (lambda (s)

@@ -1,7 +1,6 @@
 //! Core forms with the fuel that they need.
 
-pub const FUEL_FORMS: &str =
-    r#"; each with all fuel that it needs, and its value
+pub const FUEL_FORMS: &str = r#"; each with all fuel that it needs, and its value
 (import (rnrs))
 (define-syntax spends
   (lambda (s)

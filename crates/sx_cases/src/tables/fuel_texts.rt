@@ -1,7 +1,6 @@
 //! Procedures that are given in Scheme, with the fuel that they need; most are examples of R6RS.
 
-pub const FUEL_TEXTS: &str =
-    r#"; each with all fuel that it needs, and its value
+pub const FUEL_TEXTS: &str = r#"; each with all fuel that it needs, and its value
 (import (rnrs))
 (define-syntax spends
   (lambda (s)

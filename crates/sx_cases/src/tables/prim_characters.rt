@@ -1,7 +1,6 @@
 //! Booleans, symbols and characters: R6RS 11.8, 11.10 and 11.11.
 
-pub const CHARACTER_CALLS: &str =
-    r#"; char->integer, integer->char, char=?, char<?, char>?, char<=?
+pub const CHARACTER_CALLS: &str = r#"; char->integer, integer->char, char=?, char<?, char>?, char<=?
 (import (rnrs))
 (define-syntax value
   (lambda (s)

@@ -1,7 +1,6 @@
 //! syntax->datum and datum->syntax: R6RS libraries 12.6.
 
-pub const DATA_CALLS: &str =
-    r#"; syntax->datum
+pub const DATA_CALLS: &str = r#"; syntax->datum
 (import (rnrs))
 (define-syntax value
   (lambda (s)

@@ -1,7 +1,6 @@
 //! equal? and what compares by it: R6RS 11.5 and libraries 3.
 
-pub const EQUALITY_CALLS: &str =
-    r#"; equal?
+pub const EQUALITY_CALLS: &str = r#"; equal?
 (import (rnrs))
 (define-syntax value
   (lambda (s)
@@ -89,6 +88,15 @@ pub const EQUALITY_CALLS: &str =
 (value (remove '(1) '((1) 2 (1))))
 => (quote ())
 (quote (2))
+
+; a pair is itself, and a syntax object is not, whichever of the three asks (R6RS 11.5)
+(import (rnrs))
+(define-syntax m
+  (lambda (s)
+    (letrec ((itself? (lambda (x) (map (lambda (same?) (same? x x)) (list eq? eqv? equal?)))))
+      #`(quote #,(datum->syntax s (list (itself? (list 1 2)) (itself? #'1)))))))
+m
+=> (quote ((#t #t #t) (#f #f #f)))
 
 ; equal? takes no such number of arguments
 (import (rnrs))

@@ -1,7 +1,6 @@
 //! Lists: R6RS 11.9 and libraries 3.
 
-pub const LIST_CALLS: &str =
-    r#"; list, vector, string, cons*, list?
+pub const LIST_CALLS: &str = r#"; list, vector, string, cons*, list?
 (import (rnrs))
 (define-syntax value
   (lambda (s)

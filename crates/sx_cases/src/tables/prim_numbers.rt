@@ -1,7 +1,6 @@
 //! Numbers, R6RS 11.7.4: all signs of the divisions, and the ends of 128 bits.
 
-pub const NUMBER_CALLS: &str =
-    r#"; +, *, -
+pub const NUMBER_CALLS: &str = r#"; +, *, -
 (import (rnrs))
 (define-syntax value
   (lambda (s)
