@@ -30,6 +30,10 @@ use crate::tables::let_syntax::LET_SYNTAX;
 use crate::tables::levels::LEVELS;
 use crate::tables::libraries::LIBRARIES;
 use crate::tables::loading::{BAD, FIRST_FAULTS, NAMES, ORDER, ROOTS, SETS, VERSIONS};
+use crate::tables::match_ellipses::MATCH_ELLIPSES;
+use crate::tables::match_faults::MATCH_FAULTS;
+use crate::tables::match_lists::MATCH_LISTS;
+use crate::tables::match_stored::MATCH_STORED;
 use crate::tables::patterns::PATTERNS;
 use crate::tables::positions::POSITIONS;
 use crate::tables::prim_basics::BASIC_CALLS;
@@ -241,6 +245,9 @@ const PRIMITIVES: [&str; 8] = [
     DATA_CALLS,
 ];
 
+// Patterns, templates and the instances that come of them.
+const MATCHES: [&str; 4] = [MATCH_LISTS, MATCH_ELLIPSES, MATCH_FAULTS, MATCH_STORED];
+
 // Evaluation with exactly the fuel that it needs, and with less.
 const FUEL: [&str; 6] = [
     FUEL_FORMS,
@@ -284,6 +291,11 @@ fn derived_forms_expand(rt: HostRuntime) -> Result<(), Fail> {
 #[test]
 fn primitives_come_to_what_r6rs_says(rt: HostRuntime) -> Result<(), Fail> {
     check(rt.alloc(), &PRIMITIVES)
+}
+
+#[test]
+fn patterns_match_and_templates_give_instances(rt: HostRuntime) -> Result<(), Fail> {
+    check(rt.alloc(), &MATCHES)
 }
 
 #[test]
