@@ -23,21 +23,14 @@ use sx_scope::scope::Frames;
 use sx_value::cell::{Cell, add_cell};
 use sx_value::value::Value;
 
-/// What a call comes to.
-#[derive(Clone, Copy)]
-enum Ending {
-    /// This number, with so much fuel left.
-    Number(i128, u64),
-    Spent,
-    Refused,
-}
-
-/// What is called with the list `(1 2)`, the fuel of the call, and what it comes to.
+/// What is called with the list `(1 2)`, the fuel of the call, and what it comes to: the number of a fault, or 0
+/// and a number with no fuel left.
 #[derive(Clone, Copy)]
 struct Row {
     op: u16,
     fuel: u64,
-    ending: Ending,
+    fault: u16,
+    number: i128,
 }
 
 /// `car`, which costs nothing, and `length`, which costs the pairs of its list.
@@ -45,19 +38,30 @@ const ROWS: [Row; 3] = [
     Row {
         op: 51,
         fuel: 0,
-        ending: Ending::Number(1, 0),
+        fault: 0,
+        number: 1,
     },
     Row {
         op: 120,
         fuel: 2,
-        ending: Ending::Number(2, 0),
+        fault: 0,
+        number: 2,
     },
     Row {
         op: 120,
         fuel: 1,
-        ending: Ending::Spent,
+        fault: 38,
+        number: 0,
     },
 ];
+
+/// A call of what is no procedure.
+const NO_PROCEDURE: Row = Row {
+    op: 0,
+    fuel: 3,
+    fault: 40,
+    number: 0,
+};
 
 // A world without codes and variables.
 fn world(alloc: Global) -> Result<World, Memory> {
@@ -86,70 +90,43 @@ fn is_number(value: &Value, number: i128) -> bool {
     }
 }
 
-fn is_ending(outcome: &Result<(Value, u64), BareStop>, ending: Ending) -> bool {
-    match outcome {
-        Ok((value, left)) => match ending {
-            Ending::Number(number, rest) => is_number(value, number) && *left == rest,
-            _ => false,
-        },
-        Err(BareStop::Fault(fault)) => match ending {
-            Ending::Number(..) => false,
-            Ending::Spent => fault.kind.name() == "FuelSpent",
-            Ending::Refused => fault.kind.name() == "PrimFault",
-        },
-        Err(BareStop::Memory) => false,
-    }
-}
-
 fn call_in<N: Ledger>(
     alloc: Global,
     prims: &PrimTable,
     world: &mut World,
     procedure: &Value,
-    fuel: u64,
-    ending: Ending,
+    row: Row,
     blank: Blank,
 ) -> Result<bool, Fail>
     requires name { blank.name ≡ N.name }
     requires parts { (blank.parts ≡ N.parts) × (0 < N.parts) }
 {
-    if fuel >= 1_000_000_000_000 {
+    if row.fuel >= 1_000_000_000_000 {
         return Ok(false);
     }
     let mut args = Vec::new(alloc);
     args.push(list(&mut world.cells)?)?;
     let mut steps = Steps::<N>::open(blank);
-    let outcome = call(alloc, procedure, args, fuel, prims, world, &mut steps);
-    Ok(is_ending(&outcome, ending))
+    match call(alloc, procedure, args, row.fuel, prims, world, &mut steps) {
+        Ok((value, left)) => Ok(row.fault == 0 && left == 0 && is_number(&value, row.number)),
+        Err(BareStop::Fault(fault)) => Ok(fault.kind.number() == row.fault),
+        Err(BareStop::Memory) => Ok(false),
+    }
 }
 
 // The same in a new world, counting for nobody.
-fn call_holds(
-    alloc: Global,
-    prims: &PrimTable,
-    procedure: &Value,
-    fuel: u64,
-    ending: Ending,
-) -> Result<bool, Fail> {
+fn call_holds(alloc: Global, prims: &PrimTable, procedure: &Value, row: Row) -> Result<bool, Fail> {
     let mut world = world(alloc)?;
-    call_in::<Brand>(
-        alloc,
-        prims,
-        &mut world,
-        procedure,
-        fuel,
-        ending,
-        Blank::new(1),
-    )
+    call_in::<Brand>(alloc, prims, &mut world, procedure, row, Blank::new(1))
 }
 
 fn check_calls(rt: &impl Abort, alloc: Global, prims: &PrimTable) -> Result<(), Fail> {
     for row in &ROWS {
         let procedure = Value::Prim(Op(row.op));
-        assert!(rt; call_holds(alloc, prims, &procedure, row.fuel, row.ending)?);
+        assert!(rt; call_holds(alloc, prims, &procedure, *row)?);
     }
     let number = Value::Atom(Atom::Int(5));
-    assert!(rt; call_holds(alloc, prims, &number, 3, Ending::Refused)?);
+    assert!(rt; call_holds(alloc, prims, &number, NO_PROCEDURE)?);
     Ok(())
 }
 
