@@ -249,14 +249,7 @@ const PRIMITIVES: [&str; 8] = [
 const MATCHES: [&str; 4] = [MATCH_LISTS, MATCH_ELLIPSES, MATCH_FAULTS, MATCH_STORED];
 
 // Evaluation with exactly the fuel that it needs, and with less.
-const FUEL: [&str; 6] = [
-    FUEL_FORMS,
-    FUEL_CALLS,
-    FUEL_TEXTS,
-    FUEL_SYNTAX,
-    FUEL_COSTS,
-    FUEL_RUNS,
-];
+const FUEL: [&str; 5] = [FUEL_FORMS, FUEL_CALLS, FUEL_TEXTS, FUEL_SYNTAX, FUEL_COSTS];
 
 #[test]
 fn core_forms_expand(rt: HostRuntime) -> Result<(), Fail> {
@@ -301,4 +294,9 @@ fn patterns_match_and_templates_give_instances(rt: HostRuntime) -> Result<(), Fa
 #[test]
 fn evaluation_spends_what_it_says(rt: HostRuntime) -> Result<(), Fail> {
     check(rt.alloc(), &FUEL)
+}
+
+#[test]
+fn libraries_calls_and_loops_spend_their_fuel(rt: HostRuntime) -> Result<(), Fail> {
+    check(rt.alloc(), &[FUEL_RUNS])
 }

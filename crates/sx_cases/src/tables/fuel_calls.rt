@@ -8,10 +8,11 @@ pub const FUEL_CALLS: &str = r#"; each with all fuel that it needs, and its valu
       ((k n e)
        #'(let-syntax
              ((m (begin
-                   ((lambda (ten)
-                      ((lambda (text) (begin (string-copy text) (string-copy text) (substring text 0 (- 888797 n))))
-                       (ten (ten (ten (ten (ten "0123456789")))))))
-                    (lambda (s) (string-append s s s s s s s s s s)))
+                   ((lambda (ten many)
+                      ((lambda (text) (begin (many text) (many text) (substring text 0 (- 88768 n))))
+                       (ten (ten (ten (ten "0123456789"))))))
+                    (lambda (s) (string-append s s s s s s s s s s))
+                    (lambda (s) (string=? s s s s s s s s s s s s s s s s s s s)))
                    e
                    (lambda (t)
                      (letrec ((shown
@@ -56,8 +57,9 @@ pub const FUEL_CALLS: &str = r#"; each with all fuel that it needs, and its valu
 ; and with a unit less than all of them need together it is spent
 (import (rnrs))
 (define-syntax within (lambda (s) (syntax-case s () ((_ n e) #'(let-syntax ((m (begin
-  ((lambda (ten) ((lambda (text) (begin (string-copy text) (string-copy text) (substring text 0 (- 888798 n))))
-    (ten (ten (ten (ten (ten "0123456789"))))))) (lambda (s) (string-append s s s s s s s s s s)))
+  ((lambda (ten many)
+     ((lambda (text) (begin (many text) (many text) (substring text 0 (- 88769 n)))) (ten (ten (ten (ten "0123456789"))))))
+   (lambda (s) (string-append s s s s s s s s s s)) (lambda (s) (string=? s s s s s s s s s s s s s s s s s s s)))
   e))) (m))))))
 §(within 89 (list (+ 1 2 3)
   car
@@ -83,10 +85,11 @@ pub const FUEL_CALLS: &str = r#"; each with all fuel that it needs, and its valu
       ((k n e)
        #'(let-syntax
              ((m (begin
-                   ((lambda (ten)
-                      ((lambda (text) (begin (string-copy text) (string-copy text) (substring text 0 (- 888797 n))))
-                       (ten (ten (ten (ten (ten "0123456789")))))))
-                    (lambda (s) (string-append s s s s s s s s s s)))
+                   ((lambda (ten many)
+                      ((lambda (text) (begin (many text) (many text) (substring text 0 (- 88768 n))))
+                       (ten (ten (ten (ten "0123456789"))))))
+                    (lambda (s) (string-append s s s s s s s s s s))
+                    (lambda (s) (string=? s s s s s s s s s s s s s s s s s s s)))
                    e
                    (lambda (t)
                      (letrec ((shown
@@ -131,8 +134,9 @@ pub const FUEL_CALLS: &str = r#"; each with all fuel that it needs, and its valu
 ; and with a unit less than all of them need together it is spent
 (import (rnrs))
 (define-syntax within (lambda (s) (syntax-case s () ((_ n e) #'(let-syntax ((m (begin
-  ((lambda (ten) ((lambda (text) (begin (string-copy text) (string-copy text) (substring text 0 (- 888798 n))))
-    (ten (ten (ten (ten (ten "0123456789"))))))) (lambda (s) (string-append s s s s s s s s s s)))
+  ((lambda (ten many)
+     ((lambda (text) (begin (many text) (many text) (substring text 0 (- 88769 n)))) (ten (ten (ten (ten "0123456789"))))))
+   (lambda (s) (string-append s s s s s s s s s s)) (lambda (s) (string=? s s s s s s s s s s s s s s s s s s s)))
   e))) (m))))))
 §(within 118 (list (append)
   (list-tail '(1 2 3) 2)
@@ -158,10 +162,11 @@ pub const FUEL_CALLS: &str = r#"; each with all fuel that it needs, and its valu
       ((k n e)
        #'(let-syntax
              ((m (begin
-                   ((lambda (ten)
-                      ((lambda (text) (begin (string-copy text) (string-copy text) (substring text 0 (- 888797 n))))
-                       (ten (ten (ten (ten (ten "0123456789")))))))
-                    (lambda (s) (string-append s s s s s s s s s s)))
+                   ((lambda (ten many)
+                      ((lambda (text) (begin (many text) (many text) (substring text 0 (- 88768 n))))
+                       (ten (ten (ten (ten "0123456789"))))))
+                    (lambda (s) (string-append s s s s s s s s s s))
+                    (lambda (s) (string=? s s s s s s s s s s s s s s s s s s s)))
                    e
                    (lambda (t)
                      (letrec ((shown
@@ -206,8 +211,9 @@ pub const FUEL_CALLS: &str = r#"; each with all fuel that it needs, and its valu
 ; and with a unit less than all of them need together it is spent
 (import (rnrs))
 (define-syntax within (lambda (s) (syntax-case s () ((_ n e) #'(let-syntax ((m (begin
-  ((lambda (ten) ((lambda (text) (begin (string-copy text) (string-copy text) (substring text 0 (- 888798 n))))
-    (ten (ten (ten (ten (ten "0123456789"))))))) (lambda (s) (string-append s s s s s s s s s s)))
+  ((lambda (ten many)
+     ((lambda (text) (begin (many text) (many text) (substring text 0 (- 88769 n)))) (ten (ten (ten (ten "0123456789"))))))
+   (lambda (s) (string-append s s s s s s s s s s)) (lambda (s) (string=? s s s s s s s s s s s s s s s s s s s)))
   e))) (m))))))
 §(within 81 (list (string->list "ab")
   (char<? #\a #\b #\c)
@@ -233,10 +239,11 @@ pub const FUEL_CALLS: &str = r#"; each with all fuel that it needs, and its valu
       ((k n e)
        #'(let-syntax
              ((m (begin
-                   ((lambda (ten)
-                      ((lambda (text) (begin (string-copy text) (string-copy text) (substring text 0 (- 888797 n))))
-                       (ten (ten (ten (ten (ten "0123456789")))))))
-                    (lambda (s) (string-append s s s s s s s s s s)))
+                   ((lambda (ten many)
+                      ((lambda (text) (begin (many text) (many text) (substring text 0 (- 88768 n))))
+                       (ten (ten (ten (ten "0123456789"))))))
+                    (lambda (s) (string-append s s s s s s s s s s))
+                    (lambda (s) (string=? s s s s s s s s s s s s s s s s s s s)))
                    e
                    (lambda (t)
                      (letrec ((shown
@@ -267,8 +274,9 @@ pub const FUEL_CALLS: &str = r#"; each with all fuel that it needs, and its valu
 ; and with a unit less than all of them need together it is spent
 (import (rnrs))
 (define-syntax within (lambda (s) (syntax-case s () ((_ n e) #'(let-syntax ((m (begin
-  ((lambda (ten) ((lambda (text) (begin (string-copy text) (string-copy text) (substring text 0 (- 888798 n))))
-    (ten (ten (ten (ten (ten "0123456789"))))))) (lambda (s) (string-append s s s s s s s s s s)))
+  ((lambda (ten many)
+     ((lambda (text) (begin (many text) (many text) (substring text 0 (- 88769 n)))) (ten (ten (ten (ten "0123456789"))))))
+   (lambda (s) (string-append s s s s s s s s s s)) (lambda (s) (string=? s s s s s s s s s s s s s s s s s s s)))
   e))) (m))))))
 §(within 74 (list ((car (list car cdr)) '(1 2))
   (apply + '(1 2))
@@ -282,8 +290,9 @@ pub const FUEL_CALLS: &str = r#"; each with all fuel that it needs, and its valu
 ; PrimFault within this fuel
 (import (rnrs))
 (define-syntax within (lambda (s) (syntax-case s () ((_ n e) #'(let-syntax ((m (begin
-  ((lambda (ten) ((lambda (text) (begin (string-copy text) (string-copy text) (substring text 0 (- 888798 n))))
-    (ten (ten (ten (ten (ten "0123456789"))))))) (lambda (s) (string-append s s s s s s s s s s)))
+  ((lambda (ten many)
+     ((lambda (text) (begin (many text) (many text) (substring text 0 (- 88769 n)))) (ten (ten (ten (ten "0123456789"))))))
+   (lambda (s) (string-append s s s s s s s s s s)) (lambda (s) (string=? s s s s s s s s s s s s s s s s s s s)))
   e))) (m))))))
 §(within 3 (car '()))
 => 40 PrimFault: car
@@ -291,8 +300,9 @@ pub const FUEL_CALLS: &str = r#"; each with all fuel that it needs, and its valu
 ; less fuel than is needed
 (import (rnrs))
 (define-syntax within (lambda (s) (syntax-case s () ((_ n e) #'(let-syntax ((m (begin
-  ((lambda (ten) ((lambda (text) (begin (string-copy text) (string-copy text) (substring text 0 (- 888798 n))))
-    (ten (ten (ten (ten (ten "0123456789"))))))) (lambda (s) (string-append s s s s s s s s s s)))
+  ((lambda (ten many)
+     ((lambda (text) (begin (many text) (many text) (substring text 0 (- 88769 n)))) (ten (ten (ten (ten "0123456789"))))))
+   (lambda (s) (string-append s s s s s s s s s s)) (lambda (s) (string=? s s s s s s s s s s s s s s s s s s s)))
   e))) (m))))))
 §(within 2 (car '()))
 => 38 FuelSpent
@@ -300,8 +310,9 @@ pub const FUEL_CALLS: &str = r#"; each with all fuel that it needs, and its valu
 ; NoPrimitive within this fuel
 (import (rnrs))
 (define-syntax within (lambda (s) (syntax-case s () ((_ n e) #'(let-syntax ((m (begin
-  ((lambda (ten) ((lambda (text) (begin (string-copy text) (string-copy text) (substring text 0 (- 888798 n))))
-    (ten (ten (ten (ten (ten "0123456789"))))))) (lambda (s) (string-append s s s s s s s s s s)))
+  ((lambda (ten many)
+     ((lambda (text) (begin (many text) (many text) (substring text 0 (- 88769 n)))) (ten (ten (ten (ten "0123456789"))))))
+   (lambda (s) (string-append s s s s s s s s s s)) (lambda (s) (string=? s s s s s s s s s s s s s s s s s s s)))
   e))) (m))))))
 §(within 3 (display 1))
 => 42 NoPrimitive: display
@@ -309,8 +320,9 @@ pub const FUEL_CALLS: &str = r#"; each with all fuel that it needs, and its valu
 ; less fuel than is needed
 (import (rnrs))
 (define-syntax within (lambda (s) (syntax-case s () ((_ n e) #'(let-syntax ((m (begin
-  ((lambda (ten) ((lambda (text) (begin (string-copy text) (string-copy text) (substring text 0 (- 888798 n))))
-    (ten (ten (ten (ten (ten "0123456789"))))))) (lambda (s) (string-append s s s s s s s s s s)))
+  ((lambda (ten many)
+     ((lambda (text) (begin (many text) (many text) (substring text 0 (- 88769 n)))) (ten (ten (ten (ten "0123456789"))))))
+   (lambda (s) (string-append s s s s s s s s s s)) (lambda (s) (string=? s s s s s s s s s s s s s s s s s s s)))
   e))) (m))))))
 §(within 2 (display 1))
 => 38 FuelSpent
@@ -318,8 +330,9 @@ pub const FUEL_CALLS: &str = r#"; each with all fuel that it needs, and its valu
 ; less fuel than is needed
 (import (rnrs))
 (define-syntax within (lambda (s) (syntax-case s () ((_ n e) #'(let-syntax ((m (begin
-  ((lambda (ten) ((lambda (text) (begin (string-copy text) (string-copy text) (substring text 0 (- 888798 n))))
-    (ten (ten (ten (ten (ten "0123456789"))))))) (lambda (s) (string-append s s s s s s s s s s)))
+  ((lambda (ten many)
+     ((lambda (text) (begin (many text) (many text) (substring text 0 (- 88769 n)))) (ten (ten (ten (ten "0123456789"))))))
+   (lambda (s) (string-append s s s s s s s s s s)) (lambda (s) (string=? s s s s s s s s s s s s s s s s s s s)))
   e))) (m))))))
 §(within 7 (list 1 2 3))
 => 38 FuelSpent
@@ -327,8 +340,9 @@ pub const FUEL_CALLS: &str = r#"; each with all fuel that it needs, and its valu
 ; PrimFault within this fuel
 (import (rnrs))
 (define-syntax within (lambda (s) (syntax-case s () ((_ n e) #'(let-syntax ((m (begin
-  ((lambda (ten) ((lambda (text) (begin (string-copy text) (string-copy text) (substring text 0 (- 888798 n))))
-    (ten (ten (ten (ten (ten "0123456789"))))))) (lambda (s) (string-append s s s s s s s s s s)))
+  ((lambda (ten many)
+     ((lambda (text) (begin (many text) (many text) (substring text 0 (- 88769 n)))) (ten (ten (ten (ten "0123456789"))))))
+   (lambda (s) (string-append s s s s s s s s s s)) (lambda (s) (string=? s s s s s s s s s s s s s s s s s s s)))
   e))) (m))))))
 §(within 7 (length '(1 2 . 3)))
 => 40 PrimFault: length
@@ -336,8 +350,9 @@ pub const FUEL_CALLS: &str = r#"; each with all fuel that it needs, and its valu
 ; less fuel than is needed
 (import (rnrs))
 (define-syntax within (lambda (s) (syntax-case s () ((_ n e) #'(let-syntax ((m (begin
-  ((lambda (ten) ((lambda (text) (begin (string-copy text) (string-copy text) (substring text 0 (- 888798 n))))
-    (ten (ten (ten (ten (ten "0123456789"))))))) (lambda (s) (string-append s s s s s s s s s s)))
+  ((lambda (ten many)
+     ((lambda (text) (begin (many text) (many text) (substring text 0 (- 88769 n)))) (ten (ten (ten (ten "0123456789"))))))
+   (lambda (s) (string-append s s s s s s s s s s)) (lambda (s) (string=? s s s s s s s s s s s s s s s s s s s)))
   e))) (m))))))
 §(within 6 (length '(1 2 . 3)))
 => 38 FuelSpent
@@ -345,8 +360,9 @@ pub const FUEL_CALLS: &str = r#"; each with all fuel that it needs, and its valu
 ; less fuel than is needed
 (import (rnrs))
 (define-syntax within (lambda (s) (syntax-case s () ((_ n e) #'(let-syntax ((m (begin
-  ((lambda (ten) ((lambda (text) (begin (string-copy text) (string-copy text) (substring text 0 (- 888798 n))))
-    (ten (ten (ten (ten (ten "0123456789"))))))) (lambda (s) (string-append s s s s s s s s s s)))
+  ((lambda (ten many)
+     ((lambda (text) (begin (many text) (many text) (substring text 0 (- 88769 n)))) (ten (ten (ten (ten "0123456789"))))))
+   (lambda (s) (string-append s s s s s s s s s s)) (lambda (s) (string=? s s s s s s s s s s s s s s s s s s s)))
   e))) (m))))))
 §(within 100 (list-tail '() 2000000))
 => 38 FuelSpent
@@ -354,8 +370,9 @@ pub const FUEL_CALLS: &str = r#"; each with all fuel that it needs, and its valu
 ; PrimFault within this fuel
 (import (rnrs))
 (define-syntax within (lambda (s) (syntax-case s () ((_ n e) #'(let-syntax ((m (begin
-  ((lambda (ten) ((lambda (text) (begin (string-copy text) (string-copy text) (substring text 0 (- 888798 n))))
-    (ten (ten (ten (ten (ten "0123456789"))))))) (lambda (s) (string-append s s s s s s s s s s)))
+  ((lambda (ten many)
+     ((lambda (text) (begin (many text) (many text) (substring text 0 (- 88769 n)))) (ten (ten (ten (ten "0123456789"))))))
+   (lambda (s) (string-append s s s s s s s s s s)) (lambda (s) (string=? s s s s s s s s s s s s s s s s s s s)))
   e))) (m))))))
 §(within 7 (list-tail '() 3))
 => 40 PrimFault: list-tail
@@ -363,8 +380,9 @@ pub const FUEL_CALLS: &str = r#"; each with all fuel that it needs, and its valu
 ; PrimFault within this fuel
 (import (rnrs))
 (define-syntax within (lambda (s) (syntax-case s () ((_ n e) #'(let-syntax ((m (begin
-  ((lambda (ten) ((lambda (text) (begin (string-copy text) (string-copy text) (substring text 0 (- 888798 n))))
-    (ten (ten (ten (ten (ten "0123456789"))))))) (lambda (s) (string-append s s s s s s s s s s)))
+  ((lambda (ten many)
+     ((lambda (text) (begin (many text) (many text) (substring text 0 (- 88769 n)))) (ten (ten (ten (ten "0123456789"))))))
+   (lambda (s) (string-append s s s s s s s s s s)) (lambda (s) (string=? s s s s s s s s s s s s s s s s s s s)))
   e))) (m))))))
 §(within 3 (car 5))
 => 40 PrimFault: car
@@ -372,8 +390,9 @@ pub const FUEL_CALLS: &str = r#"; each with all fuel that it needs, and its valu
 ; Arity within this fuel
 (import (rnrs))
 (define-syntax within (lambda (s) (syntax-case s () ((_ n e) #'(let-syntax ((m (begin
-  ((lambda (ten) ((lambda (text) (begin (string-copy text) (string-copy text) (substring text 0 (- 888798 n))))
-    (ten (ten (ten (ten (ten "0123456789"))))))) (lambda (s) (string-append s s s s s s s s s s)))
+  ((lambda (ten many)
+     ((lambda (text) (begin (many text) (many text) (substring text 0 (- 88769 n)))) (ten (ten (ten (ten "0123456789"))))))
+   (lambda (s) (string-append s s s s s s s s s s)) (lambda (s) (string=? s s s s s s s s s s s s s s s s s s s)))
   e))) (m))))))
 §(within 2 (car))
 => 39 Arity: 0
@@ -381,8 +400,9 @@ pub const FUEL_CALLS: &str = r#"; each with all fuel that it needs, and its valu
 ; Arity within this fuel
 (import (rnrs))
 (define-syntax within (lambda (s) (syntax-case s () ((_ n e) #'(let-syntax ((m (begin
-  ((lambda (ten) ((lambda (text) (begin (string-copy text) (string-copy text) (substring text 0 (- 888798 n))))
-    (ten (ten (ten (ten (ten "0123456789"))))))) (lambda (s) (string-append s s s s s s s s s s)))
+  ((lambda (ten many)
+     ((lambda (text) (begin (many text) (many text) (substring text 0 (- 88769 n)))) (ten (ten (ten (ten "0123456789"))))))
+   (lambda (s) (string-append s s s s s s s s s s)) (lambda (s) (string=? s s s s s s s s s s s s s s s s s s s)))
   e))) (m))))))
 §(within 5 (car '(1) 2))
 => 39 Arity: 2
@@ -390,8 +410,9 @@ pub const FUEL_CALLS: &str = r#"; each with all fuel that it needs, and its valu
 ; less fuel than is needed
 (import (rnrs))
 (define-syntax within (lambda (s) (syntax-case s () ((_ n e) #'(let-syntax ((m (begin
-  ((lambda (ten) ((lambda (text) (begin (string-copy text) (string-copy text) (substring text 0 (- 888798 n))))
-    (ten (ten (ten (ten (ten "0123456789"))))))) (lambda (s) (string-append s s s s s s s s s s)))
+  ((lambda (ten many)
+     ((lambda (text) (begin (many text) (many text) (substring text 0 (- 88769 n)))) (ten (ten (ten (ten "0123456789"))))))
+   (lambda (s) (string-append s s s s s s s s s s)) (lambda (s) (string=? s s s s s s s s s s s s s s s s s s s)))
   e))) (m))))))
 §(within 4 (car '(1) 2))
 => 38 FuelSpent
@@ -399,8 +420,9 @@ pub const FUEL_CALLS: &str = r#"; each with all fuel that it needs, and its valu
 ; Arity within this fuel
 (import (rnrs))
 (define-syntax within (lambda (s) (syntax-case s () ((_ n e) #'(let-syntax ((m (begin
-  ((lambda (ten) ((lambda (text) (begin (string-copy text) (string-copy text) (substring text 0 (- 888798 n))))
-    (ten (ten (ten (ten (ten "0123456789"))))))) (lambda (s) (string-append s s s s s s s s s s)))
+  ((lambda (ten many)
+     ((lambda (text) (begin (many text) (many text) (substring text 0 (- 88769 n)))) (ten (ten (ten (ten "0123456789"))))))
+   (lambda (s) (string-append s s s s s s s s s s)) (lambda (s) (string=? s s s s s s s s s s s s s s s s s s s)))
   e))) (m))))))
 §(within 3 (cons 1))
 => 39 Arity: 1
@@ -408,8 +430,9 @@ pub const FUEL_CALLS: &str = r#"; each with all fuel that it needs, and its valu
 ; Arity within this fuel
 (import (rnrs))
 (define-syntax within (lambda (s) (syntax-case s () ((_ n e) #'(let-syntax ((m (begin
-  ((lambda (ten) ((lambda (text) (begin (string-copy text) (string-copy text) (substring text 0 (- 888798 n))))
-    (ten (ten (ten (ten (ten "0123456789"))))))) (lambda (s) (string-append s s s s s s s s s s)))
+  ((lambda (ten many)
+     ((lambda (text) (begin (many text) (many text) (substring text 0 (- 88769 n)))) (ten (ten (ten (ten "0123456789"))))))
+   (lambda (s) (string-append s s s s s s s s s s)) (lambda (s) (string=? s s s s s s s s s s s s s s s s s s s)))
   e))) (m))))))
 §(within 6 (substring "abc"))
 => 39 Arity: 1
@@ -417,8 +440,9 @@ pub const FUEL_CALLS: &str = r#"; each with all fuel that it needs, and its valu
 ; PrimFault within this fuel
 (import (rnrs))
 (define-syntax within (lambda (s) (syntax-case s () ((_ n e) #'(let-syntax ((m (begin
-  ((lambda (ten) ((lambda (text) (begin (string-copy text) (string-copy text) (substring text 0 (- 888798 n))))
-    (ten (ten (ten (ten (ten "0123456789"))))))) (lambda (s) (string-append s s s s s s s s s s)))
+  ((lambda (ten many)
+     ((lambda (text) (begin (many text) (many text) (substring text 0 (- 88769 n)))) (ten (ten (ten (ten "0123456789"))))))
+   (lambda (s) (string-append s s s s s s s s s s)) (lambda (s) (string=? s s s s s s s s s s s s s s s s s s s)))
   e))) (m))))))
 §(within 4 (div 1 0))
 => 40 PrimFault: div
@@ -426,8 +450,9 @@ pub const FUEL_CALLS: &str = r#"; each with all fuel that it needs, and its valu
 ; PrimFault within this fuel
 (import (rnrs))
 (define-syntax within (lambda (s) (syntax-case s () ((_ n e) #'(let-syntax ((m (begin
-  ((lambda (ten) ((lambda (text) (begin (string-copy text) (string-copy text) (substring text 0 (- 888798 n))))
-    (ten (ten (ten (ten (ten "0123456789"))))))) (lambda (s) (string-append s s s s s s s s s s)))
+  ((lambda (ten many)
+     ((lambda (text) (begin (many text) (many text) (substring text 0 (- 88769 n)))) (ten (ten (ten (ten "0123456789"))))))
+   (lambda (s) (string-append s s s s s s s s s s)) (lambda (s) (string=? s s s s s s s s s s s s s s s s s s s)))
   e))) (m))))))
 §(within 4 (+ 1 'a))
 => 40 PrimFault: +
@@ -435,8 +460,9 @@ pub const FUEL_CALLS: &str = r#"; each with all fuel that it needs, and its valu
 ; PrimFault within this fuel
 (import (rnrs))
 (define-syntax within (lambda (s) (syntax-case s () ((_ n e) #'(let-syntax ((m (begin
-  ((lambda (ten) ((lambda (text) (begin (string-copy text) (string-copy text) (substring text 0 (- 888798 n))))
-    (ten (ten (ten (ten (ten "0123456789"))))))) (lambda (s) (string-append s s s s s s s s s s)))
+  ((lambda (ten many)
+     ((lambda (text) (begin (many text) (many text) (substring text 0 (- 88769 n)))) (ten (ten (ten (ten "0123456789"))))))
+   (lambda (s) (string-append s s s s s s s s s s)) (lambda (s) (string=? s s s s s s s s s s s s s s s s s s s)))
   e))) (m))))))
 §(within 4 (+ 170141183460469231731687303715884105727 1))
 => 40 PrimFault: +
@@ -444,8 +470,9 @@ pub const FUEL_CALLS: &str = r#"; each with all fuel that it needs, and its valu
 ; Raised within this fuel
 (import (rnrs))
 (define-syntax within (lambda (s) (syntax-case s () ((_ n e) #'(let-syntax ((m (begin
-  ((lambda (ten) ((lambda (text) (begin (string-copy text) (string-copy text) (substring text 0 (- 888798 n))))
-    (ten (ten (ten (ten (ten "0123456789"))))))) (lambda (s) (string-append s s s s s s s s s s)))
+  ((lambda (ten many)
+     ((lambda (text) (begin (many text) (many text) (substring text 0 (- 88769 n)))) (ten (ten (ten (ten "0123456789"))))))
+   (lambda (s) (string-append s s s s s s s s s s)) (lambda (s) (string=? s s s s s s s s s s s s s s s s s s s)))
   e))) (m))))))
 §(within 5 (error 'a "b"))
 => 44 Raised: b
@@ -453,8 +480,9 @@ pub const FUEL_CALLS: &str = r#"; each with all fuel that it needs, and its valu
 ; Raised within this fuel
 (import (rnrs))
 (define-syntax within (lambda (s) (syntax-case s () ((_ n e) #'(let-syntax ((m (begin
-  ((lambda (ten) ((lambda (text) (begin (string-copy text) (string-copy text) (substring text 0 (- 888798 n))))
-    (ten (ten (ten (ten (ten "0123456789"))))))) (lambda (s) (string-append s s s s s s s s s s)))
+  ((lambda (ten many)
+     ((lambda (text) (begin (many text) (many text) (substring text 0 (- 88769 n)))) (ten (ten (ten (ten "0123456789"))))))
+   (lambda (s) (string-append s s s s s s s s s s)) (lambda (s) (string=? s s s s s s s s s s s s s s s s s s s)))
   e))) (m))))))
 §(within 4 (error 'a 5))
 => 44 Raised
@@ -462,8 +490,9 @@ pub const FUEL_CALLS: &str = r#"; each with all fuel that it needs, and its valu
 ; less fuel than is needed
 (import (rnrs))
 (define-syntax within (lambda (s) (syntax-case s () ((_ n e) #'(let-syntax ((m (begin
-  ((lambda (ten) ((lambda (text) (begin (string-copy text) (string-copy text) (substring text 0 (- 888798 n))))
-    (ten (ten (ten (ten (ten "0123456789"))))))) (lambda (s) (string-append s s s s s s s s s s)))
+  ((lambda (ten many)
+     ((lambda (text) (begin (many text) (many text) (substring text 0 (- 88769 n)))) (ten (ten (ten (ten "0123456789"))))))
+   (lambda (s) (string-append s s s s s s s s s s)) (lambda (s) (string=? s s s s s s s s s s s s s s s s s s s)))
   e))) (m))))))
 §(within 3 (error 'a 5))
 => 38 FuelSpent
@@ -471,8 +500,9 @@ pub const FUEL_CALLS: &str = r#"; each with all fuel that it needs, and its valu
 ; PrimFault within this fuel
 (import (rnrs))
 (define-syntax within (lambda (s) (syntax-case s () ((_ n e) #'(let-syntax ((m (begin
-  ((lambda (ten) ((lambda (text) (begin (string-copy text) (string-copy text) (substring text 0 (- 888798 n))))
-    (ten (ten (ten (ten (ten "0123456789"))))))) (lambda (s) (string-append s s s s s s s s s s)))
+  ((lambda (ten many)
+     ((lambda (text) (begin (many text) (many text) (substring text 0 (- 88769 n)))) (ten (ten (ten (ten "0123456789"))))))
+   (lambda (s) (string-append s s s s s s s s s s)) (lambda (s) (string=? s s s s s s s s s s s s s s s s s s s)))
   e))) (m))))))
 §(within 5 (error 5 "x"))
 => 40 PrimFault: error
@@ -480,8 +510,9 @@ pub const FUEL_CALLS: &str = r#"; each with all fuel that it needs, and its valu
 ; Raised within this fuel
 (import (rnrs))
 (define-syntax within (lambda (s) (syntax-case s () ((_ n e) #'(let-syntax ((m (begin
-  ((lambda (ten) ((lambda (text) (begin (string-copy text) (string-copy text) (substring text 0 (- 888798 n))))
-    (ten (ten (ten (ten (ten "0123456789"))))))) (lambda (s) (string-append s s s s s s s s s s)))
+  ((lambda (ten many)
+     ((lambda (text) (begin (many text) (many text) (substring text 0 (- 88769 n)))) (ten (ten (ten (ten "0123456789"))))))
+   (lambda (s) (string-append s s s s s s s s s s)) (lambda (s) (string=? s s s s s s s s s s s s s s s s s s s)))
   e))) (m))))))
 §(within 3 (raise 1))
 => 44 Raised
@@ -489,8 +520,9 @@ pub const FUEL_CALLS: &str = r#"; each with all fuel that it needs, and its valu
 ; Raised within this fuel
 (import (rnrs))
 (define-syntax within (lambda (s) (syntax-case s () ((_ n e) #'(let-syntax ((m (begin
-  ((lambda (ten) ((lambda (text) (begin (string-copy text) (string-copy text) (substring text 0 (- 888798 n))))
-    (ten (ten (ten (ten (ten "0123456789"))))))) (lambda (s) (string-append s s s s s s s s s s)))
+  ((lambda (ten many)
+     ((lambda (text) (begin (many text) (many text) (substring text 0 (- 88769 n)))) (ten (ten (ten (ten "0123456789"))))))
+   (lambda (s) (string-append s s s s s s s s s s)) (lambda (s) (string=? s s s s s s s s s s s s s s s s s s s)))
   e))) (m))))))
 §(within 7 (assertion-violation #f "no" 1))
 => 44 Raised: no
@@ -498,8 +530,9 @@ pub const FUEL_CALLS: &str = r#"; each with all fuel that it needs, and its valu
 ; Raised within this fuel
 (import (rnrs))
 (define-syntax within (lambda (s) (syntax-case s () ((_ n e) #'(let-syntax ((m (begin
-  ((lambda (ten) ((lambda (text) (begin (string-copy text) (string-copy text) (substring text 0 (- 888798 n))))
-    (ten (ten (ten (ten (ten "0123456789"))))))) (lambda (s) (string-append s s s s s s s s s s)))
+  ((lambda (ten many)
+     ((lambda (text) (begin (many text) (many text) (substring text 0 (- 88769 n)))) (ten (ten (ten (ten "0123456789"))))))
+   (lambda (s) (string-append s s s s s s s s s s)) (lambda (s) (string=? s s s s s s s s s s s s s s s s s s s)))
   e))) (m))))))
 §(within 8 (syntax-violation 'm "bad" 1))
 => 44 Raised: bad
@@ -507,8 +540,9 @@ pub const FUEL_CALLS: &str = r#"; each with all fuel that it needs, and its valu
 ; NoPrimitive within this fuel
 (import (rnrs))
 (define-syntax within (lambda (s) (syntax-case s () ((_ n e) #'(let-syntax ((m (begin
-  ((lambda (ten) ((lambda (text) (begin (string-copy text) (string-copy text) (substring text 0 (- 888798 n))))
-    (ten (ten (ten (ten (ten "0123456789"))))))) (lambda (s) (string-append s s s s s s s s s s)))
+  ((lambda (ten many)
+     ((lambda (text) (begin (many text) (many text) (substring text 0 (- 88769 n)))) (ten (ten (ten (ten "0123456789"))))))
+   (lambda (s) (string-append s s s s s s s s s s)) (lambda (s) (string=? s s s s s s s s s s s s s s s s s s s)))
   e))) (m))))))
 §(within 6 (vector-set! '#(1) 0 1))
 => 42 NoPrimitive: vector-set!
@@ -516,8 +550,9 @@ pub const FUEL_CALLS: &str = r#"; each with all fuel that it needs, and its valu
 ; NoPrimitive within this fuel
 (import (rnrs))
 (define-syntax within (lambda (s) (syntax-case s () ((_ n e) #'(let-syntax ((m (begin
-  ((lambda (ten) ((lambda (text) (begin (string-copy text) (string-copy text) (substring text 0 (- 888798 n))))
-    (ten (ten (ten (ten (ten "0123456789"))))))) (lambda (s) (string-append s s s s s s s s s s)))
+  ((lambda (ten many)
+     ((lambda (text) (begin (many text) (many text) (substring text 0 (- 88769 n)))) (ten (ten (ten (ten "0123456789"))))))
+   (lambda (s) (string-append s s s s s s s s s s)) (lambda (s) (string=? s s s s s s s s s s s s s s s s s s s)))
   e))) (m))))))
 §(within 3 (call/cc car))
 => 42 NoPrimitive: call/cc
@@ -525,8 +560,9 @@ pub const FUEL_CALLS: &str = r#"; each with all fuel that it needs, and its valu
 ; PrimFault within this fuel
 (import (rnrs))
 (define-syntax within (lambda (s) (syntax-case s () ((_ n e) #'(let-syntax ((m (begin
-  ((lambda (ten) ((lambda (text) (begin (string-copy text) (string-copy text) (substring text 0 (- 888798 n))))
-    (ten (ten (ten (ten (ten "0123456789"))))))) (lambda (s) (string-append s s s s s s s s s s)))
+  ((lambda (ten many)
+     ((lambda (text) (begin (many text) (many text) (substring text 0 (- 88769 n)))) (ten (ten (ten (ten "0123456789"))))))
+   (lambda (s) (string-append s s s s s s s s s s)) (lambda (s) (string=? s s s s s s s s s s s s s s s s s s s)))
   e))) (m))))))
 §(within 3 (5 1))
 => 40 PrimFault: call
@@ -534,8 +570,9 @@ pub const FUEL_CALLS: &str = r#"; each with all fuel that it needs, and its valu
 ; PrimFault within this fuel
 (import (rnrs))
 (define-syntax within (lambda (s) (syntax-case s () ((_ n e) #'(let-syntax ((m (begin
-  ((lambda (ten) ((lambda (text) (begin (string-copy text) (string-copy text) (substring text 0 (- 888798 n))))
-    (ten (ten (ten (ten (ten "0123456789"))))))) (lambda (s) (string-append s s s s s s s s s s)))
+  ((lambda (ten many)
+     ((lambda (text) (begin (many text) (many text) (substring text 0 (- 88769 n)))) (ten (ten (ten (ten "0123456789"))))))
+   (lambda (s) (string-append s s s s s s s s s s)) (lambda (s) (string=? s s s s s s s s s s s s s s s s s s s)))
   e))) (m))))))
 §(within 9 (5 (car '())))
 => 40 PrimFault: car
@@ -543,8 +580,9 @@ pub const FUEL_CALLS: &str = r#"; each with all fuel that it needs, and its valu
 ; PrimFault within this fuel
 (import (rnrs))
 (define-syntax within (lambda (s) (syntax-case s () ((_ n e) #'(let-syntax ((m (begin
-  ((lambda (ten) ((lambda (text) (begin (string-copy text) (string-copy text) (substring text 0 (- 888798 n))))
-    (ten (ten (ten (ten (ten "0123456789"))))))) (lambda (s) (string-append s s s s s s s s s s)))
+  ((lambda (ten many)
+     ((lambda (text) (begin (many text) (many text) (substring text 0 (- 88769 n)))) (ten (ten (ten (ten "0123456789"))))))
+   (lambda (s) (string-append s s s s s s s s s s)) (lambda (s) (string=? s s s s s s s s s s s s s s s s s s s)))
   e))) (m))))))
 §(within 3 ("a"))
 => 40 PrimFault: call
@@ -552,8 +590,9 @@ pub const FUEL_CALLS: &str = r#"; each with all fuel that it needs, and its valu
 ; less fuel than is needed
 (import (rnrs))
 (define-syntax within (lambda (s) (syntax-case s () ((_ n e) #'(let-syntax ((m (begin
-  ((lambda (ten) ((lambda (text) (begin (string-copy text) (string-copy text) (substring text 0 (- 888798 n))))
-    (ten (ten (ten (ten (ten "0123456789"))))))) (lambda (s) (string-append s s s s s s s s s s)))
+  ((lambda (ten many)
+     ((lambda (text) (begin (many text) (many text) (substring text 0 (- 88769 n)))) (ten (ten (ten (ten "0123456789"))))))
+   (lambda (s) (string-append s s s s s s s s s s)) (lambda (s) (string=? s s s s s s s s s s s s s s s s s s s)))
   e))) (m))))))
 §(within 7 (apply + '(1 2)))
 => 38 FuelSpent
@@ -561,8 +600,9 @@ pub const FUEL_CALLS: &str = r#"; each with all fuel that it needs, and its valu
 ; Arity within this fuel
 (import (rnrs))
 (define-syntax within (lambda (s) (syntax-case s () ((_ n e) #'(let-syntax ((m (begin
-  ((lambda (ten) ((lambda (text) (begin (string-copy text) (string-copy text) (substring text 0 (- 888798 n))))
-    (ten (ten (ten (ten (ten "0123456789"))))))) (lambda (s) (string-append s s s s s s s s s s)))
+  ((lambda (ten many)
+     ((lambda (text) (begin (many text) (many text) (substring text 0 (- 88769 n)))) (ten (ten (ten (ten "0123456789"))))))
+   (lambda (s) (string-append s s s s s s s s s s)) (lambda (s) (string=? s s s s s s s s s s s s s s s s s s s)))
   e))) (m))))))
 §(within 3 (apply car))
 => 39 Arity: 1
@@ -570,8 +610,9 @@ pub const FUEL_CALLS: &str = r#"; each with all fuel that it needs, and its valu
 ; Arity within this fuel
 (import (rnrs))
 (define-syntax within (lambda (s) (syntax-case s () ((_ n e) #'(let-syntax ((m (begin
-  ((lambda (ten) ((lambda (text) (begin (string-copy text) (string-copy text) (substring text 0 (- 888798 n))))
-    (ten (ten (ten (ten (ten "0123456789"))))))) (lambda (s) (string-append s s s s s s s s s s)))
+  ((lambda (ten many)
+     ((lambda (text) (begin (many text) (many text) (substring text 0 (- 88769 n)))) (ten (ten (ten (ten "0123456789"))))))
+   (lambda (s) (string-append s s s s s s s s s s)) (lambda (s) (string=? s s s s s s s s s s s s s s s s s s s)))
   e))) (m))))))
 §(within 2 (apply))
 => 39 Arity: 0
@@ -579,8 +620,9 @@ pub const FUEL_CALLS: &str = r#"; each with all fuel that it needs, and its valu
 ; PrimFault within this fuel
 (import (rnrs))
 (define-syntax within (lambda (s) (syntax-case s () ((_ n e) #'(let-syntax ((m (begin
-  ((lambda (ten) ((lambda (text) (begin (string-copy text) (string-copy text) (substring text 0 (- 888798 n))))
-    (ten (ten (ten (ten (ten "0123456789"))))))) (lambda (s) (string-append s s s s s s s s s s)))
+  ((lambda (ten many)
+     ((lambda (text) (begin (many text) (many text) (substring text 0 (- 88769 n)))) (ten (ten (ten (ten "0123456789"))))))
+   (lambda (s) (string-append s s s s s s s s s s)) (lambda (s) (string=? s s s s s s s s s s s s s s s s s s s)))
   e))) (m))))))
 §(within 4 (apply car 5))
 => 40 PrimFault: apply
@@ -588,8 +630,9 @@ pub const FUEL_CALLS: &str = r#"; each with all fuel that it needs, and its valu
 ; PrimFault within this fuel
 (import (rnrs))
 (define-syntax within (lambda (s) (syntax-case s () ((_ n e) #'(let-syntax ((m (begin
-  ((lambda (ten) ((lambda (text) (begin (string-copy text) (string-copy text) (substring text 0 (- 888798 n))))
-    (ten (ten (ten (ten (ten "0123456789"))))))) (lambda (s) (string-append s s s s s s s s s s)))
+  ((lambda (ten many)
+     ((lambda (text) (begin (many text) (many text) (substring text 0 (- 88769 n)))) (ten (ten (ten (ten "0123456789"))))))
+   (lambda (s) (string-append s s s s s s s s s s)) (lambda (s) (string=? s s s s s s s s s s s s s s s s s s s)))
   e))) (m))))))
 §(within 5 (apply car '(1 . 2)))
 => 40 PrimFault: apply
@@ -597,8 +640,9 @@ pub const FUEL_CALLS: &str = r#"; each with all fuel that it needs, and its valu
 ; Arity within this fuel
 (import (rnrs))
 (define-syntax within (lambda (s) (syntax-case s () ((_ n e) #'(let-syntax ((m (begin
-  ((lambda (ten) ((lambda (text) (begin (string-copy text) (string-copy text) (substring text 0 (- 888798 n))))
-    (ten (ten (ten (ten (ten "0123456789"))))))) (lambda (s) (string-append s s s s s s s s s s)))
+  ((lambda (ten many)
+     ((lambda (text) (begin (many text) (many text) (substring text 0 (- 88769 n)))) (ten (ten (ten (ten "0123456789"))))))
+   (lambda (s) (string-append s s s s s s s s s s)) (lambda (s) (string=? s s s s s s s s s s s s s s s s s s s)))
   e))) (m))))))
 §(within 9 (apply apply apply '(car ())))
 => 39 Arity: 1
@@ -606,8 +650,9 @@ pub const FUEL_CALLS: &str = r#"; each with all fuel that it needs, and its valu
 ; PrimFault within this fuel
 (import (rnrs))
 (define-syntax within (lambda (s) (syntax-case s () ((_ n e) #'(let-syntax ((m (begin
-  ((lambda (ten) ((lambda (text) (begin (string-copy text) (string-copy text) (substring text 0 (- 888798 n))))
-    (ten (ten (ten (ten (ten "0123456789"))))))) (lambda (s) (string-append s s s s s s s s s s)))
+  ((lambda (ten many)
+     ((lambda (text) (begin (many text) (many text) (substring text 0 (- 88769 n)))) (ten (ten (ten (ten "0123456789"))))))
+   (lambda (s) (string-append s s s s s s s s s s)) (lambda (s) (string=? s s s s s s s s s s s s s s s s s s s)))
   e))) (m))))))
 §(within 4 (apply 5 '()))
 => 40 PrimFault: call"#;

@@ -8,10 +8,11 @@ pub const FUEL_COSTS: &str = r#"; each with all fuel that it needs, and its valu
       ((k n e)
        #'(let-syntax
              ((m (begin
-                   ((lambda (ten)
-                      ((lambda (text) (begin (string-copy text) (string-copy text) (substring text 0 (- 888797 n))))
-                       (ten (ten (ten (ten (ten "0123456789")))))))
-                    (lambda (s) (string-append s s s s s s s s s s)))
+                   ((lambda (ten many)
+                      ((lambda (text) (begin (many text) (many text) (substring text 0 (- 88768 n))))
+                       (ten (ten (ten (ten "0123456789"))))))
+                    (lambda (s) (string-append s s s s s s s s s s))
+                    (lambda (s) (string=? s s s s s s s s s s s s s s s s s s s)))
                    e
                    (lambda (t)
                      (letrec ((shown
@@ -40,6 +41,10 @@ pub const FUEL_COSTS: &str = r#"; each with all fuel that it needs, and its valu
 (spends 4 (vector 1))
 (spends 6 (string #\a #\b))
 (spends 9 (length '(1 2 3)))
+(spends 7 (list? '(1 2)))
+(spends 11 (reverse '(1 2 3 4)))
+(spends 10 (memq 'a '(a b c)))
+(spends 8 (memq '(1 2) '(a)))
 => (quote (1 . 2))
 3
 15
@@ -56,14 +61,19 @@ pub const FUEL_COSTS: &str = r#"; each with all fuel that it needs, and its valu
 (quote #(1))
 "ab"
 3
+#t
+(quote (4 3 2 1))
+(quote (a b c))
+#f
 
 ; and with a unit less than all of them need together it is spent
 (import (rnrs))
 (define-syntax within (lambda (s) (syntax-case s () ((_ n e) #'(let-syntax ((m (begin
-  ((lambda (ten) ((lambda (text) (begin (string-copy text) (string-copy text) (substring text 0 (- 888798 n))))
-    (ten (ten (ten (ten (ten "0123456789"))))))) (lambda (s) (string-append s s s s s s s s s s)))
+  ((lambda (ten many)
+     ((lambda (text) (begin (many text) (many text) (substring text 0 (- 88769 n)))) (ten (ten (ten (ten "0123456789"))))))
+   (lambda (s) (string-append s s s s s s s s s s)) (lambda (s) (string=? s s s s s s s s s s s s s s s s s s s)))
   e))) (m))))))
-§(within 109 (list (cons 1 2)
+§(within 149 (list (cons 1 2)
   (+ 1 2)
   (+ 1 2 3 4 5)
   (+)
@@ -78,7 +88,11 @@ pub const FUEL_COSTS: &str = r#"; each with all fuel that it needs, and its valu
   (cons* 1 2 3)
   (vector 1)
   (string #\a #\b)
-  (length '(1 2 3))))
+  (length '(1 2 3))
+  (list? '(1 2))
+  (reverse '(1 2 3 4))
+  (memq 'a '(a b c))
+  (memq '(1 2) '(a))))
 => 38 FuelSpent
 
 ; each with all fuel that it needs, and its value
@@ -89,10 +103,11 @@ pub const FUEL_COSTS: &str = r#"; each with all fuel that it needs, and its valu
       ((k n e)
        #'(let-syntax
              ((m (begin
-                   ((lambda (ten)
-                      ((lambda (text) (begin (string-copy text) (string-copy text) (substring text 0 (- 888797 n))))
-                       (ten (ten (ten (ten (ten "0123456789")))))))
-                    (lambda (s) (string-append s s s s s s s s s s)))
+                   ((lambda (ten many)
+                      ((lambda (text) (begin (many text) (many text) (substring text 0 (- 88768 n))))
+                       (ten (ten (ten (ten "0123456789"))))))
+                    (lambda (s) (string-append s s s s s s s s s s))
+                    (lambda (s) (string=? s s s s s s s s s s s s s s s s s s s)))
                    e
                    (lambda (t)
                      (letrec ((shown
@@ -105,10 +120,6 @@ pub const FUEL_COSTS: &str = r#"; each with all fuel that it needs, and its valu
                                        (else (list 'syntax (syntax->datum x)))))))
                        #`(quote #,(datum->syntax #'k (shown e))))))))
            (m))))))
-(spends 7 (list? '(1 2)))
-(spends 11 (reverse '(1 2 3 4)))
-(spends 10 (memq 'a '(a b c)))
-(spends 8 (memq '(1 2) '(a)))
 (spends 12 (assq 'b '((a 1) (b 2))))
 (spends 8 (remv 1 '(1 2)))
 (spends 2 (append))
@@ -121,11 +132,15 @@ pub const FUEL_COSTS: &str = r#"; each with all fuel that it needs, and its valu
 (spends 2 (string-append))
 (spends 13 (substring "abcde" 1 4))
 (spends 9 (string-copy "abc"))
-=> #t
-(quote (4 3 2 1))
-(quote (a b c))
-#f
-(quote (b 2))
+(spends 6 (symbol->string 'abc))
+(spends 11 (string->symbol "abcd"))
+(spends 3 (number->string 12345))
+(spends 14 (string=? "ab" "cde"))
+(spends 3 (identifier? #'a))
+(spends 6 (generate-temporaries #'(a b c)))
+(spends 7 (generate-temporaries '(1 2)))
+(spends 18 (equal? '(1 2) '(1 2)))
+=> (quote (b 2))
 (quote (2))
 (quote ())
 (quote (1 2 3))
@@ -137,18 +152,23 @@ pub const FUEL_COSTS: &str = r#"; each with all fuel that it needs, and its valu
 ""
 "bcd"
 "abc"
+"abc"
+(quote abcd)
+"12345"
+#f
+#t
+(quote ((syntax temp) (syntax temp) (syntax temp)))
+(quote ((syntax temp) (syntax temp)))
+#t
 
 ; and with a unit less than all of them need together it is spent
 (import (rnrs))
 (define-syntax within (lambda (s) (syntax-case s () ((_ n e) #'(let-syntax ((m (begin
-  ((lambda (ten) ((lambda (text) (begin (string-copy text) (string-copy text) (substring text 0 (- 888798 n))))
-    (ten (ten (ten (ten (ten "0123456789"))))))) (lambda (s) (string-append s s s s s s s s s s)))
+  ((lambda (ten many)
+     ((lambda (text) (begin (many text) (many text) (substring text 0 (- 88769 n)))) (ten (ten (ten (ten "0123456789"))))))
+   (lambda (s) (string-append s s s s s s s s s s)) (lambda (s) (string=? s s s s s s s s s s s s s s s s s s s)))
   e))) (m))))))
-§(within 150 (list (list? '(1 2))
-  (reverse '(1 2 3 4))
-  (memq 'a '(a b c))
-  (memq '(1 2) '(a))
-  (assq 'b '((a 1) (b 2)))
+§(within 186 (list (assq 'b '((a 1) (b 2)))
   (remv 1 '(1 2))
   (append)
   (append '(1 2 3))
@@ -159,7 +179,15 @@ pub const FUEL_COSTS: &str = r#"; each with all fuel that it needs, and its valu
   (string-append "ab" "\x3BB;")
   (string-append)
   (substring "abcde" 1 4)
-  (string-copy "abc")))
+  (string-copy "abc")
+  (symbol->string 'abc)
+  (string->symbol "abcd")
+  (number->string 12345)
+  (string=? "ab" "cde")
+  (identifier? #'a)
+  (generate-temporaries #'(a b c))
+  (generate-temporaries '(1 2))
+  (equal? '(1 2) '(1 2))))
 => 38 FuelSpent
 
 ; each with all fuel that it needs, and its value
@@ -170,10 +198,11 @@ pub const FUEL_COSTS: &str = r#"; each with all fuel that it needs, and its valu
       ((k n e)
        #'(let-syntax
              ((m (begin
-                   ((lambda (ten)
-                      ((lambda (text) (begin (string-copy text) (string-copy text) (substring text 0 (- 888797 n))))
-                       (ten (ten (ten (ten (ten "0123456789")))))))
-                    (lambda (s) (string-append s s s s s s s s s s)))
+                   ((lambda (ten many)
+                      ((lambda (text) (begin (many text) (many text) (substring text 0 (- 88768 n))))
+                       (ten (ten (ten (ten "0123456789"))))))
+                    (lambda (s) (string-append s s s s s s s s s s))
+                    (lambda (s) (string=? s s s s s s s s s s s s s s s s s s s)))
                    e
                    (lambda (t)
                      (letrec ((shown
@@ -186,14 +215,6 @@ pub const FUEL_COSTS: &str = r#"; each with all fuel that it needs, and its valu
                                        (else (list 'syntax (syntax->datum x)))))))
                        #`(quote #,(datum->syntax #'k (shown e))))))))
            (m))))))
-(spends 6 (symbol->string 'abc))
-(spends 11 (string->symbol "abcd"))
-(spends 3 (number->string 12345))
-(spends 14 (string=? "ab" "cde"))
-(spends 3 (identifier? #'a))
-(spends 6 (generate-temporaries #'(a b c)))
-(spends 7 (generate-temporaries '(1 2)))
-(spends 18 (equal? '(1 2) '(1 2)))
 (spends 12 (equal? "abc" 'a))
 (spends 12 (equal? '#(1 2) '()))
 (spends 5 (equal? car 1))
@@ -202,71 +223,6 @@ pub const FUEL_COSTS: &str = r#"; each with all fuel that it needs, and its valu
 (spends 12 (assoc 'a '((a . 1))))
 (spends 6 (syntax->datum #'(a b)))
 (spends 13 (syntax->datum (list #'a 1)))
-=> "abc"
-(quote abcd)
-"12345"
-#f
-#t
-(quote ((syntax temp) (syntax temp) (syntax temp)))
-(quote ((syntax temp) (syntax temp)))
-#t
-#f
-#f
-#f
-#f
-(quote (1))
-(quote (a . 1))
-(quote (a b))
-(quote (a 1))
-
-; and with a unit less than all of them need together it is spent
-(import (rnrs))
-(define-syntax within (lambda (s) (syntax-case s () ((_ n e) #'(let-syntax ((m (begin
-  ((lambda (ten) ((lambda (text) (begin (string-copy text) (string-copy text) (substring text 0 (- 888798 n))))
-    (ten (ten (ten (ten (ten "0123456789"))))))) (lambda (s) (string-append s s s s s s s s s s)))
-  e))) (m))))))
-§(within 162 (list (symbol->string 'abc)
-  (string->symbol "abcd")
-  (number->string 12345)
-  (string=? "ab" "cde")
-  (identifier? #'a)
-  (generate-temporaries #'(a b c))
-  (generate-temporaries '(1 2))
-  (equal? '(1 2) '(1 2))
-  (equal? "abc" 'a)
-  (equal? '#(1 2) '())
-  (equal? car 1)
-  (equal? #'(a b) 1)
-  (member 1 '(1))
-  (assoc 'a '((a . 1)))
-  (syntax->datum #'(a b))
-  (syntax->datum (list #'a 1))))
-=> 38 FuelSpent
-
-; each with all fuel that it needs, and its value
-(import (rnrs))
-(define-syntax spends
-  (lambda (s)
-    (syntax-case s ()
-      ((k n e)
-       #'(let-syntax
-             ((m (begin
-                   ((lambda (ten)
-                      ((lambda (text) (begin (string-copy text) (string-copy text) (substring text 0 (- 888797 n))))
-                       (ten (ten (ten (ten (ten "0123456789")))))))
-                    (lambda (s) (string-append s s s s s s s s s s)))
-                   e
-                   (lambda (t)
-                     (letrec ((shown
-                               (lambda (x)
-                                 (cond ((pair? x) (cons (shown (car x)) (shown (cdr x))))
-                                       ((vector? x) (list->vector (map shown (vector->list x))))
-                                       ((procedure? x) 'procedure)
-                                       ((eq? x (if #f #f)) 'unspecified)
-                                       ((eq? x x) x)
-                                       (else (list 'syntax (syntax->datum x)))))))
-                       #`(quote #,(datum->syntax #'k (shown e))))))))
-           (m))))))
 (spends 11 (datum->syntax #'k '(a b)))
 (spends 9 (list->vector '(1 2 3)))
 (spends 5 (list->string '(#\a)))
@@ -276,7 +232,15 @@ pub const FUEL_COSTS: &str = r#"; each with all fuel that it needs, and its valu
 (spends 10 (string>? "a" "bc"))
 (spends 11 (string<=? "a" "b" "c"))
 (spends 6 (string>=? "" "b"))
-=> (quote (syntax (a b)))
+=> #f
+#f
+#f
+#f
+(quote (1))
+(quote (a . 1))
+(quote (a b))
+(quote (a 1))
+(quote (syntax (a b)))
 (quote #(1 2 3))
 "a"
 (quote (2 3))
@@ -289,10 +253,19 @@ pub const FUEL_COSTS: &str = r#"; each with all fuel that it needs, and its valu
 ; and with a unit less than all of them need together it is spent
 (import (rnrs))
 (define-syntax within (lambda (s) (syntax-case s () ((_ n e) #'(let-syntax ((m (begin
-  ((lambda (ten) ((lambda (text) (begin (string-copy text) (string-copy text) (substring text 0 (- 888798 n))))
-    (ten (ten (ten (ten (ten "0123456789"))))))) (lambda (s) (string-append s s s s s s s s s s)))
+  ((lambda (ten many)
+     ((lambda (text) (begin (many text) (many text) (substring text 0 (- 88769 n)))) (ten (ten (ten (ten "0123456789"))))))
+   (lambda (s) (string-append s s s s s s s s s s)) (lambda (s) (string=? s s s s s s s s s s s s s s s s s s s)))
   e))) (m))))))
-§(within 88 (list (datum->syntax #'k '(a b))
+§(within 173 (list (equal? "abc" 'a)
+  (equal? '#(1 2) '())
+  (equal? car 1)
+  (equal? #'(a b) 1)
+  (member 1 '(1))
+  (assoc 'a '((a . 1)))
+  (syntax->datum #'(a b))
+  (syntax->datum (list #'a 1))
+  (datum->syntax #'k '(a b))
   (list->vector '(1 2 3))
   (list->string '(#\a))
   (memv 2 '(1 2 3))
@@ -306,8 +279,9 @@ pub const FUEL_COSTS: &str = r#"; each with all fuel that it needs, and its valu
 ; Arity within this fuel
 (import (rnrs))
 (define-syntax within (lambda (s) (syntax-case s () ((_ n e) #'(let-syntax ((m (begin
-  ((lambda (ten) ((lambda (text) (begin (string-copy text) (string-copy text) (substring text 0 (- 888798 n))))
-    (ten (ten (ten (ten (ten "0123456789"))))))) (lambda (s) (string-append s s s s s s s s s s)))
+  ((lambda (ten many)
+     ((lambda (text) (begin (many text) (many text) (substring text 0 (- 88769 n)))) (ten (ten (ten (ten "0123456789"))))))
+   (lambda (s) (string-append s s s s s s s s s s)) (lambda (s) (string=? s s s s s s s s s s s s s s s s s s s)))
   e))) (m))))))
 §(within 2 (car))
 => 39 Arity: 0
@@ -315,8 +289,9 @@ pub const FUEL_COSTS: &str = r#"; each with all fuel that it needs, and its valu
 ; Arity within this fuel
 (import (rnrs))
 (define-syntax within (lambda (s) (syntax-case s () ((_ n e) #'(let-syntax ((m (begin
-  ((lambda (ten) ((lambda (text) (begin (string-copy text) (string-copy text) (substring text 0 (- 888798 n))))
-    (ten (ten (ten (ten (ten "0123456789"))))))) (lambda (s) (string-append s s s s s s s s s s)))
+  ((lambda (ten many)
+     ((lambda (text) (begin (many text) (many text) (substring text 0 (- 88769 n)))) (ten (ten (ten (ten "0123456789"))))))
+   (lambda (s) (string-append s s s s s s s s s s)) (lambda (s) (string=? s s s s s s s s s s s s s s s s s s s)))
   e))) (m))))))
 §(within 6 (div 1 2 3 4))
 => 39 Arity: 4
@@ -324,8 +299,9 @@ pub const FUEL_COSTS: &str = r#"; each with all fuel that it needs, and its valu
 ; PrimFault within this fuel
 (import (rnrs))
 (define-syntax within (lambda (s) (syntax-case s () ((_ n e) #'(let-syntax ((m (begin
-  ((lambda (ten) ((lambda (text) (begin (string-copy text) (string-copy text) (substring text 0 (- 888798 n))))
-    (ten (ten (ten (ten (ten "0123456789"))))))) (lambda (s) (string-append s s s s s s s s s s)))
+  ((lambda (ten many)
+     ((lambda (text) (begin (many text) (many text) (substring text 0 (- 88769 n)))) (ten (ten (ten (ten "0123456789"))))))
+   (lambda (s) (string-append s s s s s s s s s s)) (lambda (s) (string=? s s s s s s s s s s s s s s s s s s s)))
   e))) (m))))))
 §(within 7 (length '(1 2 . 3)))
 => 40 PrimFault: length
@@ -333,8 +309,9 @@ pub const FUEL_COSTS: &str = r#"; each with all fuel that it needs, and its valu
 ; and not with a unit less
 (import (rnrs))
 (define-syntax within (lambda (s) (syntax-case s () ((_ n e) #'(let-syntax ((m (begin
-  ((lambda (ten) ((lambda (text) (begin (string-copy text) (string-copy text) (substring text 0 (- 888798 n))))
-    (ten (ten (ten (ten (ten "0123456789"))))))) (lambda (s) (string-append s s s s s s s s s s)))
+  ((lambda (ten many)
+     ((lambda (text) (begin (many text) (many text) (substring text 0 (- 88769 n)))) (ten (ten (ten (ten "0123456789"))))))
+   (lambda (s) (string-append s s s s s s s s s s)) (lambda (s) (string=? s s s s s s s s s s s s s s s s s s s)))
   e))) (m))))))
 §(within 6 (length '(1 2 . 3)))
 => 38 FuelSpent
@@ -342,8 +319,9 @@ pub const FUEL_COSTS: &str = r#"; each with all fuel that it needs, and its valu
 ; PrimFault within this fuel
 (import (rnrs))
 (define-syntax within (lambda (s) (syntax-case s () ((_ n e) #'(let-syntax ((m (begin
-  ((lambda (ten) ((lambda (text) (begin (string-copy text) (string-copy text) (substring text 0 (- 888798 n))))
-    (ten (ten (ten (ten (ten "0123456789"))))))) (lambda (s) (string-append s s s s s s s s s s)))
+  ((lambda (ten many)
+     ((lambda (text) (begin (many text) (many text) (substring text 0 (- 88769 n)))) (ten (ten (ten (ten "0123456789"))))))
+   (lambda (s) (string-append s s s s s s s s s s)) (lambda (s) (string=? s s s s s s s s s s s s s s s s s s s)))
   e))) (m))))))
 §(within 3 (length 5))
 => 40 PrimFault: length
@@ -351,8 +329,9 @@ pub const FUEL_COSTS: &str = r#"; each with all fuel that it needs, and its valu
 ; Arity within this fuel
 (import (rnrs))
 (define-syntax within (lambda (s) (syntax-case s () ((_ n e) #'(let-syntax ((m (begin
-  ((lambda (ten) ((lambda (text) (begin (string-copy text) (string-copy text) (substring text 0 (- 888798 n))))
-    (ten (ten (ten (ten (ten "0123456789"))))))) (lambda (s) (string-append s s s s s s s s s s)))
+  ((lambda (ten many)
+     ((lambda (text) (begin (many text) (many text) (substring text 0 (- 88769 n)))) (ten (ten (ten (ten "0123456789"))))))
+   (lambda (s) (string-append s s s s s s s s s s)) (lambda (s) (string=? s s s s s s s s s s s s s s s s s s s)))
   e))) (m))))))
 §(within 2 (length))
 => 39 Arity: 0
@@ -360,8 +339,9 @@ pub const FUEL_COSTS: &str = r#"; each with all fuel that it needs, and its valu
 ; Arity within this fuel
 (import (rnrs))
 (define-syntax within (lambda (s) (syntax-case s () ((_ n e) #'(let-syntax ((m (begin
-  ((lambda (ten) ((lambda (text) (begin (string-copy text) (string-copy text) (substring text 0 (- 888798 n))))
-    (ten (ten (ten (ten (ten "0123456789"))))))) (lambda (s) (string-append s s s s s s s s s s)))
+  ((lambda (ten many)
+     ((lambda (text) (begin (many text) (many text) (substring text 0 (- 88769 n)))) (ten (ten (ten (ten "0123456789"))))))
+   (lambda (s) (string-append s s s s s s s s s s)) (lambda (s) (string=? s s s s s s s s s s s s s s s s s s s)))
   e))) (m))))))
 §(within 3 (memq 'a))
 => 39 Arity: 1
@@ -369,8 +349,9 @@ pub const FUEL_COSTS: &str = r#"; each with all fuel that it needs, and its valu
 ; Arity within this fuel
 (import (rnrs))
 (define-syntax within (lambda (s) (syntax-case s () ((_ n e) #'(let-syntax ((m (begin
-  ((lambda (ten) ((lambda (text) (begin (string-copy text) (string-copy text) (substring text 0 (- 888798 n))))
-    (ten (ten (ten (ten (ten "0123456789"))))))) (lambda (s) (string-append s s s s s s s s s s)))
+  ((lambda (ten many)
+     ((lambda (text) (begin (many text) (many text) (substring text 0 (- 88769 n)))) (ten (ten (ten (ten "0123456789"))))))
+   (lambda (s) (string-append s s s s s s s s s s)) (lambda (s) (string=? s s s s s s s s s s s s s s s s s s s)))
   e))) (m))))))
 §(within 7 (length '(1 2) '(3)))
 => 39 Arity: 2
@@ -378,8 +359,9 @@ pub const FUEL_COSTS: &str = r#"; each with all fuel that it needs, and its valu
 ; PrimFault within this fuel
 (import (rnrs))
 (define-syntax within (lambda (s) (syntax-case s () ((_ n e) #'(let-syntax ((m (begin
-  ((lambda (ten) ((lambda (text) (begin (string-copy text) (string-copy text) (substring text 0 (- 888798 n))))
-    (ten (ten (ten (ten (ten "0123456789"))))))) (lambda (s) (string-append s s s s s s s s s s)))
+  ((lambda (ten many)
+     ((lambda (text) (begin (many text) (many text) (substring text 0 (- 88769 n)))) (ten (ten (ten (ten "0123456789"))))))
+   (lambda (s) (string-append s s s s s s s s s s)) (lambda (s) (string=? s s s s s s s s s s s s s s s s s s s)))
   e))) (m))))))
 §(within 13 (append '(1 2) '(3 . 4) '(5 6)))
 => 40 PrimFault: append
@@ -387,8 +369,9 @@ pub const FUEL_COSTS: &str = r#"; each with all fuel that it needs, and its valu
 ; and not with a unit less
 (import (rnrs))
 (define-syntax within (lambda (s) (syntax-case s () ((_ n e) #'(let-syntax ((m (begin
-  ((lambda (ten) ((lambda (text) (begin (string-copy text) (string-copy text) (substring text 0 (- 888798 n))))
-    (ten (ten (ten (ten (ten "0123456789"))))))) (lambda (s) (string-append s s s s s s s s s s)))
+  ((lambda (ten many)
+     ((lambda (text) (begin (many text) (many text) (substring text 0 (- 88769 n)))) (ten (ten (ten (ten "0123456789"))))))
+   (lambda (s) (string-append s s s s s s s s s s)) (lambda (s) (string=? s s s s s s s s s s s s s s s s s s s)))
   e))) (m))))))
 §(within 12 (append '(1 2) '(3 . 4) '(5 6)))
 => 38 FuelSpent
@@ -396,8 +379,9 @@ pub const FUEL_COSTS: &str = r#"; each with all fuel that it needs, and its valu
 ; PrimFault within this fuel
 (import (rnrs))
 (define-syntax within (lambda (s) (syntax-case s () ((_ n e) #'(let-syntax ((m (begin
-  ((lambda (ten) ((lambda (text) (begin (string-copy text) (string-copy text) (substring text 0 (- 888798 n))))
-    (ten (ten (ten (ten (ten "0123456789"))))))) (lambda (s) (string-append s s s s s s s s s s)))
+  ((lambda (ten many)
+     ((lambda (text) (begin (many text) (many text) (substring text 0 (- 88769 n)))) (ten (ten (ten (ten "0123456789"))))))
+   (lambda (s) (string-append s s s s s s s s s s)) (lambda (s) (string=? s s s s s s s s s s s s s s s s s s s)))
   e))) (m))))))
 §(within 4 (append 1 2))
 => 40 PrimFault: append
@@ -405,8 +389,9 @@ pub const FUEL_COSTS: &str = r#"; each with all fuel that it needs, and its valu
 ; PrimFault within this fuel
 (import (rnrs))
 (define-syntax within (lambda (s) (syntax-case s () ((_ n e) #'(let-syntax ((m (begin
-  ((lambda (ten) ((lambda (text) (begin (string-copy text) (string-copy text) (substring text 0 (- 888798 n))))
-    (ten (ten (ten (ten (ten "0123456789"))))))) (lambda (s) (string-append s s s s s s s s s s)))
+  ((lambda (ten many)
+     ((lambda (text) (begin (many text) (many text) (substring text 0 (- 88769 n)))) (ten (ten (ten (ten "0123456789"))))))
+   (lambda (s) (string-append s s s s s s s s s s)) (lambda (s) (string=? s s s s s s s s s s s s s s s s s s s)))
   e))) (m))))))
 §(within 5 (list-ref '(a) -1))
 => 40 PrimFault: list-ref
@@ -414,8 +399,9 @@ pub const FUEL_COSTS: &str = r#"; each with all fuel that it needs, and its valu
 ; PrimFault within this fuel
 (import (rnrs))
 (define-syntax within (lambda (s) (syntax-case s () ((_ n e) #'(let-syntax ((m (begin
-  ((lambda (ten) ((lambda (text) (begin (string-copy text) (string-copy text) (substring text 0 (- 888798 n))))
-    (ten (ten (ten (ten (ten "0123456789"))))))) (lambda (s) (string-append s s s s s s s s s s)))
+  ((lambda (ten many)
+     ((lambda (text) (begin (many text) (many text) (substring text 0 (- 88769 n)))) (ten (ten (ten (ten "0123456789"))))))
+   (lambda (s) (string-append s s s s s s s s s s)) (lambda (s) (string=? s s s s s s s s s s s s s s s s s s s)))
   e))) (m))))))
 §(within 5 (list-ref '(a) 'a))
 => 40 PrimFault: list-ref
@@ -423,8 +409,9 @@ pub const FUEL_COSTS: &str = r#"; each with all fuel that it needs, and its valu
 ; Arity within this fuel
 (import (rnrs))
 (define-syntax within (lambda (s) (syntax-case s () ((_ n e) #'(let-syntax ((m (begin
-  ((lambda (ten) ((lambda (text) (begin (string-copy text) (string-copy text) (substring text 0 (- 888798 n))))
-    (ten (ten (ten (ten (ten "0123456789"))))))) (lambda (s) (string-append s s s s s s s s s s)))
+  ((lambda (ten many)
+     ((lambda (text) (begin (many text) (many text) (substring text 0 (- 88769 n)))) (ten (ten (ten (ten "0123456789"))))))
+   (lambda (s) (string-append s s s s s s s s s s)) (lambda (s) (string=? s s s s s s s s s s s s s s s s s s s)))
   e))) (m))))))
 §(within 4 (list-ref '(a)))
 => 39 Arity: 1
@@ -432,8 +419,9 @@ pub const FUEL_COSTS: &str = r#"; each with all fuel that it needs, and its valu
 ; PrimFault within this fuel
 (import (rnrs))
 (define-syntax within (lambda (s) (syntax-case s () ((_ n e) #'(let-syntax ((m (begin
-  ((lambda (ten) ((lambda (text) (begin (string-copy text) (string-copy text) (substring text 0 (- 888798 n))))
-    (ten (ten (ten (ten (ten "0123456789"))))))) (lambda (s) (string-append s s s s s s s s s s)))
+  ((lambda (ten many)
+     ((lambda (text) (begin (many text) (many text) (substring text 0 (- 88769 n)))) (ten (ten (ten (ten "0123456789"))))))
+   (lambda (s) (string-append s s s s s s s s s s)) (lambda (s) (string=? s s s s s s s s s s s s s s s s s s s)))
   e))) (m))))))
 §(within 5 (vector->list '(1 2)))
 => 40 PrimFault: vector->list
@@ -441,8 +429,9 @@ pub const FUEL_COSTS: &str = r#"; each with all fuel that it needs, and its valu
 ; Arity within this fuel
 (import (rnrs))
 (define-syntax within (lambda (s) (syntax-case s () ((_ n e) #'(let-syntax ((m (begin
-  ((lambda (ten) ((lambda (text) (begin (string-copy text) (string-copy text) (substring text 0 (- 888798 n))))
-    (ten (ten (ten (ten (ten "0123456789"))))))) (lambda (s) (string-append s s s s s s s s s s)))
+  ((lambda (ten many)
+     ((lambda (text) (begin (many text) (many text) (substring text 0 (- 88769 n)))) (ten (ten (ten (ten "0123456789"))))))
+   (lambda (s) (string-append s s s s s s s s s s)) (lambda (s) (string=? s s s s s s s s s s s s s s s s s s s)))
   e))) (m))))))
 §(within 2 (string->list))
 => 39 Arity: 0
@@ -450,8 +439,9 @@ pub const FUEL_COSTS: &str = r#"; each with all fuel that it needs, and its valu
 ; PrimFault within this fuel
 (import (rnrs))
 (define-syntax within (lambda (s) (syntax-case s () ((_ n e) #'(let-syntax ((m (begin
-  ((lambda (ten) ((lambda (text) (begin (string-copy text) (string-copy text) (substring text 0 (- 888798 n))))
-    (ten (ten (ten (ten (ten "0123456789"))))))) (lambda (s) (string-append s s s s s s s s s s)))
+  ((lambda (ten many)
+     ((lambda (text) (begin (many text) (many text) (substring text 0 (- 88769 n)))) (ten (ten (ten (ten "0123456789"))))))
+   (lambda (s) (string-append s s s s s s s s s s)) (lambda (s) (string=? s s s s s s s s s s s s s s s s s s s)))
   e))) (m))))))
 §(within 6 (string-append "ab" 'a))
 => 40 PrimFault: string-append
@@ -459,8 +449,9 @@ pub const FUEL_COSTS: &str = r#"; each with all fuel that it needs, and its valu
 ; PrimFault within this fuel
 (import (rnrs))
 (define-syntax within (lambda (s) (syntax-case s () ((_ n e) #'(let-syntax ((m (begin
-  ((lambda (ten) ((lambda (text) (begin (string-copy text) (string-copy text) (substring text 0 (- 888798 n))))
-    (ten (ten (ten (ten (ten "0123456789"))))))) (lambda (s) (string-append s s s s s s s s s s)))
+  ((lambda (ten many)
+     ((lambda (text) (begin (many text) (many text) (substring text 0 (- 88769 n)))) (ten (ten (ten (ten "0123456789"))))))
+   (lambda (s) (string-append s s s s s s s s s s)) (lambda (s) (string=? s s s s s s s s s s s s s s s s s s s)))
   e))) (m))))))
 §(within 8 (substring "abc" 1 9))
 => 40 PrimFault: substring
@@ -468,8 +459,9 @@ pub const FUEL_COSTS: &str = r#"; each with all fuel that it needs, and its valu
 ; PrimFault within this fuel
 (import (rnrs))
 (define-syntax within (lambda (s) (syntax-case s () ((_ n e) #'(let-syntax ((m (begin
-  ((lambda (ten) ((lambda (text) (begin (string-copy text) (string-copy text) (substring text 0 (- 888798 n))))
-    (ten (ten (ten (ten (ten "0123456789"))))))) (lambda (s) (string-append s s s s s s s s s s)))
+  ((lambda (ten many)
+     ((lambda (text) (begin (many text) (many text) (substring text 0 (- 88769 n)))) (ten (ten (ten (ten "0123456789"))))))
+   (lambda (s) (string-append s s s s s s s s s s)) (lambda (s) (string=? s s s s s s s s s s s s s s s s s s s)))
   e))) (m))))))
 §(within 8 (substring "abc" 2 1))
 => 40 PrimFault: substring
@@ -477,8 +469,9 @@ pub const FUEL_COSTS: &str = r#"; each with all fuel that it needs, and its valu
 ; PrimFault within this fuel
 (import (rnrs))
 (define-syntax within (lambda (s) (syntax-case s () ((_ n e) #'(let-syntax ((m (begin
-  ((lambda (ten) ((lambda (text) (begin (string-copy text) (string-copy text) (substring text 0 (- 888798 n))))
-    (ten (ten (ten (ten (ten "0123456789"))))))) (lambda (s) (string-append s s s s s s s s s s)))
+  ((lambda (ten many)
+     ((lambda (text) (begin (many text) (many text) (substring text 0 (- 88769 n)))) (ten (ten (ten (ten "0123456789"))))))
+   (lambda (s) (string-append s s s s s s s s s s)) (lambda (s) (string=? s s s s s s s s s s s s s s s s s s s)))
   e))) (m))))))
 §(within 3 (string-copy 'a))
 => 40 PrimFault: string-copy
@@ -486,8 +479,9 @@ pub const FUEL_COSTS: &str = r#"; each with all fuel that it needs, and its valu
 ; PrimFault within this fuel
 (import (rnrs))
 (define-syntax within (lambda (s) (syntax-case s () ((_ n e) #'(let-syntax ((m (begin
-  ((lambda (ten) ((lambda (text) (begin (string-copy text) (string-copy text) (substring text 0 (- 888798 n))))
-    (ten (ten (ten (ten (ten "0123456789"))))))) (lambda (s) (string-append s s s s s s s s s s)))
+  ((lambda (ten many)
+     ((lambda (text) (begin (many text) (many text) (substring text 0 (- 88769 n)))) (ten (ten (ten (ten "0123456789"))))))
+   (lambda (s) (string-append s s s s s s s s s s)) (lambda (s) (string=? s s s s s s s s s s s s s s s s s s s)))
   e))) (m))))))
 §(within 6 (symbol->string "abc"))
 => 40 PrimFault: symbol->string
@@ -495,8 +489,9 @@ pub const FUEL_COSTS: &str = r#"; each with all fuel that it needs, and its valu
 ; PrimFault within this fuel
 (import (rnrs))
 (define-syntax within (lambda (s) (syntax-case s () ((_ n e) #'(let-syntax ((m (begin
-  ((lambda (ten) ((lambda (text) (begin (string-copy text) (string-copy text) (substring text 0 (- 888798 n))))
-    (ten (ten (ten (ten (ten "0123456789"))))))) (lambda (s) (string-append s s s s s s s s s s)))
+  ((lambda (ten many)
+     ((lambda (text) (begin (many text) (many text) (substring text 0 (- 88769 n)))) (ten (ten (ten (ten "0123456789"))))))
+   (lambda (s) (string-append s s s s s s s s s s)) (lambda (s) (string=? s s s s s s s s s s s s s s s s s s s)))
   e))) (m))))))
 §(within 3 (string->symbol 'abc))
 => 40 PrimFault: string->symbol
@@ -504,8 +499,9 @@ pub const FUEL_COSTS: &str = r#"; each with all fuel that it needs, and its valu
 ; Arity within this fuel
 (import (rnrs))
 (define-syntax within (lambda (s) (syntax-case s () ((_ n e) #'(let-syntax ((m (begin
-  ((lambda (ten) ((lambda (text) (begin (string-copy text) (string-copy text) (substring text 0 (- 888798 n))))
-    (ten (ten (ten (ten (ten "0123456789"))))))) (lambda (s) (string-append s s s s s s s s s s)))
+  ((lambda (ten many)
+     ((lambda (text) (begin (many text) (many text) (substring text 0 (- 88769 n)))) (ten (ten (ten (ten "0123456789"))))))
+   (lambda (s) (string-append s s s s s s s s s s)) (lambda (s) (string=? s s s s s s s s s s s s s s s s s s s)))
   e))) (m))))))
 §(within 7 (substring "abc" 1))
 => 39 Arity: 2
@@ -513,8 +509,9 @@ pub const FUEL_COSTS: &str = r#"; each with all fuel that it needs, and its valu
 ; Arity within this fuel
 (import (rnrs))
 (define-syntax within (lambda (s) (syntax-case s () ((_ n e) #'(let-syntax ((m (begin
-  ((lambda (ten) ((lambda (text) (begin (string-copy text) (string-copy text) (substring text 0 (- 888798 n))))
-    (ten (ten (ten (ten (ten "0123456789"))))))) (lambda (s) (string-append s s s s s s s s s s)))
+  ((lambda (ten many)
+     ((lambda (text) (begin (many text) (many text) (substring text 0 (- 88769 n)))) (ten (ten (ten (ten "0123456789"))))))
+   (lambda (s) (string-append s s s s s s s s s s)) (lambda (s) (string=? s s s s s s s s s s s s s s s s s s s)))
   e))) (m))))))
 §(within 6 (substring "abc"))
 => 39 Arity: 1
@@ -522,8 +519,9 @@ pub const FUEL_COSTS: &str = r#"; each with all fuel that it needs, and its valu
 ; Arity within this fuel
 (import (rnrs))
 (define-syntax within (lambda (s) (syntax-case s () ((_ n e) #'(let-syntax ((m (begin
-  ((lambda (ten) ((lambda (text) (begin (string-copy text) (string-copy text) (substring text 0 (- 888798 n))))
-    (ten (ten (ten (ten (ten "0123456789"))))))) (lambda (s) (string-append s s s s s s s s s s)))
+  ((lambda (ten many)
+     ((lambda (text) (begin (many text) (many text) (substring text 0 (- 88769 n)))) (ten (ten (ten (ten "0123456789"))))))
+   (lambda (s) (string-append s s s s s s s s s s)) (lambda (s) (string=? s s s s s s s s s s s s s s s s s s s)))
   e))) (m))))))
 §(within 8 (string-copy "abc" 1 2))
 => 39 Arity: 3
@@ -531,8 +529,9 @@ pub const FUEL_COSTS: &str = r#"; each with all fuel that it needs, and its valu
 ; PrimFault within this fuel
 (import (rnrs))
 (define-syntax within (lambda (s) (syntax-case s () ((_ n e) #'(let-syntax ((m (begin
-  ((lambda (ten) ((lambda (text) (begin (string-copy text) (string-copy text) (substring text 0 (- 888798 n))))
-    (ten (ten (ten (ten (ten "0123456789"))))))) (lambda (s) (string-append s s s s s s s s s s)))
+  ((lambda (ten many)
+     ((lambda (text) (begin (many text) (many text) (substring text 0 (- 88769 n)))) (ten (ten (ten (ten "0123456789"))))))
+   (lambda (s) (string-append s s s s s s s s s s)) (lambda (s) (string=? s s s s s s s s s s s s s s s s s s s)))
   e))) (m))))))
 §(within 11 (string<? "ab" 'a "c"))
 => 40 PrimFault: string<?
@@ -540,8 +539,9 @@ pub const FUEL_COSTS: &str = r#"; each with all fuel that it needs, and its valu
 ; and not with a unit less
 (import (rnrs))
 (define-syntax within (lambda (s) (syntax-case s () ((_ n e) #'(let-syntax ((m (begin
-  ((lambda (ten) ((lambda (text) (begin (string-copy text) (string-copy text) (substring text 0 (- 888798 n))))
-    (ten (ten (ten (ten (ten "0123456789"))))))) (lambda (s) (string-append s s s s s s s s s s)))
+  ((lambda (ten many)
+     ((lambda (text) (begin (many text) (many text) (substring text 0 (- 88769 n)))) (ten (ten (ten (ten "0123456789"))))))
+   (lambda (s) (string-append s s s s s s s s s s)) (lambda (s) (string=? s s s s s s s s s s s s s s s s s s s)))
   e))) (m))))))
 §(within 10 (string<? "ab" 'a "c"))
 => 38 FuelSpent
@@ -549,8 +549,9 @@ pub const FUEL_COSTS: &str = r#"; each with all fuel that it needs, and its valu
 ; PrimFault within this fuel
 (import (rnrs))
 (define-syntax within (lambda (s) (syntax-case s () ((_ n e) #'(let-syntax ((m (begin
-  ((lambda (ten) ((lambda (text) (begin (string-copy text) (string-copy text) (substring text 0 (- 888798 n))))
-    (ten (ten (ten (ten (ten "0123456789"))))))) (lambda (s) (string-append s s s s s s s s s s)))
+  ((lambda (ten many)
+     ((lambda (text) (begin (many text) (many text) (substring text 0 (- 88769 n)))) (ten (ten (ten (ten "0123456789"))))))
+   (lambda (s) (string-append s s s s s s s s s s)) (lambda (s) (string=? s s s s s s s s s s s s s s s s s s s)))
   e))) (m))))))
 §(within 4 (string=? 'a 'b))
 => 40 PrimFault: string=?
@@ -558,8 +559,9 @@ pub const FUEL_COSTS: &str = r#"; each with all fuel that it needs, and its valu
 ; PrimFault within this fuel
 (import (rnrs))
 (define-syntax within (lambda (s) (syntax-case s () ((_ n e) #'(let-syntax ((m (begin
-  ((lambda (ten) ((lambda (text) (begin (string-copy text) (string-copy text) (substring text 0 (- 888798 n))))
-    (ten (ten (ten (ten (ten "0123456789"))))))) (lambda (s) (string-append s s s s s s s s s s)))
+  ((lambda (ten many)
+     ((lambda (text) (begin (many text) (many text) (substring text 0 (- 88769 n)))) (ten (ten (ten (ten "0123456789"))))))
+   (lambda (s) (string-append s s s s s s s s s s)) (lambda (s) (string=? s s s s s s s s s s s s s s s s s s s)))
   e))) (m))))))
 §(within 4 (generate-temporaries '(1 . 2)))
 => 40 PrimFault: generate-temporaries
@@ -567,8 +569,9 @@ pub const FUEL_COSTS: &str = r#"; each with all fuel that it needs, and its valu
 ; Arity within this fuel
 (import (rnrs))
 (define-syntax within (lambda (s) (syntax-case s () ((_ n e) #'(let-syntax ((m (begin
-  ((lambda (ten) ((lambda (text) (begin (string-copy text) (string-copy text) (substring text 0 (- 888798 n))))
-    (ten (ten (ten (ten (ten "0123456789"))))))) (lambda (s) (string-append s s s s s s s s s s)))
+  ((lambda (ten many)
+     ((lambda (text) (begin (many text) (many text) (substring text 0 (- 88769 n)))) (ten (ten (ten (ten "0123456789"))))))
+   (lambda (s) (string-append s s s s s s s s s s)) (lambda (s) (string=? s s s s s s s s s s s s s s s s s s s)))
   e))) (m))))))
 §(within 2 (generate-temporaries))
 => 39 Arity: 0
@@ -576,8 +579,9 @@ pub const FUEL_COSTS: &str = r#"; each with all fuel that it needs, and its valu
 ; Raised within this fuel
 (import (rnrs))
 (define-syntax within (lambda (s) (syntax-case s () ((_ n e) #'(let-syntax ((m (begin
-  ((lambda (ten) ((lambda (text) (begin (string-copy text) (string-copy text) (substring text 0 (- 888798 n))))
-    (ten (ten (ten (ten (ten "0123456789"))))))) (lambda (s) (string-append s s s s s s s s s s)))
+  ((lambda (ten many)
+     ((lambda (text) (begin (many text) (many text) (substring text 0 (- 88769 n)))) (ten (ten (ten (ten "0123456789"))))))
+   (lambda (s) (string-append s s s s s s s s s s)) (lambda (s) (string=? s s s s s s s s s s s s s s s s s s s)))
   e))) (m))))))
 §(within 11 (error 'a "message"))
 => 44 Raised: message
@@ -585,8 +589,9 @@ pub const FUEL_COSTS: &str = r#"; each with all fuel that it needs, and its valu
 ; Raised within this fuel
 (import (rnrs))
 (define-syntax within (lambda (s) (syntax-case s () ((_ n e) #'(let-syntax ((m (begin
-  ((lambda (ten) ((lambda (text) (begin (string-copy text) (string-copy text) (substring text 0 (- 888798 n))))
-    (ten (ten (ten (ten (ten "0123456789"))))))) (lambda (s) (string-append s s s s s s s s s s)))
+  ((lambda (ten many)
+     ((lambda (text) (begin (many text) (many text) (substring text 0 (- 88769 n)))) (ten (ten (ten (ten "0123456789"))))))
+   (lambda (s) (string-append s s s s s s s s s s)) (lambda (s) (string=? s s s s s s s s s s s s s s s s s s s)))
   e))) (m))))))
 §(within 6 (raise "abc"))
 => 44 Raised
@@ -594,8 +599,9 @@ pub const FUEL_COSTS: &str = r#"; each with all fuel that it needs, and its valu
 ; NoPrimitive within this fuel
 (import (rnrs))
 (define-syntax within (lambda (s) (syntax-case s () ((_ n e) #'(let-syntax ((m (begin
-  ((lambda (ten) ((lambda (text) (begin (string-copy text) (string-copy text) (substring text 0 (- 888798 n))))
-    (ten (ten (ten (ten (ten "0123456789"))))))) (lambda (s) (string-append s s s s s s s s s s)))
+  ((lambda (ten many)
+     ((lambda (text) (begin (many text) (many text) (substring text 0 (- 88769 n)))) (ten (ten (ten (ten "0123456789"))))))
+   (lambda (s) (string-append s s s s s s s s s s)) (lambda (s) (string=? s s s s s s s s s s s s s s s s s s s)))
   e))) (m))))))
 §(within 6 (display "abc"))
 => 42 NoPrimitive: display
@@ -603,8 +609,9 @@ pub const FUEL_COSTS: &str = r#"; each with all fuel that it needs, and its valu
 ; Arity within this fuel
 (import (rnrs))
 (define-syntax within (lambda (s) (syntax-case s () ((_ n e) #'(let-syntax ((m (begin
-  ((lambda (ten) ((lambda (text) (begin (string-copy text) (string-copy text) (substring text 0 (- 888798 n))))
-    (ten (ten (ten (ten (ten "0123456789"))))))) (lambda (s) (string-append s s s s s s s s s s)))
+  ((lambda (ten many)
+     ((lambda (text) (begin (many text) (many text) (substring text 0 (- 88769 n)))) (ten (ten (ten (ten "0123456789"))))))
+   (lambda (s) (string-append s s s s s s s s s s)) (lambda (s) (string=? s s s s s s s s s s s s s s s s s s s)))
   e))) (m))))))
 §(within 2 (equal?))
 => 39 Arity: 0
@@ -612,8 +619,9 @@ pub const FUEL_COSTS: &str = r#"; each with all fuel that it needs, and its valu
 ; Arity within this fuel
 (import (rnrs))
 (define-syntax within (lambda (s) (syntax-case s () ((_ n e) #'(let-syntax ((m (begin
-  ((lambda (ten) ((lambda (text) (begin (string-copy text) (string-copy text) (substring text 0 (- 888798 n))))
-    (ten (ten (ten (ten (ten "0123456789"))))))) (lambda (s) (string-append s s s s s s s s s s)))
+  ((lambda (ten many)
+     ((lambda (text) (begin (many text) (many text) (substring text 0 (- 88769 n)))) (ten (ten (ten (ten "0123456789"))))))
+   (lambda (s) (string-append s s s s s s s s s s)) (lambda (s) (string=? s s s s s s s s s s s s s s s s s s s)))
   e))) (m))))))
 §(within 3 (equal? 1))
 => 39 Arity: 1
@@ -621,8 +629,9 @@ pub const FUEL_COSTS: &str = r#"; each with all fuel that it needs, and its valu
 ; Arity within this fuel
 (import (rnrs))
 (define-syntax within (lambda (s) (syntax-case s () ((_ n e) #'(let-syntax ((m (begin
-  ((lambda (ten) ((lambda (text) (begin (string-copy text) (string-copy text) (substring text 0 (- 888798 n))))
-    (ten (ten (ten (ten (ten "0123456789"))))))) (lambda (s) (string-append s s s s s s s s s s)))
+  ((lambda (ten many)
+     ((lambda (text) (begin (many text) (many text) (substring text 0 (- 88769 n)))) (ten (ten (ten (ten "0123456789"))))))
+   (lambda (s) (string-append s s s s s s s s s s)) (lambda (s) (string=? s s s s s s s s s s s s s s s s s s s)))
   e))) (m))))))
 §(within 6 (remove 1 '(1) 3))
 => 39 Arity: 3
@@ -630,8 +639,9 @@ pub const FUEL_COSTS: &str = r#"; each with all fuel that it needs, and its valu
 ; Arity within this fuel
 (import (rnrs))
 (define-syntax within (lambda (s) (syntax-case s () ((_ n e) #'(let-syntax ((m (begin
-  ((lambda (ten) ((lambda (text) (begin (string-copy text) (string-copy text) (substring text 0 (- 888798 n))))
-    (ten (ten (ten (ten (ten "0123456789"))))))) (lambda (s) (string-append s s s s s s s s s s)))
+  ((lambda (ten many)
+     ((lambda (text) (begin (many text) (many text) (substring text 0 (- 88769 n)))) (ten (ten (ten (ten "0123456789"))))))
+   (lambda (s) (string-append s s s s s s s s s s)) (lambda (s) (string=? s s s s s s s s s s s s s s s s s s s)))
   e))) (m))))))
 §(within 2 (syntax->datum))
 => 39 Arity: 0
@@ -639,8 +649,9 @@ pub const FUEL_COSTS: &str = r#"; each with all fuel that it needs, and its valu
 ; Arity within this fuel
 (import (rnrs))
 (define-syntax within (lambda (s) (syntax-case s () ((_ n e) #'(let-syntax ((m (begin
-  ((lambda (ten) ((lambda (text) (begin (string-copy text) (string-copy text) (substring text 0 (- 888798 n))))
-    (ten (ten (ten (ten (ten "0123456789"))))))) (lambda (s) (string-append s s s s s s s s s s)))
+  ((lambda (ten many)
+     ((lambda (text) (begin (many text) (many text) (substring text 0 (- 88769 n)))) (ten (ten (ten (ten "0123456789"))))))
+   (lambda (s) (string-append s s s s s s s s s s)) (lambda (s) (string=? s s s s s s s s s s s s s s s s s s s)))
   e))) (m))))))
 §(within 4 (syntax->datum #'(a b) 1))
 => 39 Arity: 2
@@ -648,8 +659,9 @@ pub const FUEL_COSTS: &str = r#"; each with all fuel that it needs, and its valu
 ; Arity within this fuel
 (import (rnrs))
 (define-syntax within (lambda (s) (syntax-case s () ((_ n e) #'(let-syntax ((m (begin
-  ((lambda (ten) ((lambda (text) (begin (string-copy text) (string-copy text) (substring text 0 (- 888798 n))))
-    (ten (ten (ten (ten (ten "0123456789"))))))) (lambda (s) (string-append s s s s s s s s s s)))
+  ((lambda (ten many)
+     ((lambda (text) (begin (many text) (many text) (substring text 0 (- 88769 n)))) (ten (ten (ten (ten "0123456789"))))))
+   (lambda (s) (string-append s s s s s s s s s s)) (lambda (s) (string=? s s s s s s s s s s s s s s s s s s s)))
   e))) (m))))))
 §(within 3 (datum->syntax #'k))
 => 39 Arity: 1
@@ -657,17 +669,19 @@ pub const FUEL_COSTS: &str = r#"; each with all fuel that it needs, and its valu
 ; PrimFault within this fuel
 (import (rnrs))
 (define-syntax within (lambda (s) (syntax-case s () ((_ n e) #'(let-syntax ((m (begin
-  ((lambda (ten) ((lambda (text) (begin (string-copy text) (string-copy text) (substring text 0 (- 888798 n))))
-    (ten (ten (ten (ten (ten "0123456789"))))))) (lambda (s) (string-append s s s s s s s s s s)))
+  ((lambda (ten many)
+     ((lambda (text) (begin (many text) (many text) (substring text 0 (- 88769 n)))) (ten (ten (ten (ten "0123456789"))))))
+   (lambda (s) (string-append s s s s s s s s s s)) (lambda (s) (string=? s s s s s s s s s s s s s s s s s s s)))
   e))) (m))))))
-§(within 800004 (list-tail '() 800000))
+§(within 80004 (list-tail '() 80000))
 => 40 PrimFault: list-tail
 
 ; and not with a unit less
 (import (rnrs))
 (define-syntax within (lambda (s) (syntax-case s () ((_ n e) #'(let-syntax ((m (begin
-  ((lambda (ten) ((lambda (text) (begin (string-copy text) (string-copy text) (substring text 0 (- 888798 n))))
-    (ten (ten (ten (ten (ten "0123456789"))))))) (lambda (s) (string-append s s s s s s s s s s)))
+  ((lambda (ten many)
+     ((lambda (text) (begin (many text) (many text) (substring text 0 (- 88769 n)))) (ten (ten (ten (ten "0123456789"))))))
+   (lambda (s) (string-append s s s s s s s s s s)) (lambda (s) (string=? s s s s s s s s s s s s s s s s s s s)))
   e))) (m))))))
-§(within 800003 (list-tail '() 800000))
+§(within 80003 (list-tail '() 80000))
 => 38 FuelSpent"#;

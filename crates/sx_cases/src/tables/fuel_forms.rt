@@ -8,10 +8,11 @@ pub const FUEL_FORMS: &str = r#"; each with all fuel that it needs, and its valu
       ((k n e)
        #'(let-syntax
              ((m (begin
-                   ((lambda (ten)
-                      ((lambda (text) (begin (string-copy text) (string-copy text) (substring text 0 (- 888797 n))))
-                       (ten (ten (ten (ten (ten "0123456789")))))))
-                    (lambda (s) (string-append s s s s s s s s s s)))
+                   ((lambda (ten many)
+                      ((lambda (text) (begin (many text) (many text) (substring text 0 (- 88768 n))))
+                       (ten (ten (ten (ten "0123456789"))))))
+                    (lambda (s) (string-append s s s s s s s s s s))
+                    (lambda (s) (string=? s s s s s s s s s s s s s s s s s s s)))
                    e
                    (lambda (t)
                      (letrec ((shown
@@ -56,8 +57,9 @@ pub const FUEL_FORMS: &str = r#"; each with all fuel that it needs, and its valu
 ; and with a unit less than all of them need together it is spent
 (import (rnrs))
 (define-syntax within (lambda (s) (syntax-case s () ((_ n e) #'(let-syntax ((m (begin
-  ((lambda (ten) ((lambda (text) (begin (string-copy text) (string-copy text) (substring text 0 (- 888798 n))))
-    (ten (ten (ten (ten (ten "0123456789"))))))) (lambda (s) (string-append s s s s s s s s s s)))
+  ((lambda (ten many)
+     ((lambda (text) (begin (many text) (many text) (substring text 0 (- 88769 n)))) (ten (ten (ten (ten "0123456789"))))))
+   (lambda (s) (string-append s s s s s s s s s s)) (lambda (s) (string=? s s s s s s s s s s s s s s s s s s s)))
   e))) (m))))))
 §(within 44 (list 5
   #t
@@ -83,10 +85,11 @@ pub const FUEL_FORMS: &str = r#"; each with all fuel that it needs, and its valu
       ((k n e)
        #'(let-syntax
              ((m (begin
-                   ((lambda (ten)
-                      ((lambda (text) (begin (string-copy text) (string-copy text) (substring text 0 (- 888797 n))))
-                       (ten (ten (ten (ten (ten "0123456789")))))))
-                    (lambda (s) (string-append s s s s s s s s s s)))
+                   ((lambda (ten many)
+                      ((lambda (text) (begin (many text) (many text) (substring text 0 (- 88768 n))))
+                       (ten (ten (ten (ten "0123456789"))))))
+                    (lambda (s) (string-append s s s s s s s s s s))
+                    (lambda (s) (string=? s s s s s s s s s s s s s s s s s s s)))
                    e
                    (lambda (t)
                      (letrec ((shown
@@ -131,8 +134,9 @@ pub const FUEL_FORMS: &str = r#"; each with all fuel that it needs, and its valu
 ; and with a unit less than all of them need together it is spent
 (import (rnrs))
 (define-syntax within (lambda (s) (syntax-case s () ((_ n e) #'(let-syntax ((m (begin
-  ((lambda (ten) ((lambda (text) (begin (string-copy text) (string-copy text) (substring text 0 (- 888798 n))))
-    (ten (ten (ten (ten (ten "0123456789"))))))) (lambda (s) (string-append s s s s s s s s s s)))
+  ((lambda (ten many)
+     ((lambda (text) (begin (many text) (many text) (substring text 0 (- 88769 n)))) (ten (ten (ten (ten "0123456789"))))))
+   (lambda (s) (string-append s s s s s s s s s s)) (lambda (s) (string=? s s s s s s s s s s s s s s s s s s s)))
   e))) (m))))))
 §(within 61 (list '#((a b) "xy")
   '("ab" . #(1))
@@ -158,10 +162,11 @@ pub const FUEL_FORMS: &str = r#"; each with all fuel that it needs, and its valu
       ((k n e)
        #'(let-syntax
              ((m (begin
-                   ((lambda (ten)
-                      ((lambda (text) (begin (string-copy text) (string-copy text) (substring text 0 (- 888797 n))))
-                       (ten (ten (ten (ten (ten "0123456789")))))))
-                    (lambda (s) (string-append s s s s s s s s s s)))
+                   ((lambda (ten many)
+                      ((lambda (text) (begin (many text) (many text) (substring text 0 (- 88768 n))))
+                       (ten (ten (ten (ten "0123456789"))))))
+                    (lambda (s) (string-append s s s s s s s s s s))
+                    (lambda (s) (string=? s s s s s s s s s s s s s s s s s s s)))
                    e
                    (lambda (t)
                      (letrec ((shown
@@ -206,8 +211,9 @@ pub const FUEL_FORMS: &str = r#"; each with all fuel that it needs, and its valu
 ; and with a unit less than all of them need together it is spent
 (import (rnrs))
 (define-syntax within (lambda (s) (syntax-case s () ((_ n e) #'(let-syntax ((m (begin
-  ((lambda (ten) ((lambda (text) (begin (string-copy text) (string-copy text) (substring text 0 (- 888798 n))))
-    (ten (ten (ten (ten (ten "0123456789"))))))) (lambda (s) (string-append s s s s s s s s s s)))
+  ((lambda (ten many)
+     ((lambda (text) (begin (many text) (many text) (substring text 0 (- 88769 n)))) (ten (ten (ten (ten "0123456789"))))))
+   (lambda (s) (string-append s s s s s s s s s s)) (lambda (s) (string=? s s s s s s s s s s s s s s s s s s s)))
   e))) (m))))))
 §(within 96 (list ((lambda (x y) (cons x y)) 1 2)
   ((lambda () 7))
@@ -233,10 +239,11 @@ pub const FUEL_FORMS: &str = r#"; each with all fuel that it needs, and its valu
       ((k n e)
        #'(let-syntax
              ((m (begin
-                   ((lambda (ten)
-                      ((lambda (text) (begin (string-copy text) (string-copy text) (substring text 0 (- 888797 n))))
-                       (ten (ten (ten (ten (ten "0123456789")))))))
-                    (lambda (s) (string-append s s s s s s s s s s)))
+                   ((lambda (ten many)
+                      ((lambda (text) (begin (many text) (many text) (substring text 0 (- 88768 n))))
+                       (ten (ten (ten (ten "0123456789"))))))
+                    (lambda (s) (string-append s s s s s s s s s s))
+                    (lambda (s) (string=? s s s s s s s s s s s s s s s s s s s)))
                    e
                    (lambda (t)
                      (letrec ((shown
@@ -281,8 +288,9 @@ pub const FUEL_FORMS: &str = r#"; each with all fuel that it needs, and its valu
 ; and with a unit less than all of them need together it is spent
 (import (rnrs))
 (define-syntax within (lambda (s) (syntax-case s () ((_ n e) #'(let-syntax ((m (begin
-  ((lambda (ten) ((lambda (text) (begin (string-copy text) (string-copy text) (substring text 0 (- 888798 n))))
-    (ten (ten (ten (ten (ten "0123456789"))))))) (lambda (s) (string-append s s s s s s s s s s)))
+  ((lambda (ten many)
+     ((lambda (text) (begin (many text) (many text) (substring text 0 (- 88769 n)))) (ten (ten (ten (ten "0123456789"))))))
+   (lambda (s) (string-append s s s s s s s s s s)) (lambda (s) (string=? s s s s s s s s s s s s s s s s s s s)))
   e))) (m))))))
 §(within 144 (list ((lambda (mk) (eq? (mk) (mk))) (lambda () (lambda () 1)))
   ((lambda (mk) (eq? (mk) (mk))) (lambda () car))
@@ -308,10 +316,11 @@ pub const FUEL_FORMS: &str = r#"; each with all fuel that it needs, and its valu
       ((k n e)
        #'(let-syntax
              ((m (begin
-                   ((lambda (ten)
-                      ((lambda (text) (begin (string-copy text) (string-copy text) (substring text 0 (- 888797 n))))
-                       (ten (ten (ten (ten (ten "0123456789")))))))
-                    (lambda (s) (string-append s s s s s s s s s s)))
+                   ((lambda (ten many)
+                      ((lambda (text) (begin (many text) (many text) (substring text 0 (- 88768 n))))
+                       (ten (ten (ten (ten "0123456789"))))))
+                    (lambda (s) (string-append s s s s s s s s s s))
+                    (lambda (s) (string=? s s s s s s s s s s s s s s s s s s s)))
                    e
                    (lambda (t)
                      (letrec ((shown
@@ -346,8 +355,9 @@ file ./g.sls
 ; and with a unit less than all of them need together it is spent
 (import (rnrs) (g))
 (define-syntax within (lambda (s) (syntax-case s () ((_ n e) #'(let-syntax ((m (begin
-  ((lambda (ten) ((lambda (text) (begin (string-copy text) (string-copy text) (substring text 0 (- 888798 n))))
-    (ten (ten (ten (ten (ten "0123456789"))))))) (lambda (s) (string-append s s s s s s s s s s)))
+  ((lambda (ten many)
+     ((lambda (text) (begin (many text) (many text) (substring text 0 (- 88769 n)))) (ten (ten (ten (ten "0123456789"))))))
+   (lambda (s) (string-append s s s s s s s s s s)) (lambda (s) (string=? s s s s s s s s s s s s s s s s s s s)))
   e))) (m))))))
 §(within 198 (list (letrec* ((x 1) (y (+ x 1)) (z (+ y 1))) (list x y z))
   (letrec ((x (lambda () y)) (y (lambda () 2))) ((x)))
@@ -364,8 +374,9 @@ file ./g.sls
 ; less fuel than is needed
 (import (rnrs))
 (define-syntax within (lambda (s) (syntax-case s () ((_ n e) #'(let-syntax ((m (begin
-  ((lambda (ten) ((lambda (text) (begin (string-copy text) (string-copy text) (substring text 0 (- 888798 n))))
-    (ten (ten (ten (ten (ten "0123456789"))))))) (lambda (s) (string-append s s s s s s s s s s)))
+  ((lambda (ten many)
+     ((lambda (text) (begin (many text) (many text) (substring text 0 (- 88769 n)))) (ten (ten (ten (ten "0123456789"))))))
+   (lambda (s) (string-append s s s s s s s s s s)) (lambda (s) (string=? s s s s s s s s s s s s s s s s s s s)))
   e))) (m))))))
 §(within 0 5)
 => 38 FuelSpent
@@ -373,8 +384,9 @@ file ./g.sls
 ; less fuel than is needed
 (import (rnrs))
 (define-syntax within (lambda (s) (syntax-case s () ((_ n e) #'(let-syntax ((m (begin
-  ((lambda (ten) ((lambda (text) (begin (string-copy text) (string-copy text) (substring text 0 (- 888798 n))))
-    (ten (ten (ten (ten (ten "0123456789"))))))) (lambda (s) (string-append s s s s s s s s s s)))
+  ((lambda (ten many)
+     ((lambda (text) (begin (many text) (many text) (substring text 0 (- 88769 n)))) (ten (ten (ten (ten "0123456789"))))))
+   (lambda (s) (string-append s s s s s s s s s s)) (lambda (s) (string=? s s s s s s s s s s s s s s s s s s s)))
   e))) (m))))))
 §(within 3 "abc")
 => 38 FuelSpent
@@ -382,8 +394,9 @@ file ./g.sls
 ; less fuel than is needed
 (import (rnrs))
 (define-syntax within (lambda (s) (syntax-case s () ((_ n e) #'(let-syntax ((m (begin
-  ((lambda (ten) ((lambda (text) (begin (string-copy text) (string-copy text) (substring text 0 (- 888798 n))))
-    (ten (ten (ten (ten (ten "0123456789"))))))) (lambda (s) (string-append s s s s s s s s s s)))
+  ((lambda (ten many)
+     ((lambda (text) (begin (many text) (many text) (substring text 0 (- 88769 n)))) (ten (ten (ten (ten "0123456789"))))))
+   (lambda (s) (string-append s s s s s s s s s s)) (lambda (s) (string=? s s s s s s s s s s s s s s s s s s s)))
   e))) (m))))))
 §(within 2 '(a b))
 => 38 FuelSpent
@@ -391,8 +404,9 @@ file ./g.sls
 ; less fuel than is needed
 (import (rnrs))
 (define-syntax within (lambda (s) (syntax-case s () ((_ n e) #'(let-syntax ((m (begin
-  ((lambda (ten) ((lambda (text) (begin (string-copy text) (string-copy text) (substring text 0 (- 888798 n))))
-    (ten (ten (ten (ten (ten "0123456789"))))))) (lambda (s) (string-append s s s s s s s s s s)))
+  ((lambda (ten many)
+     ((lambda (text) (begin (many text) (many text) (substring text 0 (- 88769 n)))) (ten (ten (ten (ten "0123456789"))))))
+   (lambda (s) (string-append s s s s s s s s s s)) (lambda (s) (string=? s s s s s s s s s s s s s s s s s s s)))
   e))) (m))))))
 §(within 2 (if #t 1 2))
 => 38 FuelSpent
@@ -400,8 +414,9 @@ file ./g.sls
 ; PrimFault within this fuel
 (import (rnrs))
 (define-syntax within (lambda (s) (syntax-case s () ((_ n e) #'(let-syntax ((m (begin
-  ((lambda (ten) ((lambda (text) (begin (string-copy text) (string-copy text) (substring text 0 (- 888798 n))))
-    (ten (ten (ten (ten (ten "0123456789"))))))) (lambda (s) (string-append s s s s s s s s s s)))
+  ((lambda (ten many)
+     ((lambda (text) (begin (many text) (many text) (substring text 0 (- 88769 n)))) (ten (ten (ten (ten "0123456789"))))))
+   (lambda (s) (string-append s s s s s s s s s s)) (lambda (s) (string=? s s s s s s s s s s s s s s s s s s s)))
   e))) (m))))))
 §(within 9 (if (car '()) 1 2))
 => 40 PrimFault: car
@@ -409,8 +424,9 @@ file ./g.sls
 ; less fuel than is needed
 (import (rnrs))
 (define-syntax within (lambda (s) (syntax-case s () ((_ n e) #'(let-syntax ((m (begin
-  ((lambda (ten) ((lambda (text) (begin (string-copy text) (string-copy text) (substring text 0 (- 888798 n))))
-    (ten (ten (ten (ten (ten "0123456789"))))))) (lambda (s) (string-append s s s s s s s s s s)))
+  ((lambda (ten many)
+     ((lambda (text) (begin (many text) (many text) (substring text 0 (- 88769 n)))) (ten (ten (ten (ten "0123456789"))))))
+   (lambda (s) (string-append s s s s s s s s s s)) (lambda (s) (string=? s s s s s s s s s s s s s s s s s s s)))
   e))) (m))))))
 §(within 3 (begin 1 2 3))
 => 38 FuelSpent
@@ -418,8 +434,9 @@ file ./g.sls
 ; PrimFault within this fuel
 (import (rnrs))
 (define-syntax within (lambda (s) (syntax-case s () ((_ n e) #'(let-syntax ((m (begin
-  ((lambda (ten) ((lambda (text) (begin (string-copy text) (string-copy text) (substring text 0 (- 888798 n))))
-    (ten (ten (ten (ten (ten "0123456789"))))))) (lambda (s) (string-append s s s s s s s s s s)))
+  ((lambda (ten many)
+     ((lambda (text) (begin (many text) (many text) (substring text 0 (- 88769 n)))) (ten (ten (ten (ten "0123456789"))))))
+   (lambda (s) (string-append s s s s s s s s s s)) (lambda (s) (string=? s s s s s s s s s s s s s s s s s s s)))
   e))) (m))))))
 §(within 9 (begin (car '()) 1))
 => 40 PrimFault: car
@@ -427,8 +444,9 @@ file ./g.sls
 ; less fuel than is needed
 (import (rnrs))
 (define-syntax within (lambda (s) (syntax-case s () ((_ n e) #'(let-syntax ((m (begin
-  ((lambda (ten) ((lambda (text) (begin (string-copy text) (string-copy text) (substring text 0 (- 888798 n))))
-    (ten (ten (ten (ten (ten "0123456789"))))))) (lambda (s) (string-append s s s s s s s s s s)))
+  ((lambda (ten many)
+     ((lambda (text) (begin (many text) (many text) (substring text 0 (- 88769 n)))) (ten (ten (ten (ten "0123456789"))))))
+   (lambda (s) (string-append s s s s s s s s s s)) (lambda (s) (string=? s s s s s s s s s s s s s s s s s s s)))
   e))) (m))))))
 §(within 3 ((lambda (x) x) 5))
 => 38 FuelSpent
@@ -436,8 +454,9 @@ file ./g.sls
 ; Arity within this fuel
 (import (rnrs))
 (define-syntax within (lambda (s) (syntax-case s () ((_ n e) #'(let-syntax ((m (begin
-  ((lambda (ten) ((lambda (text) (begin (string-copy text) (string-copy text) (substring text 0 (- 888798 n))))
-    (ten (ten (ten (ten (ten "0123456789"))))))) (lambda (s) (string-append s s s s s s s s s s)))
+  ((lambda (ten many)
+     ((lambda (text) (begin (many text) (many text) (substring text 0 (- 88769 n)))) (ten (ten (ten (ten "0123456789"))))))
+   (lambda (s) (string-append s s s s s s s s s s)) (lambda (s) (string=? s s s s s s s s s s s s s s s s s s s)))
   e))) (m))))))
 §(within 2 ((lambda (x) x)))
 => 39 Arity: 0
@@ -445,8 +464,9 @@ file ./g.sls
 ; less fuel than is needed
 (import (rnrs))
 (define-syntax within (lambda (s) (syntax-case s () ((_ n e) #'(let-syntax ((m (begin
-  ((lambda (ten) ((lambda (text) (begin (string-copy text) (string-copy text) (substring text 0 (- 888798 n))))
-    (ten (ten (ten (ten (ten "0123456789"))))))) (lambda (s) (string-append s s s s s s s s s s)))
+  ((lambda (ten many)
+     ((lambda (text) (begin (many text) (many text) (substring text 0 (- 88769 n)))) (ten (ten (ten (ten "0123456789"))))))
+   (lambda (s) (string-append s s s s s s s s s s)) (lambda (s) (string=? s s s s s s s s s s s s s s s s s s s)))
   e))) (m))))))
 §(within 1 ((lambda (x) x)))
 => 38 FuelSpent
@@ -454,8 +474,9 @@ file ./g.sls
 ; Arity within this fuel
 (import (rnrs))
 (define-syntax within (lambda (s) (syntax-case s () ((_ n e) #'(let-syntax ((m (begin
-  ((lambda (ten) ((lambda (text) (begin (string-copy text) (string-copy text) (substring text 0 (- 888798 n))))
-    (ten (ten (ten (ten (ten "0123456789"))))))) (lambda (s) (string-append s s s s s s s s s s)))
+  ((lambda (ten many)
+     ((lambda (text) (begin (many text) (many text) (substring text 0 (- 88769 n)))) (ten (ten (ten (ten "0123456789"))))))
+   (lambda (s) (string-append s s s s s s s s s s)) (lambda (s) (string=? s s s s s s s s s s s s s s s s s s s)))
   e))) (m))))))
 §(within 4 ((lambda (x) x) 1 2))
 => 39 Arity: 2
@@ -463,8 +484,9 @@ file ./g.sls
 ; less fuel than is needed
 (import (rnrs))
 (define-syntax within (lambda (s) (syntax-case s () ((_ n e) #'(let-syntax ((m (begin
-  ((lambda (ten) ((lambda (text) (begin (string-copy text) (string-copy text) (substring text 0 (- 888798 n))))
-    (ten (ten (ten (ten (ten "0123456789"))))))) (lambda (s) (string-append s s s s s s s s s s)))
+  ((lambda (ten many)
+     ((lambda (text) (begin (many text) (many text) (substring text 0 (- 88769 n)))) (ten (ten (ten (ten "0123456789"))))))
+   (lambda (s) (string-append s s s s s s s s s s)) (lambda (s) (string=? s s s s s s s s s s s s s s s s s s s)))
   e))) (m))))))
 §(within 3 ((lambda (x) x) 1 2))
 => 38 FuelSpent
@@ -472,8 +494,9 @@ file ./g.sls
 ; Arity within this fuel
 (import (rnrs))
 (define-syntax within (lambda (s) (syntax-case s () ((_ n e) #'(let-syntax ((m (begin
-  ((lambda (ten) ((lambda (text) (begin (string-copy text) (string-copy text) (substring text 0 (- 888798 n))))
-    (ten (ten (ten (ten (ten "0123456789"))))))) (lambda (s) (string-append s s s s s s s s s s)))
+  ((lambda (ten many)
+     ((lambda (text) (begin (many text) (many text) (substring text 0 (- 88769 n)))) (ten (ten (ten (ten "0123456789"))))))
+   (lambda (s) (string-append s s s s s s s s s s)) (lambda (s) (string=? s s s s s s s s s s s s s s s s s s s)))
   e))) (m))))))
 §(within 2 ((lambda (x . y) x)))
 => 39 Arity: 0
@@ -481,8 +504,9 @@ file ./g.sls
 ; Arity within this fuel
 (import (rnrs))
 (define-syntax within (lambda (s) (syntax-case s () ((_ n e) #'(let-syntax ((m (begin
-  ((lambda (ten) ((lambda (text) (begin (string-copy text) (string-copy text) (substring text 0 (- 888798 n))))
-    (ten (ten (ten (ten (ten "0123456789"))))))) (lambda (s) (string-append s s s s s s s s s s)))
+  ((lambda (ten many)
+     ((lambda (text) (begin (many text) (many text) (substring text 0 (- 88769 n)))) (ten (ten (ten (ten "0123456789"))))))
+   (lambda (s) (string-append s s s s s s s s s s)) (lambda (s) (string=? s s s s s s s s s s s s s s s s s s s)))
   e))) (m))))))
 §(within 2 ((case-lambda ((x) 1))))
 => 39 Arity: 0
@@ -490,8 +514,9 @@ file ./g.sls
 ; UnsetVariable within this fuel
 (import (rnrs))
 (define-syntax within (lambda (s) (syntax-case s () ((_ n e) #'(let-syntax ((m (begin
-  ((lambda (ten) ((lambda (text) (begin (string-copy text) (string-copy text) (substring text 0 (- 888798 n))))
-    (ten (ten (ten (ten (ten "0123456789"))))))) (lambda (s) (string-append s s s s s s s s s s)))
+  ((lambda (ten many)
+     ((lambda (text) (begin (many text) (many text) (substring text 0 (- 88769 n)))) (ten (ten (ten (ten "0123456789"))))))
+   (lambda (s) (string-append s s s s s s s s s s)) (lambda (s) (string=? s s s s s s s s s s s s s s s s s s s)))
   e))) (m))))))
 §(within 3 (letrec ((x 1) (y x)) y))
 => 41 UnsetVariable: x
@@ -499,8 +524,9 @@ file ./g.sls
 ; less fuel than is needed
 (import (rnrs))
 (define-syntax within (lambda (s) (syntax-case s () ((_ n e) #'(let-syntax ((m (begin
-  ((lambda (ten) ((lambda (text) (begin (string-copy text) (string-copy text) (substring text 0 (- 888798 n))))
-    (ten (ten (ten (ten (ten "0123456789"))))))) (lambda (s) (string-append s s s s s s s s s s)))
+  ((lambda (ten many)
+     ((lambda (text) (begin (many text) (many text) (substring text 0 (- 88769 n)))) (ten (ten (ten (ten "0123456789"))))))
+   (lambda (s) (string-append s s s s s s s s s s)) (lambda (s) (string=? s s s s s s s s s s s s s s s s s s s)))
   e))) (m))))))
 §(within 2 (letrec ((x 1) (y x)) y))
 => 38 FuelSpent
@@ -508,8 +534,9 @@ file ./g.sls
 ; UnsetVariable within this fuel
 (import (rnrs))
 (define-syntax within (lambda (s) (syntax-case s () ((_ n e) #'(let-syntax ((m (begin
-  ((lambda (ten) ((lambda (text) (begin (string-copy text) (string-copy text) (substring text 0 (- 888798 n))))
-    (ten (ten (ten (ten (ten "0123456789"))))))) (lambda (s) (string-append s s s s s s s s s s)))
+  ((lambda (ten many)
+     ((lambda (text) (begin (many text) (many text) (substring text 0 (- 88769 n)))) (ten (ten (ten (ten "0123456789"))))))
+   (lambda (s) (string-append s s s s s s s s s s)) (lambda (s) (string=? s s s s s s s s s s s s s s s s s s s)))
   e))) (m))))))
 §(within 2 (letrec* ((y x) (x 1)) y))
 => 41 UnsetVariable: x
@@ -517,8 +544,9 @@ file ./g.sls
 ; UnsetVariable within this fuel
 (import (rnrs))
 (define-syntax within (lambda (s) (syntax-case s () ((_ n e) #'(let-syntax ((m (begin
-  ((lambda (ten) ((lambda (text) (begin (string-copy text) (string-copy text) (substring text 0 (- 888798 n))))
-    (ten (ten (ten (ten (ten "0123456789"))))))) (lambda (s) (string-append s s s s s s s s s s)))
+  ((lambda (ten many)
+     ((lambda (text) (begin (many text) (many text) (substring text 0 (- 88769 n)))) (ten (ten (ten (ten "0123456789"))))))
+   (lambda (s) (string-append s s s s s s s s s s)) (lambda (s) (string=? s s s s s s s s s s s s s s s s s s s)))
   e))) (m))))))
 §(within 2 (letrec ((y y)) y))
 => 41 UnsetVariable: y
@@ -526,8 +554,9 @@ file ./g.sls
 ; UnsetVariable within this fuel
 (import (rnrs))
 (define-syntax within (lambda (s) (syntax-case s () ((_ n e) #'(let-syntax ((m (begin
-  ((lambda (ten) ((lambda (text) (begin (string-copy text) (string-copy text) (substring text 0 (- 888798 n))))
-    (ten (ten (ten (ten (ten "0123456789"))))))) (lambda (s) (string-append s s s s s s s s s s)))
+  ((lambda (ten many)
+     ((lambda (text) (begin (many text) (many text) (substring text 0 (- 88769 n)))) (ten (ten (ten (ten "0123456789"))))))
+   (lambda (s) (string-append s s s s s s s s s s)) (lambda (s) (string=? s s s s s s s s s s s s s s s s s s s)))
   e))) (m))))))
 §(within 5 (letrec* ((f (lambda () x)) (x (f))) x))
 => 41 UnsetVariable: x
@@ -535,8 +564,9 @@ file ./g.sls
 ; less fuel than is needed
 (import (rnrs))
 (define-syntax within (lambda (s) (syntax-case s () ((_ n e) #'(let-syntax ((m (begin
-  ((lambda (ten) ((lambda (text) (begin (string-copy text) (string-copy text) (substring text 0 (- 888798 n))))
-    (ten (ten (ten (ten (ten "0123456789"))))))) (lambda (s) (string-append s s s s s s s s s s)))
+  ((lambda (ten many)
+     ((lambda (text) (begin (many text) (many text) (substring text 0 (- 88769 n)))) (ten (ten (ten (ten "0123456789"))))))
+   (lambda (s) (string-append s s s s s s s s s s)) (lambda (s) (string=? s s s s s s s s s s s s s s s s s s s)))
   e))) (m))))))
 §(within 59 (letrec ((loop (lambda (n) (if (zero? n) #'1 (loop (- n 1)))))) (loop 5)))
 => 38 FuelSpent
@@ -544,8 +574,9 @@ file ./g.sls
 ; less fuel than is needed
 (import (rnrs))
 (define-syntax within (lambda (s) (syntax-case s () ((_ n e) #'(let-syntax ((m (begin
-  ((lambda (ten) ((lambda (text) (begin (string-copy text) (string-copy text) (substring text 0 (- 888798 n))))
-    (ten (ten (ten (ten (ten "0123456789"))))))) (lambda (s) (string-append s s s s s s s s s s)))
+  ((lambda (ten many)
+     ((lambda (text) (begin (many text) (many text) (substring text 0 (- 88769 n)))) (ten (ten (ten (ten "0123456789"))))))
+   (lambda (s) (string-append s s s s s s s s s s)) (lambda (s) (string=? s s s s s s s s s s s s s s s s s s s)))
   e))) (m))))))
 §(within 1000 (letrec ((f (lambda (n) (+ 1 (f n))))) (f 0)))
 => 38 FuelSpent
@@ -553,8 +584,9 @@ file ./g.sls
 ; SetAtExpansion within this fuel
 (import (rnrs))
 (define-syntax within (lambda (s) (syntax-case s () ((_ n e) #'(let-syntax ((m (begin
-  ((lambda (ten) ((lambda (text) (begin (string-copy text) (string-copy text) (substring text 0 (- 888798 n))))
-    (ten (ten (ten (ten (ten "0123456789"))))))) (lambda (s) (string-append s s s s s s s s s s)))
+  ((lambda (ten many)
+     ((lambda (text) (begin (many text) (many text) (substring text 0 (- 88769 n)))) (ten (ten (ten (ten "0123456789"))))))
+   (lambda (s) (string-append s s s s s s s s s s)) (lambda (s) (string=? s s s s s s s s s s s s s s s s s s s)))
   e))) (m))))))
 §(within 4 ((lambda (x) (set! x 1)) 5))
 => 43 SetAtExpansion: x
@@ -562,8 +594,9 @@ file ./g.sls
 ; less fuel than is needed
 (import (rnrs))
 (define-syntax within (lambda (s) (syntax-case s () ((_ n e) #'(let-syntax ((m (begin
-  ((lambda (ten) ((lambda (text) (begin (string-copy text) (string-copy text) (substring text 0 (- 888798 n))))
-    (ten (ten (ten (ten (ten "0123456789"))))))) (lambda (s) (string-append s s s s s s s s s s)))
+  ((lambda (ten many)
+     ((lambda (text) (begin (many text) (many text) (substring text 0 (- 88769 n)))) (ten (ten (ten (ten "0123456789"))))))
+   (lambda (s) (string-append s s s s s s s s s s)) (lambda (s) (string=? s s s s s s s s s s s s s s s s s s s)))
   e))) (m))))))
 §(within 3 ((lambda (x) (set! x 1)) 5))
 => 38 FuelSpent
@@ -571,8 +604,9 @@ file ./g.sls
 ; SetAtExpansion within this fuel
 (import (rnrs))
 (define-syntax within (lambda (s) (syntax-case s () ((_ n e) #'(let-syntax ((m (begin
-  ((lambda (ten) ((lambda (text) (begin (string-copy text) (string-copy text) (substring text 0 (- 888798 n))))
-    (ten (ten (ten (ten (ten "0123456789"))))))) (lambda (s) (string-append s s s s s s s s s s)))
+  ((lambda (ten many)
+     ((lambda (text) (begin (many text) (many text) (substring text 0 (- 88769 n)))) (ten (ten (ten (ten "0123456789"))))))
+   (lambda (s) (string-append s s s s s s s s s s)) (lambda (s) (string=? s s s s s s s s s s s s s s s s s s s)))
   e))) (m))))))
 §(within 8 ((lambda (y) (set! y (car '()))) 5))
 => 43 SetAtExpansion: y
@@ -580,8 +614,9 @@ file ./g.sls
 ; SetAtExpansion within this fuel
 (import (rnrs))
 (define-syntax within (lambda (s) (syntax-case s () ((_ n e) #'(let-syntax ((m (begin
-  ((lambda (ten) ((lambda (text) (begin (string-copy text) (string-copy text) (substring text 0 (- 888798 n))))
-    (ten (ten (ten (ten (ten "0123456789"))))))) (lambda (s) (string-append s s s s s s s s s s)))
+  ((lambda (ten many)
+     ((lambda (text) (begin (many text) (many text) (substring text 0 (- 88769 n)))) (ten (ten (ten (ten "0123456789"))))))
+   (lambda (s) (string-append s s s s s s s s s s)) (lambda (s) (string=? s s s s s s s s s s s s s s s s s s s)))
   e))) (m))))))
 §(within 4 ((lambda (x) (set! x 2)) 1))
 => 43 SetAtExpansion: x"#;

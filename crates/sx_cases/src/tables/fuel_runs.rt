@@ -9,10 +9,11 @@ pub const FUEL_RUNS: &str =
       ((k n e)
        #'(let-syntax
              ((m (begin
-                   ((lambda (ten)
-                      ((lambda (text) (begin (string-copy text) (string-copy text) (substring text 0 (- 888797 n))))
-                       (ten (ten (ten (ten (ten "0123456789")))))))
-                    (lambda (s) (string-append s s s s s s s s s s)))
+                   ((lambda (ten many)
+                      ((lambda (text) (begin (many text) (many text) (substring text 0 (- 88768 n))))
+                       (ten (ten (ten (ten "0123456789"))))))
+                    (lambda (s) (string-append s s s s s s s s s s))
+                    (lambda (s) (string=? s s s s s s s s s s s s s s s s s s s)))
                    e
                    (lambda (t)
                      (letrec ((shown
@@ -29,10 +30,11 @@ pub const FUEL_RUNS: &str =
 file ./l.sls
 (library (l) (export y) (import (rnrs))
   (define spent
-    ((lambda (ten)
-       ((lambda (text) (begin (string-copy text) (string-copy text) (substring text 0 888800)))
-        (ten (ten (ten (ten (ten "0123456789")))))))
-     (lambda (s) (string-append s s s s s s s s s s))))
+    ((lambda (ten many)
+       ((lambda (text) (begin (many text) (many text) (substring text 0 88771)))
+        (ten (ten (ten (ten "0123456789"))))))
+     (lambda (s) (string-append s s s s s s s s s s))
+     (lambda (s) (string=? s s s s s s s s s s s s s s s s s s s))))
   (define x 1)
   (define y (lambda () x)))
 => 1
@@ -43,10 +45,11 @@ file ./l.sls
 file ./l.sls
 (library (l) (export y) (import (rnrs))
   (define spent
-    ((lambda (ten)
-       ((lambda (text) (begin (string-copy text) (string-copy text) (substring text 0 888801)))
-        (ten (ten (ten (ten (ten "0123456789")))))))
-     (lambda (s) (string-append s s s s s s s s s s))))
+    ((lambda (ten many)
+       ((lambda (text) (begin (many text) (many text) (substring text 0 88772)))
+        (ten (ten (ten (ten "0123456789"))))))
+     (lambda (s) (string-append s s s s s s s s s s))
+     (lambda (s) (string=? s s s s s s s s s s s s s s s s s s s))))
   (define x 1)
   (define y (lambda () x)))
 => 38 FuelSpent
@@ -59,10 +62,11 @@ file ./l.sls
       ((k n e)
        #'(let-syntax
              ((m (begin
-                   ((lambda (ten)
-                      ((lambda (text) (begin (string-copy text) (string-copy text) (substring text 0 (- 888797 n))))
-                       (ten (ten (ten (ten (ten "0123456789")))))))
-                    (lambda (s) (string-append s s s s s s s s s s)))
+                   ((lambda (ten many)
+                      ((lambda (text) (begin (many text) (many text) (substring text 0 (- 88768 n))))
+                       (ten (ten (ten (ten "0123456789"))))))
+                    (lambda (s) (string-append s s s s s s s s s s))
+                    (lambda (s) (string=? s s s s s s s s s s s s s s s s s s s)))
                    e
                    (lambda (t)
                      (letrec ((shown
@@ -79,10 +83,11 @@ file ./l.sls
 file ./l.sls
 (library (l) (export x y) (import (rnrs))
   (define spent
-    ((lambda (ten)
-       ((lambda (text) (begin (string-copy text) (string-copy text) (substring text 0 888791)))
-        (ten (ten (ten (ten (ten "0123456789")))))))
-     (lambda (s) (string-append s s s s s s s s s s))))
+    ((lambda (ten many)
+       ((lambda (text) (begin (many text) (many text) (substring text 0 88762)))
+        (ten (ten (ten (ten "0123456789"))))))
+     (lambda (s) (string-append s s s s s s s s s s))
+     (lambda (s) (string=? s s s s s s s s s s s s s s s s s s s))))
   (define x 1)
   (define y (+ x 1))
   (list x y))
@@ -94,10 +99,11 @@ file ./l.sls
 file ./l.sls
 (library (l) (export x y) (import (rnrs))
   (define spent
-    ((lambda (ten)
-       ((lambda (text) (begin (string-copy text) (string-copy text) (substring text 0 888792)))
-        (ten (ten (ten (ten (ten "0123456789")))))))
-     (lambda (s) (string-append s s s s s s s s s s))))
+    ((lambda (ten many)
+       ((lambda (text) (begin (many text) (many text) (substring text 0 88763)))
+        (ten (ten (ten (ten "0123456789"))))))
+     (lambda (s) (string-append s s s s s s s s s s))
+     (lambda (s) (string=? s s s s s s s s s s s s s s s s s s s))))
   (define x 1)
   (define y (+ x 1))
   (list x y))
@@ -111,10 +117,11 @@ file ./l.sls
       ((k n e)
        #'(let-syntax
              ((m (begin
-                   ((lambda (ten)
-                      ((lambda (text) (begin (string-copy text) (string-copy text) (substring text 0 (- 888797 n))))
-                       (ten (ten (ten (ten (ten "0123456789")))))))
-                    (lambda (s) (string-append s s s s s s s s s s)))
+                   ((lambda (ten many)
+                      ((lambda (text) (begin (many text) (many text) (substring text 0 (- 88768 n))))
+                       (ten (ten (ten (ten "0123456789"))))))
+                    (lambda (s) (string-append s s s s s s s s s s))
+                    (lambda (s) (string=? s s s s s s s s s s s s s s s s s s s)))
                    e
                    (lambda (t)
                      (letrec ((shown
@@ -131,10 +138,11 @@ file ./l.sls
 file ./l.sls
 (library (l) (export f) (import (rnrs))
   (define spent
-    ((lambda (ten)
-       ((lambda (text) (begin (string-copy text) (string-copy text) (substring text 0 888801)))
-        (ten (ten (ten (ten (ten "0123456789")))))))
-     (lambda (s) (string-append s s s s s s s s s s))))
+    ((lambda (ten many)
+       ((lambda (text) (begin (many text) (many text) (substring text 0 88772)))
+        (ten (ten (ten (ten "0123456789"))))))
+     (lambda (s) (string-append s s s s s s s s s s))
+     (lambda (s) (string=? s s s s s s s s s s s s s s s s s s s))))
   (define f (lambda (n) (if (zero? n) '() (cons n (f (- n 1)))))))
 => (quote (2 1))
 
@@ -144,10 +152,11 @@ file ./l.sls
 file ./l.sls
 (library (l) (export f) (import (rnrs))
   (define spent
-    ((lambda (ten)
-       ((lambda (text) (begin (string-copy text) (string-copy text) (substring text 0 888802)))
-        (ten (ten (ten (ten (ten "0123456789")))))))
-     (lambda (s) (string-append s s s s s s s s s s))))
+    ((lambda (ten many)
+       ((lambda (text) (begin (many text) (many text) (substring text 0 88773)))
+        (ten (ten (ten (ten "0123456789"))))))
+     (lambda (s) (string-append s s s s s s s s s s))
+     (lambda (s) (string=? s s s s s s s s s s s s s s s s s s s))))
   (define f (lambda (n) (if (zero? n) '() (cons n (f (- n 1)))))))
 => 38 FuelSpent
 
@@ -159,10 +168,11 @@ file ./l.sls
       ((k n e)
        #'(let-syntax
              ((m (begin
-                   ((lambda (ten)
-                      ((lambda (text) (begin (string-copy text) (string-copy text) (substring text 0 (- 888797 n))))
-                       (ten (ten (ten (ten (ten "0123456789")))))))
-                    (lambda (s) (string-append s s s s s s s s s s)))
+                   ((lambda (ten many)
+                      ((lambda (text) (begin (many text) (many text) (substring text 0 (- 88768 n))))
+                       (ten (ten (ten (ten "0123456789"))))))
+                    (lambda (s) (string-append s s s s s s s s s s))
+                    (lambda (s) (string=? s s s s s s s s s s s s s s s s s s s)))
                    e
                    (lambda (t)
                      (letrec ((shown
@@ -179,10 +189,11 @@ file ./l.sls
 file ./l.sls
 (library (l) (export g) (import (rnrs))
   (define spent
-    ((lambda (ten)
-       ((lambda (text) (begin (string-copy text) (string-copy text) (substring text 0 888801)))
-        (ten (ten (ten (ten (ten "0123456789")))))))
-     (lambda (s) (string-append s s s s s s s s s s))))
+    ((lambda (ten many)
+       ((lambda (text) (begin (many text) (many text) (substring text 0 88772)))
+        (ten (ten (ten (ten "0123456789"))))))
+     (lambda (s) (string-append s s s s s s s s s s))
+     (lambda (s) (string=? s s s s s s s s s s s s s s s s s s s))))
   (define g 8))
 => 8
 
@@ -192,10 +203,11 @@ file ./l.sls
 file ./l.sls
 (library (l) (export g) (import (rnrs))
   (define spent
-    ((lambda (ten)
-       ((lambda (text) (begin (string-copy text) (string-copy text) (substring text 0 888802)))
-        (ten (ten (ten (ten (ten "0123456789")))))))
-     (lambda (s) (string-append s s s s s s s s s s))))
+    ((lambda (ten many)
+       ((lambda (text) (begin (many text) (many text) (substring text 0 88773)))
+        (ten (ten (ten (ten "0123456789"))))))
+     (lambda (s) (string-append s s s s s s s s s s))
+     (lambda (s) (string=? s s s s s s s s s s s s s s s s s s s))))
   (define g 8))
 => 38 FuelSpent
 
@@ -205,10 +217,11 @@ file ./l.sls
 file ./l.sls
 (library (l) (export y) (import (rnrs))
   (define spent
-    ((lambda (ten)
-       ((lambda (text) (begin (string-copy text) (string-copy text) (substring text 0 888801)))
-        (ten (ten (ten (ten (ten "0123456789")))))))
-     (lambda (s) (string-append s s s s s s s s s s))))
+    ((lambda (ten many)
+       ((lambda (text) (begin (many text) (many text) (substring text 0 88772)))
+        (ten (ten (ten (ten "0123456789"))))))
+     (lambda (s) (string-append s s s s s s s s s s))
+     (lambda (s) (string=? s s s s s s s s s s s s s s s s s s s))))
   (define y x)
   (define x 1))
 => 41 UnsetVariable: x
@@ -219,10 +232,11 @@ file ./l.sls
 file ./l.sls
 (library (l) (export x) (import (rnrs))
   (define spent
-    ((lambda (ten)
-       ((lambda (text) (begin (string-copy text) (string-copy text) (substring text 0 888801)))
-        (ten (ten (ten (ten (ten "0123456789")))))))
-     (lambda (s) (string-append s s s s s s s s s s))))
+    ((lambda (ten many)
+       ((lambda (text) (begin (many text) (many text) (substring text 0 88772)))
+        (ten (ten (ten (ten "0123456789"))))))
+     (lambda (s) (string-append s s s s s s s s s s))
+     (lambda (s) (string=? s s s s s s s s s s s s s s s s s s s))))
   (define x 1)
   (define y 2))
 => 38 FuelSpent
@@ -233,10 +247,11 @@ file ./l.sls
 file ./l.sls
 (library (l) (export x) (import (rnrs))
   (define spent
-    ((lambda (ten)
-       ((lambda (text) (begin (string-copy text) (string-copy text) (substring text 0 888793)))
-        (ten (ten (ten (ten (ten "0123456789")))))))
-     (lambda (s) (string-append s s s s s s s s s s))))
+    ((lambda (ten many)
+       ((lambda (text) (begin (many text) (many text) (substring text 0 88764)))
+        (ten (ten (ten (ten "0123456789"))))))
+     (lambda (s) (string-append s s s s s s s s s s))
+     (lambda (s) (string=? s s s s s s s s s s s s s s s s s s s))))
   (define x 1)
   (car x))
 => 40 PrimFault: car
@@ -244,10 +259,11 @@ file ./l.sls
 ; the call of a transformer costs what its body costs
 (import (rnrs))
 (define-syntax m (lambda (x) (begin
-  ((lambda (ten)
-     ((lambda (text) (begin (string-copy text) (string-copy text) (substring text 0 888796)))
-      (ten (ten (ten (ten (ten "0123456789")))))))
-   (lambda (s) (string-append s s s s s s s s s s)))
+  ((lambda (ten many)
+     ((lambda (text) (begin (many text) (many text) (substring text 0 88767)))
+      (ten (ten (ten (ten "0123456789"))))))
+   (lambda (s) (string-append s s s s s s s s s s))
+   (lambda (s) (string=? s s s s s s s s s s s s s s s s s s s)))
   (cons x x) #'1)))
 (m)
 => 1
@@ -255,10 +271,11 @@ file ./l.sls
 ; and not a unit less
 (import (rnrs))
 (define-syntax m (lambda (x) (begin
-  ((lambda (ten)
-     ((lambda (text) (begin (string-copy text) (string-copy text) (substring text 0 888797)))
-      (ten (ten (ten (ten (ten "0123456789")))))))
-   (lambda (s) (string-append s s s s s s s s s s)))
+  ((lambda (ten many)
+     ((lambda (text) (begin (many text) (many text) (substring text 0 88768)))
+      (ten (ten (ten (ten "0123456789"))))))
+   (lambda (s) (string-append s s s s s s s s s s))
+   (lambda (s) (string=? s s s s s s s s s s s s s s s s s s s)))
   (cons x x) #'1)))
 §(m)
 => 38 FuelSpent
@@ -266,10 +283,11 @@ file ./l.sls
 ; a transformer that takes all its arguments as a list
 (import (rnrs))
 (define-syntax m (lambda x (begin
-  ((lambda (ten)
-     ((lambda (text) (begin (string-copy text) (string-copy text) (substring text 0 888797)))
-      (ten (ten (ten (ten (ten "0123456789")))))))
-   (lambda (s) (string-append s s s s s s s s s s)))
+  ((lambda (ten many)
+     ((lambda (text) (begin (many text) (many text) (substring text 0 88768)))
+      (ten (ten (ten (ten "0123456789"))))))
+   (lambda (s) (string-append s s s s s s s s s s))
+   (lambda (s) (string=? s s s s s s s s s s s s s s s s s s s)))
   (length x))))
 (m)
 => 1
@@ -277,10 +295,11 @@ file ./l.sls
 ; and not a unit less
 (import (rnrs))
 (define-syntax m (lambda x (begin
-  ((lambda (ten)
-     ((lambda (text) (begin (string-copy text) (string-copy text) (substring text 0 888798)))
-      (ten (ten (ten (ten (ten "0123456789")))))))
-   (lambda (s) (string-append s s s s s s s s s s)))
+  ((lambda (ten many)
+     ((lambda (text) (begin (many text) (many text) (substring text 0 88769)))
+      (ten (ten (ten (ten "0123456789"))))))
+   (lambda (s) (string-append s s s s s s s s s s))
+   (lambda (s) (string=? s s s s s s s s s s s s s s s s s s s)))
   (length x))))
 §(m)
 => 38 FuelSpent
@@ -352,10 +371,11 @@ m
 ; a datum of 100,000 levels, with all fuel that it needs
 (import (rnrs))
 (define-syntax m (lambda (s) (begin
-  ((lambda (ten)
-     ((lambda (text) (begin (string-copy text) (substring text 0 288788)))
-      (ten (ten (ten (ten (ten "0123456789")))))))
-   (lambda (s) (string-append s s s s s s s s s s)))
+  ((lambda (ten many)
+     ((lambda (text) (begin (many text) (string=? text text text) (substring text 0 88775)))
+      (ten (ten (ten (ten "0123456789"))))))
+   (lambda (s) (string-append s s s s s s s s s s))
+   (lambda (s) (string=? s s s s s s s s s s s s s s s s s s s)))
   (letrec ((nest (lambda (n x) (if (zero? n) x (nest (- n 1) (list x)))))) (pair? (syntax->datum (nest 100000 '())))))))
 (m)
 => #t
@@ -363,10 +383,11 @@ m
 ; and with a unit less
 (import (rnrs))
 (define-syntax m (lambda (s) (begin
-  ((lambda (ten)
-     ((lambda (text) (begin (string-copy text) (substring text 0 288789)))
-      (ten (ten (ten (ten (ten "0123456789")))))))
-   (lambda (s) (string-append s s s s s s s s s s)))
+  ((lambda (ten many)
+     ((lambda (text) (begin (many text) (string=? text text text) (substring text 0 88776)))
+      (ten (ten (ten (ten "0123456789"))))))
+   (lambda (s) (string-append s s s s s s s s s s))
+   (lambda (s) (string=? s s s s s s s s s s s s s s s s s s s)))
   (letrec ((nest (lambda (n x) (if (zero? n) x (nest (- n 1) (list x)))))) (pair? (syntax->datum (nest 100000 '())))))))
 §(m)
 => 38 FuelSpent"#;

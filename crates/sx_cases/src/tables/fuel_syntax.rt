@@ -8,10 +8,11 @@ pub const FUEL_SYNTAX: &str = r#"; each with all fuel that it needs, and its val
       ((k n e)
        #'(let-syntax
              ((m (begin
-                   ((lambda (ten)
-                      ((lambda (text) (begin (string-copy text) (string-copy text) (substring text 0 (- 888797 n))))
-                       (ten (ten (ten (ten (ten "0123456789")))))))
-                    (lambda (s) (string-append s s s s s s s s s s)))
+                   ((lambda (ten many)
+                      ((lambda (text) (begin (many text) (many text) (substring text 0 (- 88768 n))))
+                       (ten (ten (ten (ten "0123456789"))))))
+                    (lambda (s) (string-append s s s s s s s s s s))
+                    (lambda (s) (string=? s s s s s s s s s s s s s s s s s s s)))
                    e
                    (lambda (t)
                      (letrec ((shown
@@ -56,8 +57,9 @@ pub const FUEL_SYNTAX: &str = r#"; each with all fuel that it needs, and its val
 ; and with a unit less than all of them need together it is spent
 (import (rnrs))
 (define-syntax within (lambda (s) (syntax-case s () ((_ n e) #'(let-syntax ((m (begin
-  ((lambda (ten) ((lambda (text) (begin (string-copy text) (string-copy text) (substring text 0 (- 888798 n))))
-    (ten (ten (ten (ten (ten "0123456789"))))))) (lambda (s) (string-append s s s s s s s s s s)))
+  ((lambda (ten many)
+     ((lambda (text) (begin (many text) (many text) (substring text 0 (- 88769 n)))) (ten (ten (ten (ten "0123456789"))))))
+   (lambda (s) (string-append s s s s s s s s s s)) (lambda (s) (string=? s s s s s s s s s s s s s s s s s s s)))
   e))) (m))))))
 §(within 88 (list #'x
   #'(a b)
@@ -83,10 +85,11 @@ pub const FUEL_SYNTAX: &str = r#"; each with all fuel that it needs, and its val
       ((k n e)
        #'(let-syntax
              ((m (begin
-                   ((lambda (ten)
-                      ((lambda (text) (begin (string-copy text) (string-copy text) (substring text 0 (- 888797 n))))
-                       (ten (ten (ten (ten (ten "0123456789")))))))
-                    (lambda (s) (string-append s s s s s s s s s s)))
+                   ((lambda (ten many)
+                      ((lambda (text) (begin (many text) (many text) (substring text 0 (- 88768 n))))
+                       (ten (ten (ten (ten "0123456789"))))))
+                    (lambda (s) (string-append s s s s s s s s s s))
+                    (lambda (s) (string=? s s s s s s s s s s s s s s s s s s s)))
                    e
                    (lambda (t)
                      (letrec ((shown
@@ -131,8 +134,9 @@ pub const FUEL_SYNTAX: &str = r#"; each with all fuel that it needs, and its val
 ; and with a unit less than all of them need together it is spent
 (import (rnrs))
 (define-syntax within (lambda (s) (syntax-case s () ((_ n e) #'(let-syntax ((m (begin
-  ((lambda (ten) ((lambda (text) (begin (string-copy text) (string-copy text) (substring text 0 (- 888798 n))))
-    (ten (ten (ten (ten (ten "0123456789"))))))) (lambda (s) (string-append s s s s s s s s s s)))
+  ((lambda (ten many)
+     ((lambda (text) (begin (many text) (many text) (substring text 0 (- 88769 n)))) (ten (ten (ten (ten "0123456789"))))))
+   (lambda (s) (string-append s s s s s s s s s s)) (lambda (s) (string=? s s s s s s s s s s s s s s s s s s s)))
   e))) (m))))))
 §(within 160 (list (syntax-case '(1) () ((?a) (eq? 1 2) 5) ((?b) 6))
   (syntax-case '#(1 2) () (#(??a ...) #'#(??a ...)))
@@ -158,10 +162,11 @@ pub const FUEL_SYNTAX: &str = r#"; each with all fuel that it needs, and its val
       ((k n e)
        #'(let-syntax
              ((m (begin
-                   ((lambda (ten)
-                      ((lambda (text) (begin (string-copy text) (string-copy text) (substring text 0 (- 888797 n))))
-                       (ten (ten (ten (ten (ten "0123456789")))))))
-                    (lambda (s) (string-append s s s s s s s s s s)))
+                   ((lambda (ten many)
+                      ((lambda (text) (begin (many text) (many text) (substring text 0 (- 88768 n))))
+                       (ten (ten (ten (ten "0123456789"))))))
+                    (lambda (s) (string-append s s s s s s s s s s))
+                    (lambda (s) (string=? s s s s s s s s s s s s s s s s s s s)))
                    e
                    (lambda (t)
                      (letrec ((shown
@@ -206,8 +211,9 @@ pub const FUEL_SYNTAX: &str = r#"; each with all fuel that it needs, and its val
 ; and with a unit less than all of them need together it is spent
 (import (rnrs))
 (define-syntax within (lambda (s) (syntax-case s () ((_ n e) #'(let-syntax ((m (begin
-  ((lambda (ten) ((lambda (text) (begin (string-copy text) (string-copy text) (substring text 0 (- 888798 n))))
-    (ten (ten (ten (ten (ten "0123456789"))))))) (lambda (s) (string-append s s s s s s s s s s)))
+  ((lambda (ten many)
+     ((lambda (text) (begin (many text) (many text) (substring text 0 (- 88769 n)))) (ten (ten (ten (ten "0123456789"))))))
+   (lambda (s) (string-append s s s s s s s s s s)) (lambda (s) (string=? s s s s s s s s s s s s s s s s s s s)))
   e))) (m))))))
 §(within 102 (list (syntax-case 1 () (?a #'(?a b)))
   (syntax-case 1 () (?a #'#(?a x)))
@@ -233,10 +239,11 @@ pub const FUEL_SYNTAX: &str = r#"; each with all fuel that it needs, and its val
       ((k n e)
        #'(let-syntax
              ((m (begin
-                   ((lambda (ten)
-                      ((lambda (text) (begin (string-copy text) (string-copy text) (substring text 0 (- 888797 n))))
-                       (ten (ten (ten (ten (ten "0123456789")))))))
-                    (lambda (s) (string-append s s s s s s s s s s)))
+                   ((lambda (ten many)
+                      ((lambda (text) (begin (many text) (many text) (substring text 0 (- 88768 n))))
+                       (ten (ten (ten (ten "0123456789"))))))
+                    (lambda (s) (string-append s s s s s s s s s s))
+                    (lambda (s) (string=? s s s s s s s s s s s s s s s s s s s)))
                    e
                    (lambda (t)
                      (letrec ((shown
@@ -269,8 +276,9 @@ pub const FUEL_SYNTAX: &str = r#"; each with all fuel that it needs, and its val
 ; and with a unit less than all of them need together it is spent
 (import (rnrs))
 (define-syntax within (lambda (s) (syntax-case s () ((_ n e) #'(let-syntax ((m (begin
-  ((lambda (ten) ((lambda (text) (begin (string-copy text) (string-copy text) (substring text 0 (- 888798 n))))
-    (ten (ten (ten (ten (ten "0123456789"))))))) (lambda (s) (string-append s s s s s s s s s s)))
+  ((lambda (ten many)
+     ((lambda (text) (begin (many text) (many text) (substring text 0 (- 88769 n)))) (ten (ten (ten (ten "0123456789"))))))
+   (lambda (s) (string-append s s s s s s s s s s)) (lambda (s) (string=? s s s s s s s s s s s s s s s s s s s)))
   e))) (m))))))
 §(within 48094 (list (bound-identifier=? #'a #'a)
   ((lambda (t) (bound-identifier=? (car t) (cadr t))) (generate-temporaries '(1 2)))
@@ -285,8 +293,9 @@ pub const FUEL_SYNTAX: &str = r#"; each with all fuel that it needs, and its val
 ; less fuel than is needed
 (import (rnrs))
 (define-syntax within (lambda (s) (syntax-case s () ((_ n e) #'(let-syntax ((m (begin
-  ((lambda (ten) ((lambda (text) (begin (string-copy text) (string-copy text) (substring text 0 (- 888798 n))))
-    (ten (ten (ten (ten (ten "0123456789"))))))) (lambda (s) (string-append s s s s s s s s s s)))
+  ((lambda (ten many)
+     ((lambda (text) (begin (many text) (many text) (substring text 0 (- 88769 n)))) (ten (ten (ten (ten "0123456789"))))))
+   (lambda (s) (string-append s s s s s s s s s s)) (lambda (s) (string=? s s s s s s s s s s s s s s s s s s s)))
   e))) (m))))))
 §(within 3 (syntax-case 5 () (_ 1)))
 => 38 FuelSpent
@@ -294,8 +303,9 @@ pub const FUEL_SYNTAX: &str = r#"; each with all fuel that it needs, and its val
 ; less fuel than is needed
 (import (rnrs))
 (define-syntax within (lambda (s) (syntax-case s () ((_ n e) #'(let-syntax ((m (begin
-  ((lambda (ten) ((lambda (text) (begin (string-copy text) (string-copy text) (substring text 0 (- 888798 n))))
-    (ten (ten (ten (ten (ten "0123456789"))))))) (lambda (s) (string-append s s s s s s s s s s)))
+  ((lambda (ten many)
+     ((lambda (text) (begin (many text) (many text) (substring text 0 (- 88769 n)))) (ten (ten (ten (ten "0123456789"))))))
+   (lambda (s) (string-append s s s s s s s s s s)) (lambda (s) (string=? s s s s s s s s s s s s s s s s s s s)))
   e))) (m))))))
 §(within 2 (syntax-case 5 () (_ 1)))
 => 38 FuelSpent
@@ -303,8 +313,9 @@ pub const FUEL_SYNTAX: &str = r#"; each with all fuel that it needs, and its val
 ; less fuel than is needed
 (import (rnrs))
 (define-syntax within (lambda (s) (syntax-case s () ((_ n e) #'(let-syntax ((m (begin
-  ((lambda (ten) ((lambda (text) (begin (string-copy text) (string-copy text) (substring text 0 (- 888798 n))))
-    (ten (ten (ten (ten (ten "0123456789"))))))) (lambda (s) (string-append s s s s s s s s s s)))
+  ((lambda (ten many)
+     ((lambda (text) (begin (many text) (many text) (substring text 0 (- 88769 n)))) (ten (ten (ten (ten "0123456789"))))))
+   (lambda (s) (string-append s s s s s s s s s s)) (lambda (s) (string=? s s s s s s s s s s s s s s s s s s s)))
   e))) (m))))))
 §(within 5 (syntax-case #'(k 1 2) () ((_ ?a ?b) #'(?b ?a))))
 => 38 FuelSpent
@@ -312,8 +323,9 @@ pub const FUEL_SYNTAX: &str = r#"; each with all fuel that it needs, and its val
 ; less fuel than is needed
 (import (rnrs))
 (define-syntax within (lambda (s) (syntax-case s () ((_ n e) #'(let-syntax ((m (begin
-  ((lambda (ten) ((lambda (text) (begin (string-copy text) (string-copy text) (substring text 0 (- 888798 n))))
-    (ten (ten (ten (ten (ten "0123456789"))))))) (lambda (s) (string-append s s s s s s s s s s)))
+  ((lambda (ten many)
+     ((lambda (text) (begin (many text) (many text) (substring text 0 (- 88769 n)))) (ten (ten (ten (ten "0123456789"))))))
+   (lambda (s) (string-append s s s s s s s s s s)) (lambda (s) (string=? s s s s s s s s s s s s s s s s s s s)))
   e))) (m))))))
 §(within 5 (syntax-case #'(k 1 2 3) () ((_ ??a ...) #'(??a ...))))
 => 38 FuelSpent
@@ -321,8 +333,9 @@ pub const FUEL_SYNTAX: &str = r#"; each with all fuel that it needs, and its val
 ; NoClause within this fuel
 (import (rnrs))
 (define-syntax within (lambda (s) (syntax-case s () ((_ n e) #'(let-syntax ((m (begin
-  ((lambda (ten) ((lambda (text) (begin (string-copy text) (string-copy text) (substring text 0 (- 888798 n))))
-    (ten (ten (ten (ten (ten "0123456789"))))))) (lambda (s) (string-append s s s s s s s s s s)))
+  ((lambda (ten many)
+     ((lambda (text) (begin (many text) (many text) (substring text 0 (- 88769 n)))) (ten (ten (ten (ten "0123456789"))))))
+   (lambda (s) (string-append s s s s s s s s s s)) (lambda (s) (string=? s s s s s s s s s s s s s s s s s s s)))
   e))) (m))))))
 §(within 3 (syntax-case 5 () (6 1)))
 => 37 NoClause
@@ -330,8 +343,9 @@ pub const FUEL_SYNTAX: &str = r#"; each with all fuel that it needs, and its val
 ; less fuel than is needed
 (import (rnrs))
 (define-syntax within (lambda (s) (syntax-case s () ((_ n e) #'(let-syntax ((m (begin
-  ((lambda (ten) ((lambda (text) (begin (string-copy text) (string-copy text) (substring text 0 (- 888798 n))))
-    (ten (ten (ten (ten (ten "0123456789"))))))) (lambda (s) (string-append s s s s s s s s s s)))
+  ((lambda (ten many)
+     ((lambda (text) (begin (many text) (many text) (substring text 0 (- 88769 n)))) (ten (ten (ten (ten "0123456789"))))))
+   (lambda (s) (string-append s s s s s s s s s s)) (lambda (s) (string=? s s s s s s s s s s s s s s s s s s s)))
   e))) (m))))))
 §(within 2 (syntax-case 5 () (6 1)))
 => 38 FuelSpent
@@ -339,8 +353,9 @@ pub const FUEL_SYNTAX: &str = r#"; each with all fuel that it needs, and its val
 ; NoClause within this fuel
 (import (rnrs))
 (define-syntax within (lambda (s) (syntax-case s () ((_ n e) #'(let-syntax ((m (begin
-  ((lambda (ten) ((lambda (text) (begin (string-copy text) (string-copy text) (substring text 0 (- 888798 n))))
-    (ten (ten (ten (ten (ten "0123456789"))))))) (lambda (s) (string-append s s s s s s s s s s)))
+  ((lambda (ten many)
+     ((lambda (text) (begin (many text) (many text) (substring text 0 (- 88769 n)))) (ten (ten (ten (ten "0123456789"))))))
+   (lambda (s) (string-append s s s s s s s s s s)) (lambda (s) (string=? s s s s s s s s s s s s s s s s s s s)))
   e))) (m))))))
 §(within 2 (syntax-case 5 ()))
 => 37 NoClause
@@ -348,8 +363,9 @@ pub const FUEL_SYNTAX: &str = r#"; each with all fuel that it needs, and its val
 ; NoClause within this fuel
 (import (rnrs))
 (define-syntax within (lambda (s) (syntax-case s () ((_ n e) #'(let-syntax ((m (begin
-  ((lambda (ten) ((lambda (text) (begin (string-copy text) (string-copy text) (substring text 0 (- 888798 n))))
-    (ten (ten (ten (ten (ten "0123456789"))))))) (lambda (s) (string-append s s s s s s s s s s)))
+  ((lambda (ten many)
+     ((lambda (text) (begin (many text) (many text) (substring text 0 (- 88769 n)))) (ten (ten (ten (ten "0123456789"))))))
+   (lambda (s) (string-append s s s s s s s s s s)) (lambda (s) (string=? s s s s s s s s s s s s s s s s s s s)))
   e))) (m))))))
 §(within 4 (syntax-case 5 () (?a #f 1)))
 => 37 NoClause
@@ -357,8 +373,9 @@ pub const FUEL_SYNTAX: &str = r#"; each with all fuel that it needs, and its val
 ; PrimFault within this fuel
 (import (rnrs))
 (define-syntax within (lambda (s) (syntax-case s () ((_ n e) #'(let-syntax ((m (begin
-  ((lambda (ten) ((lambda (text) (begin (string-copy text) (string-copy text) (substring text 0 (- 888798 n))))
-    (ten (ten (ten (ten (ten "0123456789"))))))) (lambda (s) (string-append s s s s s s s s s s)))
+  ((lambda (ten many)
+     ((lambda (text) (begin (many text) (many text) (substring text 0 (- 88769 n)))) (ten (ten (ten (ten "0123456789"))))))
+   (lambda (s) (string-append s s s s s s s s s s)) (lambda (s) (string=? s s s s s s s s s s s s s s s s s s s)))
   e))) (m))))))
 §(within 9 (syntax-case 5 () (?a (car '()) 1) (?b 2)))
 => 40 PrimFault: car
@@ -366,8 +383,9 @@ pub const FUEL_SYNTAX: &str = r#"; each with all fuel that it needs, and its val
 ; EllipsisLength within this fuel
 (import (rnrs))
 (define-syntax within (lambda (s) (syntax-case s () ((_ n e) #'(let-syntax ((m (begin
-  ((lambda (ten) ((lambda (text) (begin (string-copy text) (string-copy text) (substring text 0 (- 888798 n))))
-    (ten (ten (ten (ten (ten "0123456789"))))))) (lambda (s) (string-append s s s s s s s s s s)))
+  ((lambda (ten many)
+     ((lambda (text) (begin (many text) (many text) (substring text 0 (- 88769 n)))) (ten (ten (ten (ten "0123456789"))))))
+   (lambda (s) (string-append s s s s s s s s s s)) (lambda (s) (string=? s s s s s s s s s s s s s s s s s s s)))
   e))) (m))))))
 §(within 16 (syntax-case '((1 2) (3 4 5)) () (((??a ...) (??b ...)) #'((??a ??b) ...))))
 => 36 EllipsisLength: 2 3
@@ -375,8 +393,9 @@ pub const FUEL_SYNTAX: &str = r#"; each with all fuel that it needs, and its val
 ; EllipsisLength within this fuel
 (import (rnrs))
 (define-syntax within (lambda (s) (syntax-case s () ((_ n e) #'(let-syntax ((m (begin
-  ((lambda (ten) ((lambda (text) (begin (string-copy text) (string-copy text) (substring text 0 (- 888798 n))))
-    (ten (ten (ten (ten (ten "0123456789"))))))) (lambda (s) (string-append s s s s s s s s s s)))
+  ((lambda (ten many)
+     ((lambda (text) (begin (many text) (many text) (substring text 0 (- 88769 n)))) (ten (ten (ten (ten "0123456789"))))))
+   (lambda (s) (string-append s s s s s s s s s s)) (lambda (s) (string=? s s s s s s s s s s s s s s s s s s s)))
   e))) (m))))))
 §(within 16 (syntax-case '((1 2) (3 4 5)) () (((??a ...) (??b ...)) #'((??b ...) (??a ??b) ...))))
 => 36 EllipsisLength: 2 3
@@ -384,8 +403,9 @@ pub const FUEL_SYNTAX: &str = r#"; each with all fuel that it needs, and its val
 ; less fuel than is needed
 (import (rnrs))
 (define-syntax within (lambda (s) (syntax-case s () ((_ n e) #'(let-syntax ((m (begin
-  ((lambda (ten) ((lambda (text) (begin (string-copy text) (string-copy text) (substring text 0 (- 888798 n))))
-    (ten (ten (ten (ten (ten "0123456789"))))))) (lambda (s) (string-append s s s s s s s s s s)))
+  ((lambda (ten many)
+     ((lambda (text) (begin (many text) (many text) (substring text 0 (- 88769 n)))) (ten (ten (ten (ten "0123456789"))))))
+   (lambda (s) (string-append s s s s s s s s s s)) (lambda (s) (string=? s s s s s s s s s s s s s s s s s s s)))
   e))) (m))))))
 §(within 15 (syntax-case '((1 2) (3 4 5)) () (((??a ...) (??b ...)) #'((??a ??b) ...))))
 => 38 FuelSpent
@@ -393,8 +413,9 @@ pub const FUEL_SYNTAX: &str = r#"; each with all fuel that it needs, and its val
 ; less fuel than is needed
 (import (rnrs))
 (define-syntax within (lambda (s) (syntax-case s () ((_ n e) #'(let-syntax ((m (begin
-  ((lambda (ten) ((lambda (text) (begin (string-copy text) (string-copy text) (substring text 0 (- 888798 n))))
-    (ten (ten (ten (ten (ten "0123456789"))))))) (lambda (s) (string-append s s s s s s s s s s)))
+  ((lambda (ten many)
+     ((lambda (text) (begin (many text) (many text) (substring text 0 (- 88769 n)))) (ten (ten (ten (ten "0123456789"))))))
+   (lambda (s) (string-append s s s s s s s s s s)) (lambda (s) (string=? s s s s s s s s s s s s s s s s s s s)))
   e))) (m))))))
 §(within 5 (syntax-case 1 () (?a #'(?a b))))
 => 38 FuelSpent
@@ -402,8 +423,9 @@ pub const FUEL_SYNTAX: &str = r#"; each with all fuel that it needs, and its val
 ; PrimFault within this fuel
 (import (rnrs))
 (define-syntax within (lambda (s) (syntax-case s () ((_ n e) #'(let-syntax ((m (begin
-  ((lambda (ten) ((lambda (text) (begin (string-copy text) (string-copy text) (substring text 0 (- 888798 n))))
-    (ten (ten (ten (ten (ten "0123456789"))))))) (lambda (s) (string-append s s s s s s s s s s)))
+  ((lambda (ten many)
+     ((lambda (text) (begin (many text) (many text) (substring text 0 (- 88769 n)))) (ten (ten (ten (ten "0123456789"))))))
+   (lambda (s) (string-append s s s s s s s s s s)) (lambda (s) (string=? s s s s s s s s s s s s s s s s s s s)))
   e))) (m))))))
 §(within 3 (make-variable-transformer 5))
 => 40 PrimFault: make-variable-transformer
@@ -411,8 +433,9 @@ pub const FUEL_SYNTAX: &str = r#"; each with all fuel that it needs, and its val
 ; PrimFault within this fuel
 (import (rnrs))
 (define-syntax within (lambda (s) (syntax-case s () ((_ n e) #'(let-syntax ((m (begin
-  ((lambda (ten) ((lambda (text) (begin (string-copy text) (string-copy text) (substring text 0 (- 888798 n))))
-    (ten (ten (ten (ten (ten "0123456789"))))))) (lambda (s) (string-append s s s s s s s s s s)))
+  ((lambda (ten many)
+     ((lambda (text) (begin (many text) (many text) (substring text 0 (- 88769 n)))) (ten (ten (ten (ten "0123456789"))))))
+   (lambda (s) (string-append s s s s s s s s s s)) (lambda (s) (string=? s s s s s s s s s s s s s s s s s s s)))
   e))) (m))))))
 §(within 4 (free-identifier=? 'a #'a))
 => 40 PrimFault: free-identifier=?
@@ -420,8 +443,9 @@ pub const FUEL_SYNTAX: &str = r#"; each with all fuel that it needs, and its val
 ; PrimFault within this fuel
 (import (rnrs))
 (define-syntax within (lambda (s) (syntax-case s () ((_ n e) #'(let-syntax ((m (begin
-  ((lambda (ten) ((lambda (text) (begin (string-copy text) (string-copy text) (substring text 0 (- 888798 n))))
-    (ten (ten (ten (ten (ten "0123456789"))))))) (lambda (s) (string-append s s s s s s s s s s)))
+  ((lambda (ten many)
+     ((lambda (text) (begin (many text) (many text) (substring text 0 (- 88769 n)))) (ten (ten (ten (ten "0123456789"))))))
+   (lambda (s) (string-append s s s s s s s s s s)) (lambda (s) (string=? s s s s s s s s s s s s s s s s s s s)))
   e))) (m))))))
 §(within 3 (generate-temporaries 5))
 => 40 PrimFault: generate-temporaries
@@ -429,8 +453,9 @@ pub const FUEL_SYNTAX: &str = r#"; each with all fuel that it needs, and its val
 ; PrimFault within this fuel
 (import (rnrs))
 (define-syntax within (lambda (s) (syntax-case s () ((_ n e) #'(let-syntax ((m (begin
-  ((lambda (ten) ((lambda (text) (begin (string-copy text) (string-copy text) (substring text 0 (- 888798 n))))
-    (ten (ten (ten (ten (ten "0123456789"))))))) (lambda (s) (string-append s s s s s s s s s s)))
+  ((lambda (ten many)
+     ((lambda (text) (begin (many text) (many text) (substring text 0 (- 88769 n)))) (ten (ten (ten (ten "0123456789"))))))
+   (lambda (s) (string-append s s s s s s s s s s)) (lambda (s) (string=? s s s s s s s s s s s s s s s s s s s)))
   e))) (m))))))
 §(within 4 (syntax->datum 'x))
 => 40 PrimFault: syntax->datum
@@ -438,8 +463,9 @@ pub const FUEL_SYNTAX: &str = r#"; each with all fuel that it needs, and its val
 ; PrimFault within this fuel
 (import (rnrs))
 (define-syntax within (lambda (s) (syntax-case s () ((_ n e) #'(let-syntax ((m (begin
-  ((lambda (ten) ((lambda (text) (begin (string-copy text) (string-copy text) (substring text 0 (- 888798 n))))
-    (ten (ten (ten (ten (ten "0123456789"))))))) (lambda (s) (string-append s s s s s s s s s s)))
+  ((lambda (ten many)
+     ((lambda (text) (begin (many text) (many text) (substring text 0 (- 88769 n)))) (ten (ten (ten (ten "0123456789"))))))
+   (lambda (s) (string-append s s s s s s s s s s)) (lambda (s) (string=? s s s s s s s s s s s s s s s s s s s)))
   e))) (m))))))
 §(within 5 (datum->syntax 'k 'x))
 => 40 PrimFault: datum->syntax
@@ -447,8 +473,9 @@ pub const FUEL_SYNTAX: &str = r#"; each with all fuel that it needs, and its val
 ; PrimFault within this fuel
 (import (rnrs))
 (define-syntax within (lambda (s) (syntax-case s () ((_ n e) #'(let-syntax ((m (begin
-  ((lambda (ten) ((lambda (text) (begin (string-copy text) (string-copy text) (substring text 0 (- 888798 n))))
-    (ten (ten (ten (ten (ten "0123456789"))))))) (lambda (s) (string-append s s s s s s s s s s)))
+  ((lambda (ten many)
+     ((lambda (text) (begin (many text) (many text) (substring text 0 (- 88769 n)))) (ten (ten (ten (ten "0123456789"))))))
+   (lambda (s) (string-append s s s s s s s s s s)) (lambda (s) (string=? s s s s s s s s s s s s s s s s s s s)))
   e))) (m))))))
 §(within 4 (datum->syntax #'k car))
 => 40 PrimFault: datum->syntax
@@ -456,8 +483,9 @@ pub const FUEL_SYNTAX: &str = r#"; each with all fuel that it needs, and its val
 ; TooDeep within this fuel
 (import (rnrs))
 (define-syntax within (lambda (s) (syntax-case s () ((_ n e) #'(let-syntax ((m (begin
-  ((lambda (ten) ((lambda (text) (begin (string-copy text) (string-copy text) (substring text 0 (- 888798 n))))
-    (ten (ten (ten (ten (ten "0123456789"))))))) (lambda (s) (string-append s s s s s s s s s s)))
+  ((lambda (ten many)
+     ((lambda (text) (begin (many text) (many text) (substring text 0 (- 88769 n)))) (ten (ten (ten (ten "0123456789"))))))
+   (lambda (s) (string-append s s s s s s s s s s)) (lambda (s) (string=? s s s s s s s s s s s s s s s s s s s)))
   e))) (m))))))
 §(within 16015 (letrec ((nest (lambda (n x) (if (zero? n) x (nest (- n 1) (list x)))))) (datum->syntax #'k (nest 1000 '()))))
 => 32 TooDeep
@@ -465,8 +493,9 @@ pub const FUEL_SYNTAX: &str = r#"; each with all fuel that it needs, and its val
 ; less fuel than is needed
 (import (rnrs))
 (define-syntax within (lambda (s) (syntax-case s () ((_ n e) #'(let-syntax ((m (begin
-  ((lambda (ten) ((lambda (text) (begin (string-copy text) (string-copy text) (substring text 0 (- 888798 n))))
-    (ten (ten (ten (ten (ten "0123456789"))))))) (lambda (s) (string-append s s s s s s s s s s)))
+  ((lambda (ten many)
+     ((lambda (text) (begin (many text) (many text) (substring text 0 (- 88769 n)))) (ten (ten (ten (ten "0123456789"))))))
+   (lambda (s) (string-append s s s s s s s s s s)) (lambda (s) (string=? s s s s s s s s s s s s s s s s s s s)))
   e))) (m))))))
 §(within 16014 (letrec ((nest (lambda (n x) (if (zero? n) x (nest (- n 1) (list x)))))) (datum->syntax #'k (nest 1000 '()))))
 => 38 FuelSpent"#;

@@ -8,10 +8,11 @@ pub const FUEL_TEXTS: &str = r#"; each with all fuel that it needs, and its valu
       ((k n e)
        #'(let-syntax
              ((m (begin
-                   ((lambda (ten)
-                      ((lambda (text) (begin (string-copy text) (string-copy text) (substring text 0 (- 888797 n))))
-                       (ten (ten (ten (ten (ten "0123456789")))))))
-                    (lambda (s) (string-append s s s s s s s s s s)))
+                   ((lambda (ten many)
+                      ((lambda (text) (begin (many text) (many text) (substring text 0 (- 88768 n))))
+                       (ten (ten (ten (ten "0123456789"))))))
+                    (lambda (s) (string-append s s s s s s s s s s))
+                    (lambda (s) (string=? s s s s s s s s s s s s s s s s s s s)))
                    e
                    (lambda (t)
                      (letrec ((shown
@@ -56,8 +57,9 @@ pub const FUEL_TEXTS: &str = r#"; each with all fuel that it needs, and its valu
 ; and with a unit less than all of them need together it is spent
 (import (rnrs))
 (define-syntax within (lambda (s) (syntax-case s () ((_ n e) #'(let-syntax ((m (begin
-  ((lambda (ten) ((lambda (text) (begin (string-copy text) (string-copy text) (substring text 0 (- 888798 n))))
-    (ten (ten (ten (ten (ten "0123456789"))))))) (lambda (s) (string-append s s s s s s s s s s)))
+  ((lambda (ten many)
+     ((lambda (text) (begin (many text) (many text) (substring text 0 (- 88769 n)))) (ten (ten (ten (ten "0123456789"))))))
+   (lambda (s) (string-append s s s s s s s s s s)) (lambda (s) (string=? s s s s s s s s s s s s s s s s s s s)))
   e))) (m))))))
 §(within 1449 (list (map car '())
   (map car '((1) (2)))
@@ -83,10 +85,11 @@ pub const FUEL_TEXTS: &str = r#"; each with all fuel that it needs, and its valu
       ((k n e)
        #'(let-syntax
              ((m (begin
-                   ((lambda (ten)
-                      ((lambda (text) (begin (string-copy text) (string-copy text) (substring text 0 (- 888797 n))))
-                       (ten (ten (ten (ten (ten "0123456789")))))))
-                    (lambda (s) (string-append s s s s s s s s s s)))
+                   ((lambda (ten many)
+                      ((lambda (text) (begin (many text) (many text) (substring text 0 (- 88768 n))))
+                       (ten (ten (ten (ten "0123456789"))))))
+                    (lambda (s) (string-append s s s s s s s s s s))
+                    (lambda (s) (string=? s s s s s s s s s s s s s s s s s s s)))
                    e
                    (lambda (t)
                      (letrec ((shown
@@ -131,8 +134,9 @@ pub const FUEL_TEXTS: &str = r#"; each with all fuel that it needs, and its valu
 ; and with a unit less than all of them need together it is spent
 (import (rnrs))
 (define-syntax within (lambda (s) (syntax-case s () ((_ n e) #'(let-syntax ((m (begin
-  ((lambda (ten) ((lambda (text) (begin (string-copy text) (string-copy text) (substring text 0 (- 888798 n))))
-    (ten (ten (ten (ten (ten "0123456789"))))))) (lambda (s) (string-append s s s s s s s s s s)))
+  ((lambda (ten many)
+     ((lambda (text) (begin (many text) (many text) (substring text 0 (- 88769 n)))) (ten (ten (ten (ten "0123456789"))))))
+   (lambda (s) (string-append s s s s s s s s s s)) (lambda (s) (string=? s s s s s s s s s s s s s s s s s s s)))
   e))) (m))))))
 §(within 1837 (list (find zero? '(1 0 2))
   (find even? '(3 1 4 1 5 9))
@@ -158,10 +162,11 @@ pub const FUEL_TEXTS: &str = r#"; each with all fuel that it needs, and its valu
       ((k n e)
        #'(let-syntax
              ((m (begin
-                   ((lambda (ten)
-                      ((lambda (text) (begin (string-copy text) (string-copy text) (substring text 0 (- 888797 n))))
-                       (ten (ten (ten (ten (ten "0123456789")))))))
-                    (lambda (s) (string-append s s s s s s s s s s)))
+                   ((lambda (ten many)
+                      ((lambda (text) (begin (many text) (many text) (substring text 0 (- 88768 n))))
+                       (ten (ten (ten (ten "0123456789"))))))
+                    (lambda (s) (string-append s s s s s s s s s s))
+                    (lambda (s) (string=? s s s s s s s s s s s s s s s s s s s)))
                    e
                    (lambda (t)
                      (letrec ((shown
@@ -206,8 +211,9 @@ pub const FUEL_TEXTS: &str = r#"; each with all fuel that it needs, and its valu
 ; and with a unit less than all of them need together it is spent
 (import (rnrs))
 (define-syntax within (lambda (s) (syntax-case s () ((_ n e) #'(let-syntax ((m (begin
-  ((lambda (ten) ((lambda (text) (begin (string-copy text) (string-copy text) (substring text 0 (- 888798 n))))
-    (ten (ten (ten (ten (ten "0123456789"))))))) (lambda (s) (string-append s s s s s s s s s s)))
+  ((lambda (ten many)
+     ((lambda (text) (begin (many text) (many text) (substring text 0 (- 88769 n)))) (ten (ten (ten (ten "0123456789"))))))
+   (lambda (s) (string-append s s s s s s s s s s)) (lambda (s) (string=? s s s s s s s s s s s s s s s s s s s)))
   e))) (m))))))
 §(within 4220 (list (exists even? '(3 1 1 5 9))
   (exists even? '(3 1 4 1 5 9))
@@ -228,8 +234,9 @@ pub const FUEL_TEXTS: &str = r#"; each with all fuel that it needs, and its valu
 ; less fuel than is needed
 (import (rnrs))
 (define-syntax within (lambda (s) (syntax-case s () ((_ n e) #'(let-syntax ((m (begin
-  ((lambda (ten) ((lambda (text) (begin (string-copy text) (string-copy text) (substring text 0 (- 888798 n))))
-    (ten (ten (ten (ten (ten "0123456789"))))))) (lambda (s) (string-append s s s s s s s s s s)))
+  ((lambda (ten many)
+     ((lambda (text) (begin (many text) (many text) (substring text 0 (- 88769 n)))) (ten (ten (ten (ten "0123456789"))))))
+   (lambda (s) (string-append s s s s s s s s s s)) (lambda (s) (string=? s s s s s s s s s s s s s s s s s s s)))
   e))) (m))))))
 §(within 58 (map car '((1) (2))))
 => 38 FuelSpent
@@ -237,8 +244,9 @@ pub const FUEL_TEXTS: &str = r#"; each with all fuel that it needs, and its valu
 ; Arity within this fuel
 (import (rnrs))
 (define-syntax within (lambda (s) (syntax-case s () ((_ n e) #'(let-syntax ((m (begin
-  ((lambda (ten) ((lambda (text) (begin (string-copy text) (string-copy text) (substring text 0 (- 888798 n))))
-    (ten (ten (ten (ten (ten "0123456789"))))))) (lambda (s) (string-append s s s s s s s s s s)))
+  ((lambda (ten many)
+     ((lambda (text) (begin (many text) (many text) (substring text 0 (- 88769 n)))) (ten (ten (ten (ten "0123456789"))))))
+   (lambda (s) (string-append s s s s s s s s s s)) (lambda (s) (string=? s s s s s s s s s s s s s s s s s s s)))
   e))) (m))))))
 §(within 6 (map))
 => 39 Arity: 0
@@ -246,8 +254,9 @@ pub const FUEL_TEXTS: &str = r#"; each with all fuel that it needs, and its valu
 ; less fuel than is needed
 (import (rnrs))
 (define-syntax within (lambda (s) (syntax-case s () ((_ n e) #'(let-syntax ((m (begin
-  ((lambda (ten) ((lambda (text) (begin (string-copy text) (string-copy text) (substring text 0 (- 888798 n))))
-    (ten (ten (ten (ten (ten "0123456789"))))))) (lambda (s) (string-append s s s s s s s s s s)))
+  ((lambda (ten many)
+     ((lambda (text) (begin (many text) (many text) (substring text 0 (- 88769 n)))) (ten (ten (ten (ten "0123456789"))))))
+   (lambda (s) (string-append s s s s s s s s s s)) (lambda (s) (string=? s s s s s s s s s s s s s s s s s s s)))
   e))) (m))))))
 §(within 5 (map))
 => 38 FuelSpent
@@ -255,8 +264,9 @@ pub const FUEL_TEXTS: &str = r#"; each with all fuel that it needs, and its valu
 ; PrimFault within this fuel
 (import (rnrs))
 (define-syntax within (lambda (s) (syntax-case s () ((_ n e) #'(let-syntax ((m (begin
-  ((lambda (ten) ((lambda (text) (begin (string-copy text) (string-copy text) (substring text 0 (- 888798 n))))
-    (ten (ten (ten (ten (ten "0123456789"))))))) (lambda (s) (string-append s s s s s s s s s s)))
+  ((lambda (ten many)
+     ((lambda (text) (begin (many text) (many text) (substring text 0 (- 88769 n)))) (ten (ten (ten (ten "0123456789"))))))
+   (lambda (s) (string-append s s s s s s s s s s)) (lambda (s) (string=? s s s s s s s s s s s s s s s s s s s)))
   e))) (m))))))
 §(within 100 (map car 5))
 => 40 PrimFault: car
@@ -264,8 +274,9 @@ pub const FUEL_TEXTS: &str = r#"; each with all fuel that it needs, and its valu
 ; less fuel than is needed
 (import (rnrs))
 (define-syntax within (lambda (s) (syntax-case s () ((_ n e) #'(let-syntax ((m (begin
-  ((lambda (ten) ((lambda (text) (begin (string-copy text) (string-copy text) (substring text 0 (- 888798 n))))
-    (ten (ten (ten (ten (ten "0123456789"))))))) (lambda (s) (string-append s s s s s s s s s s)))
+  ((lambda (ten many)
+     ((lambda (text) (begin (many text) (many text) (substring text 0 (- 88769 n)))) (ten (ten (ten (ten "0123456789"))))))
+   (lambda (s) (string-append s s s s s s s s s s)) (lambda (s) (string=? s s s s s s s s s s s s s s s s s s s)))
   e))) (m))))))
 §(within 162 (filter even? '(3 1 4 1 5 9 2 6)))
 => 38 FuelSpent
@@ -273,8 +284,9 @@ pub const FUEL_TEXTS: &str = r#"; each with all fuel that it needs, and its valu
 ; PrimFault within this fuel
 (import (rnrs))
 (define-syntax within (lambda (s) (syntax-case s () ((_ n e) #'(let-syntax ((m (begin
-  ((lambda (ten) ((lambda (text) (begin (string-copy text) (string-copy text) (substring text 0 (- 888798 n))))
-    (ten (ten (ten (ten (ten "0123456789"))))))) (lambda (s) (string-append s s s s s s s s s s)))
+  ((lambda (ten many)
+     ((lambda (text) (begin (many text) (many text) (substring text 0 (- 88769 n)))) (ten (ten (ten (ten "0123456789"))))))
+   (lambda (s) (string-append s s s s s s s s s s)) (lambda (s) (string=? s s s s s s s s s s s s s s s s s s s)))
   e))) (m))))))
 §(within 18 (filter car '(1)))
 => 40 PrimFault: car
@@ -282,8 +294,9 @@ pub const FUEL_TEXTS: &str = r#"; each with all fuel that it needs, and its valu
 ; Arity within this fuel
 (import (rnrs))
 (define-syntax within (lambda (s) (syntax-case s () ((_ n e) #'(let-syntax ((m (begin
-  ((lambda (ten) ((lambda (text) (begin (string-copy text) (string-copy text) (substring text 0 (- 888798 n))))
-    (ten (ten (ten (ten (ten "0123456789"))))))) (lambda (s) (string-append s s s s s s s s s s)))
+  ((lambda (ten many)
+     ((lambda (text) (begin (many text) (many text) (substring text 0 (- 88769 n)))) (ten (ten (ten (ten "0123456789"))))))
+   (lambda (s) (string-append s s s s s s s s s s)) (lambda (s) (string=? s s s s s s s s s s s s s s s s s s s)))
   e))) (m))))))
 §(within 6 (filter even?))
 => 39 Arity: 1
@@ -291,8 +304,9 @@ pub const FUEL_TEXTS: &str = r#"; each with all fuel that it needs, and its valu
 ; Arity within this fuel
 (import (rnrs))
 (define-syntax within (lambda (s) (syntax-case s () ((_ n e) #'(let-syntax ((m (begin
-  ((lambda (ten) ((lambda (text) (begin (string-copy text) (string-copy text) (substring text 0 (- 888798 n))))
-    (ten (ten (ten (ten (ten "0123456789"))))))) (lambda (s) (string-append s s s s s s s s s s)))
+  ((lambda (ten many)
+     ((lambda (text) (begin (many text) (many text) (substring text 0 (- 88769 n)))) (ten (ten (ten (ten "0123456789"))))))
+   (lambda (s) (string-append s s s s s s s s s s)) (lambda (s) (string=? s s s s s s s s s s s s s s s s s s s)))
   e))) (m))))))
 §(within 7 (fold-left + 0))
 => 39 Arity: 2"#;

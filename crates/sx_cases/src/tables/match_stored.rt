@@ -81,8 +81,9 @@ pub const MATCH_STORED: &str = r#"; the subject lies in the store
 ; an element that an ellipsis takes costs 1, and so does a pair or an element that is made
 (import (rnrs))
 (define-syntax fits (lambda (s) (syntax-case s () ((_ n e) #'(let-syntax ((m (begin
-  ((lambda (ten) ((lambda (text) (begin (string-copy text) (string-copy text) (substring text 0 (- 888797 n))))
-    (ten (ten (ten (ten (ten "0123456789"))))))) (lambda (s) (string-append s s s s s s s s s s)))
+  ((lambda (ten many)
+     ((lambda (text) (begin (many text) (many text) (substring text 0 (- 88768 n)))) (ten (ten (ten (ten "0123456789"))))))
+   (lambda (s) (string-append s s s s s s s s s s)) (lambda (s) (string=? s s s s s s s s s s s s s s s s s s s)))
   e (lambda (t) #'1)))) (m))))))
 (fits 7 (syntax-case #'(1 2 3) () ((a ...) #'1)))
 (fits 9 (syntax-case #'((1 2) (3)) () (((a ...) ...) #'1)))
@@ -116,8 +117,9 @@ pub const MATCH_STORED: &str = r#"; the subject lies in the store
 ; and with a unit less than all of them need together it is spent
 (import (rnrs))
 (define-syntax within (lambda (s) (syntax-case s () ((_ n e) #'(let-syntax ((m (begin
-  ((lambda (ten) ((lambda (text) (begin (string-copy text) (string-copy text) (substring text 0 (- 888798 n))))
-    (ten (ten (ten (ten (ten "0123456789"))))))) (lambda (s) (string-append s s s s s s s s s s)))
+  ((lambda (ten many)
+     ((lambda (text) (begin (many text) (many text) (substring text 0 (- 88769 n)))) (ten (ten (ten (ten "0123456789"))))))
+   (lambda (s) (string-append s s s s s s s s s s)) (lambda (s) (string=? s s s s s s s s s s s s s s s s s s s)))
   e))) (m))))))
 §(within 114 (list (syntax-case #'(1 2 3) () ((a ...) #'1))
   (syntax-case #'((1 2) (3)) () (((a ...) ...) #'1))
@@ -138,8 +140,9 @@ pub const MATCH_STORED: &str = r#"; the subject lies in the store
 ; an element that an ellipsis takes costs 1, and so does a pair or an element that is made
 (import (rnrs))
 (define-syntax fits (lambda (s) (syntax-case s () ((_ n e) #'(let-syntax ((m (begin
-  ((lambda (ten) ((lambda (text) (begin (string-copy text) (string-copy text) (substring text 0 (- 888797 n))))
-    (ten (ten (ten (ten (ten "0123456789"))))))) (lambda (s) (string-append s s s s s s s s s s)))
+  ((lambda (ten many)
+     ((lambda (text) (begin (many text) (many text) (substring text 0 (- 88768 n)))) (ten (ten (ten (ten "0123456789"))))))
+   (lambda (s) (string-append s s s s s s s s s s)) (lambda (s) (string=? s s s s s s s s s s s s s s s s s s s)))
   e (lambda (t) #'1)))) (m))))))
 (fits 4 (syntax-case #'() () ((a ...) #'(a ...))))
 (fits 5 (syntax-case #'1 () (a #'(a . x))))
@@ -171,8 +174,9 @@ pub const MATCH_STORED: &str = r#"; the subject lies in the store
 ; and with a unit less than all of them need together it is spent
 (import (rnrs))
 (define-syntax within (lambda (s) (syntax-case s () ((_ n e) #'(let-syntax ((m (begin
-  ((lambda (ten) ((lambda (text) (begin (string-copy text) (string-copy text) (substring text 0 (- 888798 n))))
-    (ten (ten (ten (ten (ten "0123456789"))))))) (lambda (s) (string-append s s s s s s s s s s)))
+  ((lambda (ten many)
+     ((lambda (text) (begin (many text) (many text) (substring text 0 (- 88769 n)))) (ten (ten (ten (ten "0123456789"))))))
+   (lambda (s) (string-append s s s s s s s s s s)) (lambda (s) (string=? s s s s s s s s s s s s s s s s s s s)))
   e))) (m))))))
 §(within 137 (list (syntax-case #'() () ((a ...) #'(a ...)))
   (syntax-case #'1 () (a #'(a . x)))
