@@ -251,6 +251,9 @@ const MATCHES: [&str; 4] = [MATCH_LISTS, MATCH_ELLIPSES, MATCH_FAULTS, MATCH_STO
 // Evaluation with exactly the fuel that it needs, and with less.
 const FUEL: [&str; 5] = [FUEL_FORMS, FUEL_CALLS, FUEL_TEXTS, FUEL_SYNTAX, FUEL_COSTS];
 
+// What takes all fuel, or nearly.
+const RUNS: [&str; 1] = [FUEL_RUNS];
+
 #[test]
 fn core_forms_expand(rt: HostRuntime) -> Result<(), Fail> {
     check(rt.alloc(), &CORE_FORMS)
@@ -298,5 +301,5 @@ fn evaluation_spends_what_it_says(rt: HostRuntime) -> Result<(), Fail> {
 
 #[test]
 fn libraries_calls_and_loops_spend_their_fuel(rt: HostRuntime) -> Result<(), Fail> {
-    check(rt.alloc(), &[FUEL_RUNS])
+    check(rt.alloc(), &RUNS)
 }

@@ -1,4 +1,6 @@
 //! Calls of primitives and of apply with the fuel that they need.
+//!
+//! `within` and `spends` are told at `fuel_forms`.
 
 pub const FUEL_CALLS: &str = r#"; each with all fuel that it needs, and its value
 (import (rnrs))

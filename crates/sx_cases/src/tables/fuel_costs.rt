@@ -1,4 +1,6 @@
 //! What calls of primitives cost beside their expression, by the fuel that they need.
+//!
+//! `within` and `spends` are told at `fuel_forms`.
 
 pub const FUEL_COSTS: &str = r#"; each with all fuel that it needs, and its value
 (import (rnrs))

@@ -1,4 +1,12 @@
 //! Core forms with the fuel that they need.
+//!
+//! `(within n e)` evaluates e as a transformer expression that has n units of fuel left: 4,000,000 - n are spent
+//! before. To make a text of 100,000 characters costs 111,174 with the `begin` round all, to compare 19 of it twice
+//! 3,800,049 with the `begin` in which that stands, and to cut off its beginning 8 + 88,769 - n. `(spends n e)` leaves
+//! one unit more, for the `lambda` behind e, and shows the value of e.
+//!
+//! Where each of some expressions is evaluated with its fuel, and all of them together with one unit less aren't,
+//! each costs exactly that.
 
 pub const FUEL_FORMS: &str = r#"; each with all fuel that it needs, and its value
 (import (rnrs))

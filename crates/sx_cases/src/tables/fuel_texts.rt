@@ -1,4 +1,6 @@
 //! Procedures that are given in Scheme, with the fuel that they need; most are examples of R6RS.
+//!
+//! `within` and `spends` are told at `fuel_forms`.
 
 pub const FUEL_TEXTS: &str = r#"; each with all fuel that it needs, and its value
 (import (rnrs))

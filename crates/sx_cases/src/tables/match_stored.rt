@@ -1,4 +1,6 @@
 //! Subjects in the store, and what matches and instances cost.
+//!
+//! `within` is told at `fuel_forms`; `(fits n e)` leaves one unit more, for the `lambda` behind e.
 
 pub const MATCH_STORED: &str = r#"; the subject lies in the store
 (import (rnrs))
