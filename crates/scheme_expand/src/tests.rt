@@ -201,13 +201,14 @@ struct Case<'a> {
 
 const EMPTY_PROGRAM: &[Held] = &[("p.sps", b"(import (rnrs base))")];
 
+// What must not happen would fail: with a fault there is no put on `out`, and no second one on `err`.
 const FAILURES: &[Case] = &[
     Case {
         held: &[],
         words: &["p.sps"],
         reads: &[],
-        outs: &[],
-        errs: &[],
+        outs: &[(0, 0)],
+        errs: &[(1, 0)],
         status: Status::Fault,
         out: "",
         err: "p.sps:1:1: 12 LibraryNotFound: p.sps\n",
@@ -272,13 +273,14 @@ const M_AT_FAULT: Held = (
 
 const USES_M: Held = ("p.sps", b"(import (rnrs) (m)) a");
 
+// A second put on `out` or on `err` would fail.
 const LIBRARIES: &[Case] = &[
     Case {
         held: &[M, USES_M],
         words: &["--report", "p.sps"],
         reads: &[],
-        outs: &[],
-        errs: &[],
+        outs: &[(1, 0)],
+        errs: &[(1, 0)],
         status: Status::Done,
         out: "(import (rnrs))\n(define %m/a/0 1)\n%m/a/0\n",
         err: "expanded (m)\n",

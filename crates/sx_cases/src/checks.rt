@@ -3,13 +3,25 @@ ghost use Rattle.std.specs.Prelude.{◌≡◌, ◌<◌};
 use crate::case::read_case;
 use crate::outcome::outcome;
 use crate::primitives::primitives;
+use crate::tables::aliases::ALIASES;
+use crate::tables::bindings::BINDINGS;
+use crate::tables::choices::CHOICES;
 use crate::tables::core_faults::{BAD_FORMS, BINDERS, BODIES, KEYWORDS, REFERENCES};
 use crate::tables::core_forms::{DEFINITIONS, EXPRESSIONS, PROCEDURES};
+use crate::tables::corners::{BAD_DERIVED, DERIVED_CORNERS};
 use crate::tables::deep::DEEP;
 use crate::tables::defining::DEFINING;
+use crate::tables::derived::DERIVED;
+use crate::tables::derived_names::{DERIVED_LEVELS, DERIVED_NAMES};
 use crate::tables::endless::ENDLESS;
 use crate::tables::fault_pairs::FAULT_PAIRS;
 use crate::tables::form_faults::FORM_FAULTS;
+use crate::tables::fuel_calls::FUEL_CALLS;
+use crate::tables::fuel_costs::FUEL_COSTS;
+use crate::tables::fuel_forms::FUEL_FORMS;
+use crate::tables::fuel_runs::FUEL_RUNS;
+use crate::tables::fuel_syntax::FUEL_SYNTAX;
+use crate::tables::fuel_texts::FUEL_TEXTS;
 use crate::tables::hygiene::HYGIENE;
 use crate::tables::identifiers::IDENTIFIERS;
 use crate::tables::imports::IMPORTS;
@@ -18,9 +30,24 @@ use crate::tables::let_syntax::LET_SYNTAX;
 use crate::tables::levels::LEVELS;
 use crate::tables::libraries::LIBRARIES;
 use crate::tables::loading::{BAD, FIRST_FAULTS, NAMES, ORDER, ROOTS, SETS, VERSIONS};
+use crate::tables::match_ellipses::MATCH_ELLIPSES;
+use crate::tables::match_faults::MATCH_FAULTS;
+use crate::tables::match_lists::MATCH_LISTS;
+use crate::tables::match_stored::MATCH_STORED;
 use crate::tables::patterns::PATTERNS;
 use crate::tables::positions::POSITIONS;
+use crate::tables::prim_basics::BASIC_CALLS;
+use crate::tables::prim_characters::CHARACTER_CALLS;
+use crate::tables::prim_data::DATA_CALLS;
+use crate::tables::prim_equality::EQUALITY_CALLS;
+use crate::tables::prim_lists::LIST_CALLS;
+use crate::tables::prim_numbers::NUMBER_CALLS;
+use crate::tables::prim_strings::STRING_CALLS;
+use crate::tables::prim_syntax::SYNTAX_CALLS;
+use crate::tables::quasi::QUASI;
 use crate::tables::realistic::REALISTIC;
+use crate::tables::rules::RULES;
+use crate::tables::templates::{LIST_TEMPLATES, SYNTAX_TEMPLATES};
 use crate::tables::transformer_faults::TRANSFORMER_FAULTS;
 use crate::tables::transformers::TRANSFORMERS;
 use std::alloc::{AllocError, Global};
@@ -181,6 +208,22 @@ const MACROS: [&str; 6] = [HYGIENE, DEEP, DEFINING, IDENTIFIERS, PATTERNS, TRANS
 // Where macros are bound.
 const SCOPES: [&str; 5] = [LET_SYNTAX, LEVELS, LATE, LIBRARIES, REALISTIC];
 
+// Derived forms and quasi forms.
+const DERIVED_FORMS: [&str; 12] = [
+    DERIVED,
+    QUASI,
+    BINDINGS,
+    CHOICES,
+    RULES,
+    LIST_TEMPLATES,
+    SYNTAX_TEMPLATES,
+    DERIVED_NAMES,
+    DERIVED_LEVELS,
+    DERIVED_CORNERS,
+    BAD_DERIVED,
+    ALIASES,
+];
+
 // Uses, transformers, patterns and templates at fault.
 const FAULTS: [&str; 5] = [
     POSITIONS,
@@ -189,6 +232,27 @@ const FAULTS: [&str; 5] = [
     FAULT_PAIRS,
     ENDLESS,
 ];
+
+// What primitives compute, each called in a transformer.
+const PRIMITIVES: [&str; 8] = [
+    BASIC_CALLS,
+    NUMBER_CALLS,
+    CHARACTER_CALLS,
+    STRING_CALLS,
+    LIST_CALLS,
+    EQUALITY_CALLS,
+    SYNTAX_CALLS,
+    DATA_CALLS,
+];
+
+// Patterns, templates and the instances that come of them.
+const MATCHES: [&str; 4] = [MATCH_LISTS, MATCH_ELLIPSES, MATCH_FAULTS, MATCH_STORED];
+
+// Evaluation with exactly the fuel that it needs, and with less.
+const FUEL: [&str; 5] = [FUEL_FORMS, FUEL_CALLS, FUEL_TEXTS, FUEL_SYNTAX, FUEL_COSTS];
+
+// What takes all fuel, or nearly.
+const RUNS: [&str; 1] = [FUEL_RUNS];
 
 #[test]
 fn core_forms_expand(rt: HostRuntime) -> Result<(), Fail> {
@@ -213,4 +277,29 @@ fn macros_are_bound_where_they_should_be(rt: HostRuntime) -> Result<(), Fail> {
 #[test]
 fn macros_at_fault_are_told_at_their_places(rt: HostRuntime) -> Result<(), Fail> {
     check(rt.alloc(), &FAULTS)
+}
+
+#[test]
+fn derived_forms_expand(rt: HostRuntime) -> Result<(), Fail> {
+    check(rt.alloc(), &DERIVED_FORMS)
+}
+
+#[test]
+fn primitives_come_to_what_r6rs_says(rt: HostRuntime) -> Result<(), Fail> {
+    check(rt.alloc(), &PRIMITIVES)
+}
+
+#[test]
+fn patterns_match_and_templates_give_instances(rt: HostRuntime) -> Result<(), Fail> {
+    check(rt.alloc(), &MATCHES)
+}
+
+#[test]
+fn evaluation_spends_what_it_says(rt: HostRuntime) -> Result<(), Fail> {
+    check(rt.alloc(), &FUEL)
+}
+
+#[test]
+fn libraries_calls_and_loops_spend_their_fuel(rt: HostRuntime) -> Result<(), Fail> {
+    check(rt.alloc(), &RUNS)
 }

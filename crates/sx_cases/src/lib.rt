@@ -15,6 +15,9 @@
 //! program, each under a line `file NAME`; a first line `root DIR ..` names the directories in which libraries are
 //! looked for.
 //!
+//! In the tables `prim_..`, `match_..` and `fuel_..` transformers compute what is tested, and the core text shows it:
+//! what primitives answer, what patterns and templates come to, and how much fuel evaluation spends.
+//!
 //! What is expected was derived by hand from R6RS and from docs/DECISIONS.md. `case` reads a case, `outcome`
 //! runs its program through loading, expansion and core text over files in memory, and `checks` compares the two.
 #![tactic(auto)]

@@ -24,7 +24,8 @@ use Rattle.sx_heads.specs.declared.taken.Taken.{Taken}
 use Rattle.sx_heads.specs.declared.taken.Waiting.{Waiting}
 use Rattle.sx_heads.specs.declared.taken.Waits.{Waits}
 use Rattle.sx_heads.specs.declared.taken.Waits.TheVariants as waits
-use Rattle.sx_expand.specs.Inside.{Inside, deeper}
+use Rattle.sx_heads.specs.Depth.{deeper}
+use Rattle.sx_expand.specs.Inside.{Inside}
 use Rattle.sx_expand.specs.Keywords.{define_syntax, with_keywords}
 use Rattle.sx_expand.specs.Settle.{settle_item}
 use Rattle.sx_expand.specs.declared.settle.SettledItem.{SettledItem}

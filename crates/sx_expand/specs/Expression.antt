@@ -21,9 +21,11 @@ use Rattle.sx_standing.specs.State.{Does, fresh, fresh_frame, fault_form}
 use Rattle.sx_standing.specs.InScope.{within}
 use Rattle.sx_standing.specs.Binders.{bind_specs, bind_formals}
 use Rattle.sx_standing.specs.Patterns.{pattern_of, check_literals, bind_pattern}
-use Rattle.sx_expand.specs.Inside.{Inside, deeper}
+use Rattle.sx_heads.specs.Depth.{deeper}
+use Rattle.sx_expand.specs.Inside.{Inside}
 use Rattle.sx_expand.specs.Body.{body, item, sequence_of}
 use Rattle.sx_expand.specs.Keywords.{with_keywords}
+use Rattle.sx_expand.specs.Quasi.{quasi_form}
 use Rattle.sx_expand.specs.Settle.{settle}
 use Rattle.sx_expand.specs.declared.settle.Settled.{Settled}
 use Rattle.sx_heads.specs.declared.plan.Plan.{Plan}
@@ -134,6 +136,7 @@ perform go place level depth t (plans.CaseLambda cs) = case_lambda go place leve
 perform go place level depth t (plans.Letrec star bs forms) = letrec_form go place level (deeper depth) t star bs forms
 perform go place level depth t (plans.Matching subject literals cs span) = syntax_case go place level (deeper depth) subject literals cs span
 perform go place level depth t (plans.Keywords recursive bs forms) = keywords_form go place level (deeper depth) recursive bs forms
+perform go place level depth t (plans.Quasi which template) = quasi_form go place level (deeper depth) t which template
 perform go place level depth t (plans.Use l) = fault_form kind.BadForm t place
 perform go place level depth t (plans.SetUse l id) = fault_form kind.BadForm t place
 

@@ -1,5 +1,5 @@
 -- What is done with forms that lie inside a form.
-use Rattle.std.specs.Prelude.{ℕ, ◌+◌, nat_lt, List, if◌then◌else◌}
+use Rattle.std.specs.Prelude.{ℕ, List}
 use Rattle.sx_base.specs.declared.span.Span.{Span}
 use Rattle.sx_tree.specs.Tree.{Tree}
 use Rattle.sx_core.specs.Core.{PlainCore}
@@ -9,10 +9,6 @@ use Rattle.sx_shapes.specs.declared.shape.FormalIds.{FormalIds}
 use Rattle.sx_standing.specs.State.{Does}
 use Rattle.sx_heads.specs.declared.taken.BodyAt.{BodyAt}
 use Rattle.sx_heads.specs.declared.taken.Taken.{Taken}
-
--- one deeper; what is too deep already stays so
-abbrev pub deeper : ℕ → ℕ
-deeper depth = if nat_lt 600 depth then depth else depth + 1
 
 -- the records before the library; an expression, at a place, a level and a depth; the case of a procedure that a definition binds; and a
 -- form of a body at a depth, behind those that were taken

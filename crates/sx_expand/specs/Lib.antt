@@ -1,4 +1,5 @@
 pub mod Inside
+pub mod Quasi
 pub mod Settle
 pub mod Keywords
 pub mod Body

@@ -8,7 +8,6 @@ ghost use Rattle.sx_expand.specs.Expression.{inside};
 ghost use Rattle.sx_expand.specs.Body.{splice, item, perform_item, value_of, finish_one, finish_all, finish, body, body_core, with_inits, no_value};
 
 use crate::expression::{expression, procedure, procedure_of_case, sequence_of, stamp_all};
-use crate::inside::{MOST_ROUND, deeper};
 use crate::keywords::{define_syntax, with_keywords};
 use crate::settle::{SettledItem, settle_item};
 use crate::transformers::Transformers;
@@ -23,6 +22,7 @@ use sx_base::name::CodeNo;
 use sx_base::span::Span;
 use sx_core::code::{Core, CoreNode, Init};
 use sx_core::record::Line;
+use sx_heads::depth::{MOST_ROUND, deeper};
 use sx_heads::item::Item;
 use sx_heads::kept::KeptHeads;
 use sx_heads::taken::{BodyAt, BodyKind, Taken, Waiting, Waits};

@@ -9,9 +9,9 @@ ghost use Rattle.sx_expand.specs.Body.{sequence_of};
 ghost use Rattle.sx_expand.specs.Expression.{inside, form_at, perform, in_order, lambda, case_lambda, all_cases, lambda_case, letrec_form, all_inits, one_init, application, conditional, alternate, set, in_sequence};
 
 use crate::body::body;
-use crate::inside::{MOST_ROUND, deeper};
 use crate::keywords::keywords_form;
 use crate::patterns::syntax_case;
+use crate::quasi::quasi_form;
 use crate::settle::{Settled, settle};
 use crate::transformers::Transformers;
 use std::alloc::Global;
@@ -24,6 +24,7 @@ use sx_base::name::{CodeNo, FrameNo, Label};
 use sx_base::span::Span;
 use sx_base::steps::Steps;
 use sx_core::code::{Code, Core, CoreNode, Init, Lambda};
+use sx_heads::depth::{MOST_ROUND, deeper};
 use sx_heads::plan::Plan;
 use sx_shapes::shape::{BindingSpec, FormalIds, LambdaCase};
 use sx_standing::binders::BoundSpec;
@@ -246,6 +247,9 @@ fn perform<M: Transformers, N: Ledger, L: Ledger>(
             means,
             counts,
             room,
+        ),
+        Plan::Quasi(which, template) => quasi_form(
+            state, form, which, &template, place, level, inner, means, counts, room,
         ),
         // No plan of a form that was settled is a use.
         Plan::Use(_) => Err(state.fault_form(FaultKind::BadForm, form, place)),

@@ -23,6 +23,7 @@ pub mod inside;
 pub mod keywords;
 pub mod libraries;
 pub mod patterns;
+pub mod quasi;
 pub mod settle;
 pub mod top;
 pub mod transformers;

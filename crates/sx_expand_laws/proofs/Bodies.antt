@@ -23,7 +23,8 @@ use Rattle.sx_heads.specs.declared.taken.Waiting.{Waiting}
 use Rattle.sx_heads.specs.declared.taken.Waits.{Waits}
 use Rattle.sx_heads.specs.declared.taken.Waits.TheVariants as waits
 use Rattle.sx_expand.specs.Body.{splice, no_value, value_of, finish_as, finish_one, finish_all, body_core, finish, lambda_at, body_in, body}
-use Rattle.sx_expand.specs.Inside.{Inside, deeper}
+use Rattle.sx_heads.specs.Depth.{deeper}
+use Rattle.sx_expand.specs.Inside.{Inside}
 use Rattle.sx_expand_laws.specs.States.{Adds, IsPattern, Later, LaterBut}
 use Rattle.sx_expand_laws.proofs.Acts.{Gave, gave-after, gave-within, gave-both, gave-if, gave-each}
 use Rattle.sx_expand_laws.proofs.Fresh.{Made}

@@ -15,6 +15,8 @@ use Rattle.sx_core.specs.declared.record.LibRecord.{LibRecord}
 use Rattle.sx_core_laws.specs.Words.{Each}
 use Rattle.sx_pattern.specs.declared.compile.Compiled.{Compiled}
 use Rattle.sx_pattern.specs.declared.compile.PatternVariable.{PatternVariable}
+use Rattle.sx_quasi.specs.declared.word.Family.{Family}
+use Rattle.sx_quasi_code.specs.Form.{form_of, parts_of, code_of}
 use Rattle.sx_shapes.specs.At.{place_of}
 use Rattle.sx_shapes.specs.declared.shape.BindingSpec.{BindingSpec}
 use Rattle.sx_shapes.specs.declared.shape.FormalIds.{FormalIds}
@@ -38,8 +40,10 @@ use Rattle.sx_heads.specs.declared.taken.Waits.TheVariants as waits
 use Rattle.sx_expand.specs.Body as expand_body
 use Rattle.sx_expand.specs.Body.{splice, perform_item, item, value_of, finish_as, finish_one, finish_all, body_core, finish, lambda_at, body_in, body, sequence_of}
 use Rattle.sx_expand.specs.Expression.{in_order, case_in, lambda_case, lambda, one_case, all_cases, case_lambda, one_init, all_inits, letrec_in, letrec_form, application, alternate, conditional, set, in_sequence, fender, clause_in, pattern_clause, all_clauses, syntax_case, keywords_form, perform, perform_settled, form_at, inside}
-use Rattle.sx_expand.specs.Inside.{Inside, deeper}
+use Rattle.sx_heads.specs.Depth.{deeper}
+use Rattle.sx_expand.specs.Inside.{Inside}
 use Rattle.sx_expand.specs.Keywords.{keyword, seen_in, keyword_in, all_keywords, keywords, with_keywords, define_syntax}
+use Rattle.sx_expand.specs.Quasi.{part_core, parts_in_order, quasi_made, quasi_form}
 use Rattle.sx_expand.specs.Settle.{settle, settle_item}
 use Rattle.sx_expand_laws.specs.InScope.{ScopeStays}
 use Rattle.sx_expand_laws.specs.States.{IsOwn, IsKept, Keeps, Adds, Later, LaterBut}
@@ -52,6 +56,7 @@ use Rattle.sx_expand_laws.proofs.Naming.{as_frame, counted, counted-later}
 use Rattle.sx_expand_laws.proofs.BindingKeywords.{BindsKeywords, BindsPatterns, binds-keywords, keywords-kept, binds-patterns, pattern-adds-so}
 use Rattle.sx_expand_laws.proofs.Compiled.{variable_label, variable_depth}
 use Rattle.sx_expand_laws.proofs.Moved.{Names, Moved, Leaving, moved-after, moved-each, moved-counted, framed}
+use Rattle.sx_expand_laws.proofs.QuasiLater.{form-same, moved-code}
 use Rattle.sx_expand_laws.proofs.Settled.{settle-later}
 use Rattle.sx_expand_laws.proofs.Uses.{Patterned, pattern-later, literals-later, finish-later, finish-kept, moved-apart}
 use Rattle.sx_expand_laws.proofs.Binding.{BindsAll, spec_label, binds-formals, binds-specs}
@@ -293,6 +298,15 @@ module _ (own : LibName) (go : Inside) (moves : Moves own go) where
   moved-keywords_form place level depth recursive bs forms s n =
       moved-after own s (with_keywords go place level depth recursive bs forms s) (in_sequence go place level depth) (moved-keywords place level depth recursive bs forms s n) (λ xs u m. moved-sequence place level depth xs u m)
 
+  moved-quasi : (place : Span) (level depth : ℕ) (t : Tree) (which : Family) (template : Tree) (s : State) → Names own s → Gave (Moved own s) (quasi_form go place level depth t which template s)
+  unfolding quasi_form
+  moved-quasi place level depth t which template s n =
+      gave-after (λ q u. u ≡ s) (Moved own s) (form_of place t which template s) (quasi_made go place level depth t) (form-same place t which template s)
+      (λ q u e. subst (λ (v : State). Gave (Moved own s) (quasi_made go place level depth t q v)) (sym e)
+      (moved-after own s (parts_in_order go place level (parts_of t depth q) s) (code_of place level t q)
+      (moved-each own (part_core go place level) (λ p v m. moves.form place level p.depth p.form v m) (parts_of t depth q) s n)
+      (λ cs v m. moved-code own place level t q cs v m)))
+
   moved-perform : (place : Span) (level depth : ℕ) (t : Tree) (p : Plan) (s : State) → Names own s → Gave (Moved own s) (perform go place level depth t p s)
   unfolding perform
   moved-perform place level depth t (plans.Done c) s n = later-self own s n
@@ -305,6 +319,7 @@ module _ (own : LibName) (go : Inside) (moves : Moves own go) where
   moved-perform place level depth t (plans.Letrec star bs forms) s n = moved-letrec place level (deeper depth) t star bs forms s n
   moved-perform place level depth t (plans.Matching subject literals cs span) s n = moved-syntax_case place level (deeper depth) literals subject cs span s n
   moved-perform place level depth t (plans.Keywords recursive bs forms) s n = moved-keywords_form place level (deeper depth) recursive bs forms s n
+  moved-perform place level depth t (plans.Quasi which template) s n = moved-quasi place level (deeper depth) t which template s n
   moved-perform place level depth t (plans.Use l) s n = tt
   moved-perform place level depth t (plans.SetUse l id) s n = tt
 

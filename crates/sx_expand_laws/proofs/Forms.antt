@@ -36,7 +36,8 @@ use Rattle.sx_heads.specs.declared.plan.Plan.{Plan}
 use Rattle.sx_heads.specs.declared.plan.Plan.TheVariants as plans
 use Rattle.sx_expand.specs.Body.{body}
 use Rattle.sx_expand.specs.Expression.{case_in, lambda_case, lambda, one_case, all_cases, case_lambda, one_init, all_inits, letrec_in, letrec_form, in_sequence, fender, clause_in, pattern_clause, all_clauses, syntax_case, keywords_form, perform, perform_settled, form_at, inside}
-use Rattle.sx_expand.specs.Inside.{Inside, deeper}
+use Rattle.sx_heads.specs.Depth.{deeper}
+use Rattle.sx_expand.specs.Inside.{Inside}
 use Rattle.sx_expand.specs.Keywords.{with_keywords}
 use Rattle.sx_expand.specs.Settle.{settle}
 use Rattle.sx_expand_laws.specs.States.{IsPattern, Later}
@@ -54,6 +55,7 @@ use Rattle.sx_expand_laws.proofs.Changes.{BindsPattern, moved-body, moved-case, 
 use Rattle.sx_expand_laws.proofs.Expand.{GivesGood, GivesCase, Safe, Starts, starts-later, lifted, apart-later, Gives, gives, gives-application, gives-conditional, gives-set, gives-sequence}
 use Rattle.sx_expand_laws.proofs.Bodies.{starts-with, starts-framed, gives-body}
 use Rattle.sx_expand_laws.proofs.Binding.{BindsAll, spec_label, binds-formals, binds-specs}
+use Rattle.sx_expand_laws.proofs.QuasiGood.{gives-quasi}
 
 module _ (own : LibName) (given : List Label) (go : Inside) (safe : Safe own given go) where
   module _ (place : Span) (level depth : ℕ) (t : Tree) (vs : Depths) (ls : List Label) where
@@ -303,6 +305,7 @@ module _ (own : LibName) (given : List Label) (go : Inside) (safe : Safe own giv
     performs place depth t (plans.Matching subject literals cs span) s h k = gives-syntax_case place level (deeper depth) literals vs ls subject cs span s h
     performs place depth t (plans.Keywords recursive bs []) s h k = elim k [ ]
     performs place depth t (plans.Keywords recursive bs (x ∷ xs)) s h k = gives-keywords place (deeper depth) recursive bs x xs s h
+    performs place depth t (plans.Quasi which template) s h k = gives-quasi own given place level t vs ls go safe (deeper depth) which template s h
     performs place depth t (plans.Use l) s h k = tt
     performs place depth t (plans.SetUse l id) s h k = tt
 

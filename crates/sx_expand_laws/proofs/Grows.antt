@@ -13,7 +13,7 @@ use Rattle.sx_core.specs.Bindings.{bound_to}
 use Rattle.sx_core.specs.declared.binding.Binding.{Binding}
 use Rattle.sx_core_laws.specs.Words.{Among}
 use Rattle.sx_standing.specs.State.{State}
-use Rattle.sx_expand_laws.specs.States.{IsOwn, Shows, IsAdded, IndicesApart, Grows}
+use Rattle.sx_expand_laws.specs.States.{IsOwn, IsOwnOrEllipsis, Shows, IsAdded, IndicesApart, Grows}
 use Rattle.sx_expand_laws.proofs.Fresh.{among-parts, among-first}
 
 -- a frame that keeps its rows shows what it showed
@@ -51,7 +51,7 @@ module _ (own : LibName) where
     numbered = λ n. k.numbered (h.numbered n);
   }
     where
-      by_row : (f : FrameNo) (r : Row) → Among (rows_at f t.frames) r ⊎ IsOwn own r.label.0 → Among (rows_at f s.frames) r ⊎ IsOwn own r.label.0
+      by_row : (f : FrameNo) (r : Row) → Among (rows_at f t.frames) r ⊎ IsOwnOrEllipsis own r → Among (rows_at f s.frames) r ⊎ IsOwnOrEllipsis own r
       by_row f r (inl a) = h.rows f r a
       by_row f r (inr o) = inr o
 

@@ -18,6 +18,9 @@ pub mod Lines
 pub mod References
 pub mod Templated
 pub mod Plans
+pub mod InsertPatterns
+pub mod Inserts
+pub mod QuasiLater
 pub mod Settled
 pub mod Items
 pub mod Changes
@@ -25,6 +28,7 @@ pub mod Meanings
 pub mod Expand
 pub mod SettledPlans
 pub mod Bodies
+pub mod QuasiGood
 pub mod Forms
 pub mod WellMade
 pub mod Started
@@ -40,6 +44,7 @@ pub mod SpentBinding
 pub mod Spares
 pub mod SparesBodies
 pub mod SparesItems
+pub mod SparesQuasi
 pub mod SparesForms
 pub mod SparesAll
 pub mod GoodKeywords

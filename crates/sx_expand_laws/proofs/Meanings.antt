@@ -65,6 +65,7 @@ Planned own bs vs ls n (plans.Letrec star specs forms) = Unit {0}
 Planned own bs vs ls n (plans.Matching subject literals cs span) = Unit {0}
 Planned own bs vs ls n (plans.Keywords recursive specs []) = ⊥
 Planned own bs vs ls n (plans.Keywords recursive specs (x ∷ xs)) = Unit {0}
+Planned own bs vs ls n (plans.Quasi which template) = Unit {0}
 Planned own bs vs ls n (plans.Use l) = Unit {0}
 Planned own bs vs ls n (plans.SetUse l id) = Unit {0}
 
@@ -81,6 +82,7 @@ forms-planned own bs vs ls n (plans.Letrec star specs forms) h = tt
 forms-planned own bs vs ls n (plans.Matching subject literals cs span) h = tt
 forms-planned own bs vs ls n (plans.Keywords recursive specs []) h = elim h [ ]
 forms-planned own bs vs ls n (plans.Keywords recursive specs (x ∷ xs)) h = tt
+forms-planned own bs vs ls n (plans.Quasi which template) h = tt
 forms-planned own bs vs ls n (plans.Use l) h = tt
 forms-planned own bs vs ls n (plans.SetUse l id) h = elim h [ ]
 
@@ -167,7 +169,7 @@ module _ (own : LibName) (given : List Label) (vs : Depths) (level : ℕ) (ls : 
   assigned-standing somewhere id value standing.Unbuilt p u h k = elim k [ ]
 
   -- the template of a form suits the pattern variables in scope
-  template-suits : (place : Span) (t : Tree) (x : PlainTemplate) (u : State) → IsTemplate place level t s x u → Suits vs 0 x × Each (Among ls) (template_labels x)
+  pub template-suits : (place : Span) (t : Tree) (x : PlainTemplate) (u : State) → IsTemplate place level t s x u → Suits vs 0 x × Each (Among ls) (template_labels x)
   template-suits place t x u k =
       let c : templates.Context = record { frames = s.frames; bindings = s.bindings; level = level; place = place } in
       let fits = subst (IfGood (TemplateFits (λ l d. IsPattern s l level d) 0)) k.compiled (compiled-fits (λ l d. IsPattern s l level d) c (λ l d e. e) t) in

@@ -22,7 +22,7 @@ use Rattle.sx_shapes.specs.Lists.{is_leaf}
 use Rattle.sx_standing.specs.Binders.{bind_variable, bind_as, row_put, put_variable, variable_for, index_at, next_index}
 use Rattle.sx_standing.specs.InScope.{with_local}
 use Rattle.sx_standing.specs.State.{State, fresh, fault_form}
-use Rattle.sx_expand_laws.specs.States.{IsOwn, IsAdded, IsTop, IsPattern, IsUnbound, IsNumbered, IndicesApart, Grows, Keeps, Adds, Later, LaterBut}
+use Rattle.sx_expand_laws.specs.States.{IsOwn, IsOwnOrEllipsis, IsAdded, IsTop, IsPattern, IsUnbound, IsNumbered, IndicesApart, Grows, Keeps, Adds, Later, LaterBut}
 use Rattle.sx_expand_laws.proofs.Acts.{Gave, gave-if}
 use Rattle.sx_expand_laws.proofs.Fresh.{Made, each-append, each-at, each-map, among-parts}
 use Rattle.sx_expand_laws.proofs.Grows.{grows-same, grows-then, row-kept, row-new}
@@ -86,12 +86,12 @@ module _ (own : LibName) where
       apart m j w x i o q (inr p) (inl d) k r = let lt = h.below j x i q d r in let is = (index-is v.level s.index i (new-index w i p.1 k)).0 in absurd (omega (arith, lt, is))
       apart m j w x i o q (inr p) (inr p') k r = p.0 ∙ sym p'.0
 
-  pub added-row : (s : State) (f : FrameNo) (id : Tree) (l : Label) → IsOwn own l.0 → (g : FrameNo) (r : Row) → Among (rows_at g (with_row s.frames f (row_for id l))) r → Among (rows_at g s.frames) r ⊎ IsOwn own r.label.0
+  pub added-row : (s : State) (f : FrameNo) (id : Tree) (l : Label) → IsOwn own l.0 → (g : FrameNo) (r : Row) → Among (rows_at g (with_row s.frames f (row_for id l))) r → Among (rows_at g s.frames) r ⊎ IsOwnOrEllipsis own r
   added-row s f id l mine g r a = by (row-new s.frames f (row_for id l) g r a)
     where
-      by : Among (rows_at g s.frames) r ⊎ (r ≡ row_for id l) → Among (rows_at g s.frames) r ⊎ IsOwn own r.label.0
+      by : Among (rows_at g s.frames) r ⊎ (r ≡ row_for id l) → Among (rows_at g s.frames) r ⊎ IsOwnOrEllipsis own r
       by (inl a) = inl a
-      by (inr e) = inr (subst (λ (x : Row). IsOwn own x.label.0) (sym e) mine)
+      by (inr e) = inr (inl (subst (λ (x : Row). IsOwn own x.label.0) (sym e) mine))
 
   added-binding : (s : State) (l : Label) (x : Binding) → IsOwn own l.0 → IsAdded x → (m : Label) (b : Binding) → bound_to (s.bindings ++ (l, x) ∷ []) m ≡ Some b → (bound_to s.bindings m ≡ Some b) ⊎ (IsOwn own m.0 × IsAdded b)
   added-binding s l x mine added m b e = by (bound-more s.bindings l m x b e)

@@ -11,6 +11,7 @@ use Rattle.sx_core.specs.Core.{quoted, instance}
 use Rattle.sx_core.specs.Template.{PlainTemplate}
 use Rattle.sx_core.specs.declared.core_form.CoreForm.{CoreForm}
 use Rattle.sx_core.specs.declared.core_form.CoreForm.TheVariants as core_forms
+use Rattle.sx_quasi.specs.declared.word.Family.TheVariants as family
 use Rattle.sx_shapes.specs.At.{place_of}
 use Rattle.sx_shapes.specs.Forms.{shape}
 use Rattle.sx_shapes.specs.Lists.{is_leaf, is_nil_atom, proper_elements}
@@ -48,6 +49,7 @@ IsOfForms (plans.Letrec star bs forms) = Unit {0}
 IsOfForms (plans.Matching subject literals cs span) = Unit {0}
 IsOfForms (plans.Keywords recursive bs []) = ⊥
 IsOfForms (plans.Keywords recursive bs (x ∷ xs)) = Unit {0}
+IsOfForms (plans.Quasi which template) = Unit {0}
 IsOfForms (plans.Use l) = Unit {0}
 IsOfForms (plans.SetUse l id) = ⊥
 
@@ -80,6 +82,8 @@ module _ (P : Plan → State → Type 0) (place : Span) (level : ℕ) (s : State
 
   by-operand : (t : Tree) (f : CoreForm) (operand : Tree) → Gave P (operand_plan place level t f operand s)
   by-operand t core_forms.Syntax operand = instances t operand
+  by-operand t core_forms.Quasiquote operand = forms (plans.Quasi family.Quote operand) tt
+  by-operand t core_forms.Quasisyntax operand = forms (plans.Quasi family.Syntax operand) tt
   by-operand t _ operand = tt
 
   by-shape : (t : Tree) (f : CoreForm) (x : Shape) → Gave P (shape_plan place level t f x s)

@@ -1,5 +1,5 @@
 -- Records that serve those behind them.
-use Rattle.std.proofs.Common.{◌≡◌, ℕ, zero, suc, Bool, true, false, List, [], ◌∷◌, ◌++◌, map, Option, None, Some, ◌<◌, refl, sym, ◌∙◌, subst, inl, inr, if◌then◌else◌}
+use Rattle.std.proofs.Common.{◌≡◌, ℕ, zero, suc, Bool, true, false, List, [], ◌∷◌, ◌++◌, map, Option, None, Some, ◌<◌, refl, sym, ◌∙◌, ap, subst, inl, inr, if◌then◌else◌}
 use Rattle.std.specs.Prelude.{◌⊎◌}
 use Rattle.std.specs.List.{flat_map}
 use Rattle.std.proofs.lemmas.Grind.{flat_map-append}
@@ -28,7 +28,7 @@ use Rattle.sx_standing.specs.State.{State}
 use Rattle.sx_expand_laws.specs.Ready.{IsReady}
 use Rattle.sx_expand_laws.specs.Serves.{IsThere, IsLabelThere, Serves, AllServe}
 use Rattle.sx_expand_laws.specs.Serving.{FollowersServe, RecordsServe}
-use Rattle.sx_expand_laws.specs.States.{IsAdded, IsKept, IsMacro}
+use Rattle.sx_expand_laws.specs.States.{IsOwnOrEllipsis, IsAdded, IsKept, IsMacro}
 use Rattle.sx_expand_laws.proofs.Fresh.{each-at, each-of, each-map, each-append, among-parts, among-first, among-second}
 use Rattle.sx_expand_laws.proofs.Shown.{IsShown, row-shown}
 use Rattle.sx_expand_laws.proofs.Started.{names-append, started-foreign, started-there}
@@ -157,9 +157,10 @@ module _ (own : LibName) (records : List LibRecord) (imports : List (List ℕ ×
     row-there : (f : FrameNo) (x : Row) → Among (rows_at f runs.ended.frames) x → IsLabelThere records r x.label
     row-there f x a = by (runs.grows.rows f x a)
       where
-        by : Among (rows_at f (started own records imports codes).frames) x ⊎ (x.label.0.library ≡ own) → IsLabelThere records r x.label
+        by : Among (rows_at f (started own records imports codes).frames) x ⊎ IsOwnOrEllipsis own x → IsLabelThere records r x.label
         by (inl b) = inr (each-at (λ (y : Row). IsThere records y.label.0.library) (rows_at f (started own records imports codes).frames) x (started-there own records imports codes ready.earlier there f) b)
-        by (inr mine) = inl (mine ∙ sym runs.name)
+        by (inr (inl mine)) = inl (mine ∙ sym runs.name)
+        by (inr (inr dots)) = inr (inr (inl (ap (λ (y : Row). y.label.0.library) dots)))
 
     shown-there : (l : Label) → IsShown runs.ended.frames l → IsLabelThere records r l
     shown-there l (f, h) = subst (IsLabelThere records r) h.label (row-there f h.row h.there)

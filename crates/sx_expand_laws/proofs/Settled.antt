@@ -37,6 +37,7 @@ module _ (own : LibName) (rs : List LibRecord) where
   steps-later place t (plans.Letrec star bs forms) s n = later-self own s n
   steps-later place t (plans.Matching subject literals cs span) s n = later-self own s n
   steps-later place t (plans.Keywords recursive bs forms) s n = later-self own s n
+  steps-later place t (plans.Quasi which template) s n = later-self own s n
   steps-later place t (plans.Use l) s n = later-self own s n
   steps-later place t (plans.SetUse l id) s n = moved-after own s (asks_variable rs (place_of t place) l s) (set_step place t l id) (asks-later own rs (place_of t place) l s n) (λ b u m. set-later place t l id b u m)
 

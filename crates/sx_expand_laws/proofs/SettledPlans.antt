@@ -54,6 +54,7 @@ module _ (own : LibName) (given : List Label) (rs : List LibRecord) (vs : Depths
   steps-planned place t (plans.Letrec star bs forms) s u h k = (h, k)
   steps-planned place t (plans.Matching subject literals cs span) s u h k = (h, k)
   steps-planned place t (plans.Keywords recursive bs forms) s u h k = (h, k)
+  steps-planned place t (plans.Quasi which template) s u h k = (h, k)
   steps-planned place t (plans.Use l) s u h k = (h, tt)
   steps-planned place t (plans.SetUse l id) s u h k =
       gave-after (λ b v. Later own u v) (StepsTo s) (asks_variable rs (place_of t place) l u) (set_step place t l id) (asks-later own rs (place_of t place) l u h.next) (λ b v j. set-planned place t l id b s v (later-then own s u v h j))

@@ -80,6 +80,7 @@ module _ (own : LibName) (given : List Label) (go : Inside) (spares : Spares own
     forms-away (plans.Letrec star bs forms) h = tt
     forms-away (plans.Matching subject literals cs span) h = tt
     forms-away (plans.Keywords recursive bs forms) h = tt
+    forms-away (plans.Quasi which template) h = tt
     forms-away (plans.Use l) h = tt
     forms-away (plans.SetUse l id) h = tt
 
@@ -118,6 +119,7 @@ module _ (own : LibName) (given : List Label) (go : Inside) (spares : Spares own
     steps-spare place t (plans.Letrec star bs forms) s b k = (onward-self own given s b, k)
     steps-spare place t (plans.Matching subject literals cs span) s b k = (onward-self own given s b, k)
     steps-spare place t (plans.Keywords recursive bs forms) s b k = (onward-self own given s b, k)
+    steps-spare place t (plans.Quasi which template) s b k = (onward-self own given s b, k)
     steps-spare place t (plans.Use l) s b k = (onward-self own given s b, tt)
     steps-spare place t (plans.SetUse l id) s b k =
         gave-after (λ x u. Later own s u × Tells s.keywords u.keywords) (Gives own given StepAway s) (asks_variable rs (place_of t place) l s) (set_step place t l id)

@@ -25,7 +25,8 @@ use Rattle.sx_heads.specs.declared.taken.Waiting.{Waiting}
 use Rattle.sx_heads.specs.declared.taken.Waits.{Waits}
 use Rattle.sx_heads.specs.declared.taken.Waits.TheVariants as waits
 use Rattle.sx_expand.specs.Body.{splice, no_value, value_of, finish_as, finish_one, finish_all, sequence_of, inits_in, values_in, with_inits, body_core, finish, lambda_at, body_in, body}
-use Rattle.sx_expand.specs.Inside.{Inside, deeper}
+use Rattle.sx_heads.specs.Depth.{deeper}
+use Rattle.sx_expand.specs.Inside.{Inside}
 use Rattle.sx_expand_laws.proofs.Acts.{Gave, gave-less, gave-if, gave-each, gave-gather}
 use Rattle.sx_expand_laws.proofs.Items.{wait_kind, wait_kinds}
 use Rattle.sx_expand_laws.proofs.LineLabels.{kind_labels}

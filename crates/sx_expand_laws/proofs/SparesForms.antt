@@ -31,7 +31,8 @@ use Rattle.sx_heads.specs.declared.plan.Plan.{Plan}
 use Rattle.sx_heads.specs.declared.plan.Plan.TheVariants as plans
 use Rattle.sx_expand.specs.Body.{body}
 use Rattle.sx_expand.specs.Expression.{case_in, lambda_case, lambda, one_case, all_cases, case_lambda, one_init, all_inits, letrec_in, letrec_form, in_sequence, fender, clause_in, pattern_clause, all_clauses, syntax_case, keywords_form, perform}
-use Rattle.sx_expand.specs.Inside.{Inside, deeper}
+use Rattle.sx_heads.specs.Depth.{deeper}
+use Rattle.sx_expand.specs.Inside.{Inside}
 use Rattle.sx_expand.specs.Keywords.{with_keywords}
 use Rattle.sx_expand_laws.specs.States.{Later}
 use Rattle.sx_expand_laws.proofs.Acts.{Gave, gave-after, gave-less, gave-both, gave-each}
@@ -48,6 +49,7 @@ use Rattle.sx_expand_laws.proofs.SpentOnStage.{Tells}
 use Rattle.sx_expand_laws.proofs.SpentBinding.{Same, formals-same, specs-same, pattern-same, literals-same, bind-pattern-same, onward-self, onward-then, onward-later, onward-but, onward-counted}
 use Rattle.sx_expand_laws.proofs.Spares.{Spares, Gives, goes, goes-each, goes-within, C, core-lift, N, spares-application, spares-conditional, spares-set, spares-sequence, spares-keywords}
 use Rattle.sx_expand_laws.proofs.SparesBodies.{procedure-away, spares-body}
+use Rattle.sx_expand_laws.proofs.SparesQuasi.{spares-quasi}
 
 module _ (own : LibName) (given : List Label) where
   abbrev B : State → Type 0
@@ -242,6 +244,7 @@ module _ (own : LibName) (given : List Label) where
     PlanAway u (plans.Letrec star bs forms) = Unit {0}
     PlanAway u (plans.Matching subject literals cs span) = Unit {0}
     PlanAway u (plans.Keywords recursive bs forms) = Unit {0}
+    PlanAway u (plans.Quasi which template) = Unit {0}
     PlanAway u (plans.Use l) = Unit {0}
     PlanAway u (plans.SetUse l id) = Unit {0}
 
@@ -257,5 +260,6 @@ module _ (own : LibName) (given : List Label) where
     spares-perform place level depth t (plans.Letrec star bs forms) s b k = spares-letrec place level (deeper depth) t star bs forms s b
     spares-perform place level depth t (plans.Matching subject literals cs span) s b k = spares-syntax_case place level (deeper depth) literals subject cs span s b
     spares-perform place level depth t (plans.Keywords recursive bs forms) s b k = spares-keywords_form place level (deeper depth) recursive bs forms s b
+    spares-perform place level depth t (plans.Quasi which template) s b k = spares-quasi own given place level t go spares (deeper depth) which template s b
     spares-perform place level depth t (plans.Use l) s b k = tt
     spares-perform place level depth t (plans.SetUse l id) s b k = tt

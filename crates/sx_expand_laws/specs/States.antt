@@ -7,6 +7,7 @@ use Rattle.sx_base.specs.declared.name.Label.{Label}
 use Rattle.sx_base.specs.declared.op.Op.{Op}
 use Rattle.sx_frames.specs.Rows.{Row}
 use Rattle.sx_frames.specs.Scope.{rows_at}
+use Rattle.sx_scope.specs.Stands.{row_for}
 use Rattle.sx_core.specs.Bindings.{bound_to}
 use Rattle.sx_core.specs.Core.{PlainCore}
 use Rattle.sx_core.specs.declared.binding.Binding.{Binding}
@@ -14,6 +15,7 @@ use Rattle.sx_core.specs.declared.binding.Binding.TheVariants as binding
 use Rattle.sx_core.specs.declared.binding.VarInfo.{VarInfo}
 use Rattle.sx_core_laws.specs.Words.{Each, Among}
 use Rattle.sx_core_laws.specs.Templates.{Depths}
+use Rattle.sx_quasi_code.specs.Inserted.{dots, ellipsis}
 use Rattle.sx_stage.specs.Stage.{expression_of}
 use Rattle.sx_standing.specs.State.{State, stage_of}
 
@@ -22,6 +24,11 @@ IsOwn own n = n.library ≡ own
 
 abbrev pub IsForeign : LibName → Named → Type 0
 IsForeign own n = n.library ≡ own → ⊥
+
+-- A row for a label of the library, or that of the core ellipsis: a `quasisyntax` form with inserts puts an ellipsis, whose mark no
+-- leaf of a program has, into a frame that is made for it, so that no binding of a program can change what stands behind splices.
+abbrev pub IsOwnOrEllipsis : LibName → Row → Type 0
+IsOwnOrEllipsis own r = IsOwn own r.label.0 ⊎ (r ≡ row_for dots ellipsis)
 
 -- a label is bound
 abbrev pub IsBound : State → Label → Type 0
@@ -87,10 +94,10 @@ pub record IndicesApart (own : LibName) (s : State) : Type 0 where
       → v.index ≡ Some i → w.index ≡ Some i → l ≡ m
 
 -- What a library adds: its frames keep their rows, labels stay bound to what they are bound to, what comes gives labels of the
--- library and binds them, and indices that are apart stay so.
+-- library, but for the row of the ellipsis, and binds labels of the library, and indices that are apart stay so.
 pub record Grows (own : LibName) (s t : State) : Type 0 where
   pub kept : (f : FrameNo) (r : Row) → Among (rows_at f s.frames) r → Among (rows_at f t.frames) r
-  pub rows : (f : FrameNo) (r : Row) → Among (rows_at f t.frames) r → Among (rows_at f s.frames) r ⊎ IsOwn own r.label.0
+  pub rows : (f : FrameNo) (r : Row) → Among (rows_at f t.frames) r → Among (rows_at f s.frames) r ⊎ IsOwnOrEllipsis own r
   pub bindings : (l : Label) (b : Binding) → bound_to t.bindings l ≡ Some b → (bound_to s.bindings l ≡ Some b) ⊎ (IsOwn own l.0 × IsAdded b)
   pub bound : (l : Label) (b : Binding) → bound_to s.bindings l ≡ Some b → bound_to t.bindings l ≡ Some b
   pub indices : IndicesApart own s → IndicesApart own t

@@ -11,6 +11,7 @@ use Rattle.sx_core.specs.Core.{PlainCore, quoted, variable, primitive, instance}
 use Rattle.sx_core.specs.Labels.{has_label}
 use Rattle.sx_core.specs.declared.core_form.CoreForm.{CoreForm}
 use Rattle.sx_core.specs.declared.core_form.CoreForm.TheVariants as core_forms
+use Rattle.sx_quasi.specs.declared.word.Family.TheVariants as family
 use Rattle.sx_shapes.specs.At.{place_of}
 use Rattle.sx_shapes.specs.Lists.{is_leaf, is_nil_atom, proper_elements}
 use Rattle.sx_shapes.specs.Forms.{shape}
@@ -114,9 +115,11 @@ abbrev pub keywords_plan : Span → Tree → CoreForm → List BindingSpec → L
 keywords_plan place t f bs [] = fault_form kind.NoExpression t place
 keywords_plan place t f bs (x ∷ xs) = give (plans.Keywords (is_letrec_syntax f) bs (x ∷ xs))
 
--- `syntax`; the quasi forms aren't built yet
+-- `syntax`, `quasiquote` and `quasisyntax`
 abbrev pub operand_plan : Span → ℕ → Tree → CoreForm → Tree → Does Plan
 operand_plan place level t core_forms.Syntax operand s = after (template_of place level operand s) (λ x. done (instance x (place_of t place)))
+operand_plan place level t core_forms.Quasiquote operand s = give (plans.Quasi family.Quote operand) s
+operand_plan place level t core_forms.Quasisyntax operand s = give (plans.Quasi family.Syntax operand) s
 operand_plan place level t _ operand s = fault_form kind.NotBuilt t place s
 
 -- by the shape of a core form

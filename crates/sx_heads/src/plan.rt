@@ -19,6 +19,7 @@ use sx_base::name::Label;
 use sx_base::span::Span;
 use sx_core::code::{Core, CoreNode};
 use sx_core::core_form::CoreForm;
+use sx_quasi::word::Family;
 use sx_shapes::at::place_of;
 use sx_shapes::forms::shape;
 use sx_shapes::lists::{is_id, is_nil_atom, proper};
@@ -47,6 +48,8 @@ pub enum Plan {
     Matching(Syn, Items<Syn>, Items<PatternCase>, Span),
     /// `let-syntax`, or `letrec-syntax` where the flag is true: keywords, and expressions.
     Keywords(bool, Items<BindingSpec>, Items<Syn>),
+    /// `quasiquote` or `quasisyntax`: the template.
+    Quasi(Family, Syn),
     /// A use of a keyword: the form is to be replaced by what its transformer gives.
     Use(Label),
     /// An assignment to a keyword, and its target: a use if the keyword is a variable transformer.
@@ -292,6 +295,8 @@ fn operand_plan(
 {
     match which {
         CoreForm::Syntax => syntax_plan(state, form, operand, place, level),
+        CoreForm::Quasiquote => Ok(Plan::Quasi(Family::Quote, operand.share()?)),
+        CoreForm::Quasisyntax => Ok(Plan::Quasi(Family::Syntax, operand.share()?)),
         _ => Err(state.fault_form(FaultKind::NotBuilt, form, place)),
     }
 }

@@ -19,7 +19,7 @@ module _ (ms : List Bool) (i : ℕ) where
 
 -- ---- the records at the places of marks are those that are marked
 
-places_behind : (r : LibRecord) (rs : List LibRecord) (i : ℕ) (ms : List Bool) → records_at (r ∷ rs) (places_from (suc i) ms) ≡ records_at rs (places_from i ms)
+pub places_behind : (r : LibRecord) (rs : List LibRecord) (i : ℕ) (ms : List Bool) → records_at (r ∷ rs) (places_from (suc i) ms) ≡ records_at rs (places_from i ms)
 unfolding places_from
 places_behind r rs i [] = refl
 places_behind r rs i (m ∷ ms) = by m (places_behind r rs (suc i) ms)

@@ -1,12 +1,14 @@
 -- The names that the imports of a form give, and what they stand for (R6RS 7.1).
-use Rattle.std.specs.Prelude.{List, [], Option, Some, None, is_some, Result, Err, if◌then◌else◌}
+use Rattle.std.specs.Prelude.{List, [], map, Option, Some, None, is_some, Result, Err, if◌then◌else◌}
 use Rattle.std.specs.List.{find}
 use Rattle.sx_base.specs.Gives.{◌>>=◌}
 use Rattle.sx_base.specs.Same.{same_library}
 use Rattle.sx_base.specs.declared.fault.Fault.{Fault}
 use Rattle.sx_base.specs.declared.fault.FaultKind.TheVariants as kind
 use Rattle.sx_base.specs.declared.library.LibName.{LibName}
+use Rattle.sx_base.specs.declared.library.LibName.TheVariants as names
 use Rattle.sx_builtin.specs.Exports.{exports}
+use Rattle.sx_derived.specs.Derived.{relabelled_in}
 use Rattle.sx_core.specs.declared.record.LibRecord.{LibRecord}
 use Rattle.sx_import.specs.Names.{Labelled, import_names, joined}
 use Rattle.sx_import.specs.Turns.{turns}
@@ -35,13 +37,18 @@ abbrev pub record_exports : Option LibRecord → Labelled
 record_exports None = []
 record_exports (Some r) = r.exports
 
-abbrev pub exported_by : Option LibRecord → Option Labelled → Labelled
-exported_by r None = record_exports r
-exported_by r (Some names) = names
+-- of the names of the implementation a derived one stands for what the derived record exports, where that is there
+abbrev pub given_names : Option LibRecord → Labelled → Labelled
+given_names None names = names
+given_names (Some r) names = map (λ e. relabelled_in r e) names
+
+abbrev pub exported_by : Option LibRecord → Option LibRecord → Option Labelled → Labelled
+exported_by d r None = record_exports r
+exported_by d r (Some names) = given_names d names
 
 -- what a library exports: one that is given with the implementation, or one of these
 abbrev pub exported : List LibRecord → LibName → Labelled
-exported records library = exported_by (named library records) (exports library)
+exported records library = exported_by (named names.Derived records) (named library records) (exports library)
 
 -- the names of an import set, joined to others
 abbrev pub import_into : List LibRecord → Labelled → Import → Result Labelled Fault

@@ -1,5 +1,5 @@
 -- The records of loaded libraries, and the core text of a program.
-use Rattle.std.specs.Prelude.{ℕ, List, [], ◌∷◌, ◌++◌, Result, Ok, Err}
+use Rattle.std.specs.Prelude.{ℕ, List, [], ◌∷◌, ◌++◌, true, Result, Ok, Err}
 use Rattle.sx_base.specs.Datum.{PlainDatum}
 use Rattle.sx_base.specs.Gives.{◌>>=◌}
 use Rattle.sx_base.specs.declared.fault.Fault.{Fault}
@@ -8,24 +8,24 @@ use Rattle.sx_core_text.specs.Whole.{core_text}
 use Rattle.sx_eval.specs.Codes.{Codes}
 use Rattle.sx_forms.specs.Form.{library_body, program_body}
 use Rattle.sx_import.specs.Turns.{turns}
-use Rattle.sx_standing.specs.Start.{records_at}
-use Rattle.sx_load.specs.Found.{needed}
+use Rattle.sx_derived.specs.Derived.{derived_record}
+use Rattle.sx_library.specs.Records.{needed_records}
 use Rattle.sx_load.specs.Load.{Loads}
 use Rattle.sx_load.specs.declared.found.Found.{Found}
 use Rattle.sx_load.specs.declared.found.Loading.{Loading}
 use Rattle.sx_library.specs.Library.{expand_library}
 use Rattle.sx_planned.specs.Plan.{plan_of}
 
--- the record of a library or program behind those that it needs
+-- the record of a library or program behind the derived library and those that it needs
 abbrev pub expand_found : Result Codes Fault → List LibRecord → Found → List PlainDatum → Result LibRecord Fault
-expand_found prelude records found body = expand_library prelude (records_at records (needed found)) found.opened.path found.opened.form body
+expand_found prelude records found body = expand_library prelude (needed_records records (true ∷ found.needs)) found.opened.path found.opened.form body
 
 abbrev pub expand_next : Result Codes Fault → List LibRecord → List ℕ × Found → Result (List LibRecord) Fault
 expand_next prelude records row = expand_found prelude records row.1 (library_body row.1.opened.«data») >>= (λ r. Ok (records ++ r ∷ []))
 
--- the records of libraries, in the order of loading
+-- the record of the derived library, and those of the others behind it, in the order of loading
 abbrev pub all_records : Result Codes Fault → List (List ℕ × Found) → Result (List LibRecord) Fault
-all_records prelude rows = turns (expand_next prelude) [] rows
+all_records prelude rows = derived_record prelude >>= (λ d. turns (expand_next prelude) (d ∷ []) rows)
 
 abbrev pub planned_text : List LibRecord → LibRecord → Result (List ℕ) Fault
 planned_text records program = core_text records (plan_of records program) program

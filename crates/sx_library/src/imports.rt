@@ -1,9 +1,10 @@
 //! The names that the imports of a form give.
 
-ghost use Rattle.std.specs.Prelude.{◌≡◌, [], IfOk, option_map};
+ghost use Rattle.std.specs.Prelude.{◌≡◌, [], IfOk, option_map, map};
 ghost use Rattle.sx_base.specs.Gives.{Gives};
 ghost use Rattle.sx_import.specs.Turns.{turns};
-ghost use Rattle.sx_library.specs.Imports.{named, record_referred, record_exports, referred, refer, exported, import_into, form_names};
+ghost use Rattle.sx_derived.specs.Derived.{relabelled_in};
+ghost use Rattle.sx_library.specs.Imports.{named, record_referred, record_exports, referred, refer, given_names, exported, import_into, form_names};
 ghost use Rattle.sx_library.specs.Records.{needed_records};
 ghost use Rattle.sx_load.specs.Load.{fitting, builtin_version};
 
@@ -17,6 +18,7 @@ use sx_base::name::Label;
 use sx_base::symbol::Symbol;
 use sx_builtin::exports::exports;
 use sx_core::record::LibRecord;
+use sx_derived::derived::relabelled;
 use sx_forms::set::Import;
 use sx_import::names::{Names, import_names, join_names};
 use sx_import::set::ImportSet;
@@ -109,9 +111,38 @@ fn exported(
     ensures { IfOk result (λ names. names ≡ exported (needed_records records.now needs.now) library.now) }
 {
     match exports(alloc, library)? {
-        Some(names) => Ok(names),
+        Some(names) => given_names(alloc, records.named(needs, &LibName::Derived), names),
         None => record_exports(alloc, records.named(needs, library)),
     }
+}
+
+// The names of the implementation, behind the record of the derived library.
+fn given_names(
+    alloc: Global,
+    derived: Option<&LibRecord>,
+    names: Items<(Symbol, Label)>,
+) -> Result<Items<(Symbol, Label)>, Memory>
+    ensures { IfOk result (λ es. es ≡ given_names (option_map (λ r. r.now) derived.entry) names) }
+{
+    match derived {
+        None => Ok(names),
+        Some(derived) => all_relabelled(alloc, derived, names.as_slice()),
+    }
+}
+
+fn all_relabelled(
+    alloc: Global,
+    derived: &LibRecord,
+    names: &[(Symbol, Label)],
+) -> Result<Items<(Symbol, Label)>, Memory>
+    ensures { IfOk result (λ es. es ≡ map (λ e. relabelled_in derived.now e) names.now) }
+{
+    let mut all = Items::new(alloc);
+    for (name, label) in names {
+        let one = relabelled(derived, name, label)?;
+        all.push(one)?;
+    }
+    Ok(all)
 }
 
 fn record_exports(alloc: Global, one: Option<&LibRecord>) -> Result<Items<(Symbol, Label)>, Memory>

@@ -1,9 +1,10 @@
 //! The records of loaded libraries, and the core text of a program.
 
-ghost use Rattle.std.specs.Prelude.{◌≡◌, ◌∷◌, ◌++◌, [], IfOk, Ok, Err};
+ghost use Rattle.std.specs.Prelude.{◌≡◌, ◌∷◌, ◌++◌, [], true, IfOk, Ok, Err};
 ghost use Rattle.std.specs.String.{string_bytes};
 ghost use Rattle.sx_base.specs.Gives.{Gives, Stops};
 ghost use Rattle.sx_prelude.specs.Prelude.{kept};
+ghost use Rattle.sx_import.specs.Turns.{turns};
 ghost use Rattle.sx_library.specs.Loaded.{expand_found, expand_next, all_records, planned_text, text_of};
 
 use crate::library::expand_library;
@@ -12,8 +13,11 @@ use std::alloc::Global;
 use std::sync::ledger::Ledger;
 use sx_base::datum::Datum;
 use sx_base::fault::{Fault, Stop};
+use sx_base::items::Items;
+use sx_base::memory::Memory;
 use sx_core::record::LibRecord;
 use sx_core_text::whole::core_text;
+use sx_derived::derived::derived_record;
 use sx_forms::form::{library_body, program_body};
 use sx_import::table::Table;
 use sx_load::found::{Found, Loading};
@@ -21,6 +25,18 @@ use sx_planned::planned;
 use sx_prelude::prelude::Prelude;
 use sx_prims::table::PrimTable;
 use sx_standing::means::Counts;
+
+// The marks of the libraries that are needed, behind that of the derived library, which all need.
+fn with_derived(alloc: Global, needs: &[bool]) -> Result<Items<bool>, Memory>
+    ensures { IfOk result (λ ms. ms ≡ true ∷ needs.now) }
+{
+    let mut all = Items::new(alloc);
+    all.push(true)?;
+    for mark in needs {
+        all.push(*mark)?;
+    }
+    Ok(all)
+}
 
 // The record of a library or program behind those that it needs.
 fn expand_found<N: Ledger, L: Ledger>(
@@ -35,11 +51,12 @@ fn expand_found<N: Ledger, L: Ledger>(
     ensures { Gives (λ r. r) result (expand_found (kept prelude.now) records.now found.now body.now) }
 {
     let opened = &found.opened;
+    let needs = with_derived(alloc, found.needs.as_slice())?;
     expand_library(
         alloc,
         prelude,
         records,
-        found.needs.as_slice(),
+        needs.as_slice(),
         &opened.path,
         &opened.form,
         body,
@@ -64,7 +81,28 @@ fn expand_next<N: Ledger, L: Ledger>(
     Ok(())
 }
 
-// The records of libraries, in the order of loading.
+// Records, and behind them those of libraries in the order of loading.
+fn records_behind<N: Ledger, L: Ledger>(
+    alloc: Global,
+    prelude: &Prelude,
+    records: Records,
+    libraries: &Table<Found>,
+    prims: &PrimTable,
+    counts: &mut Counts<N, L>,
+) -> Result<Records, Stop>
+    ensures { Gives (λ rs. rs) result (turns (expand_next (kept prelude.now)) records libraries.now) }
+{
+    let mut records = records;
+    for place in 0..libraries.size() {
+        let Some((_, found)) = libraries.at(place) else {
+            return Err(Stop::Memory);
+        };
+        expand_next(alloc, prelude, &mut records, found, prims, counts)?;
+    }
+    Ok(records)
+}
+
+// The record of the derived library, and behind it those of the others.
 fn all_records<N: Ledger, L: Ledger>(
     alloc: Global,
     prelude: &Prelude,
@@ -74,14 +112,9 @@ fn all_records<N: Ledger, L: Ledger>(
 ) -> Result<Records, Stop>
     ensures { Gives (λ rs. rs) result (all_records (kept prelude.now) libraries.now) }
 {
-    let mut records = Records::new(alloc)?;
-    for place in 0..libraries.size() {
-        let Some((_, found)) = libraries.at(place) else {
-            return Err(Stop::Memory);
-        };
-        expand_next(alloc, prelude, &mut records, found, prims, counts)?;
-    }
-    Ok(records)
+    let derived = derived_record(alloc, prelude, prims, counts)?;
+    let records = Records::of_one(alloc, derived)?;
+    records_behind(alloc, prelude, records, libraries, prims, counts)
 }
 
 // A program, with the libraries that it needs when it runs before it.

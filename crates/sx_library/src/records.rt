@@ -71,6 +71,15 @@ impl Records {
         }
     }
 
+    /// One record.
+    pub(crate) fn of_one(alloc: Global, only: LibRecord) -> Result<Records, Memory>
+        ensures { IfOk result (λ r. r ≡ only ∷ []) }
+    {
+        let mut records = Records::new(alloc)?;
+        records.push(alloc, only)?;
+        Ok(records)
+    }
+
     /// The records, ready for the expansion of one more.
     pub fn ready(&self) -> &ReadyRecords
         ensures { result.now ≡ self.now }

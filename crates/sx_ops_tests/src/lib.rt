@@ -1,14 +1,13 @@
-//! Tests of the primitives.
+//! Tests of primitives by themselves: what no program shows.
 //!
-//! Each row of a table is a call on data and what it comes to, as `(cadr (1 2 3)) 2`. The name of a fault
-//! stands for a call that is refused. Answers are those of R6RS. `table` fills tables and asks for costs.
+//! What calls come to and what they cost is told by the programs of `sx_cases`. Here `calls` fills the table of
+//! primitives, `table` fills it wrongly and asks for costs above a limit, and `fuel` calls a primitive with just
+//! the fuel that it needs.
 #![tactic(auto)]
 
 #[cfg(test)]
 mod calls;
 #[cfg(test)]
-mod rows;
+mod fuel;
 #[cfg(test)]
 mod table;
-#[cfg(test)]
-mod values;

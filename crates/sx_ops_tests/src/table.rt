@@ -9,8 +9,7 @@ use sx_base::op::Op;
 use sx_prims::made::Made;
 use sx_prims::table::PrimTable;
 use sx_region::region::Region;
-use sx_syntax::syn::Syn;
-use sx_value::cell::{Cell, add_cell};
+use sx_value::cell::Cell;
 use sx_value::value::Value;
 
 #[test]
@@ -193,72 +192,62 @@ fn ops_cost_what_their_rows_say(rt: HostRuntime) -> Result<(), Fail> {
     Ok(())
 }
 
-fn is_true(value: &Value) -> bool {
-    match value {
-        Value::Atom(Atom::Bool(answer)) => *answer,
-        _ => false,
-    }
-}
-
-fn makes_true(made: &Made) -> bool {
-    match made {
-        Made::Value(value) => is_true(value),
-        _ => false,
-    }
-}
-
-fn comes_to_true(outcome: &Result<Made, BareStop>) -> bool {
-    match outcome {
-        Ok(made) => makes_true(made),
-        Err(_) => false,
-    }
-}
-
-/// Whether a primitive that compares says that a value is itself.
-fn is_itself(
-    alloc: Global,
-    table: &PrimTable,
+/// A call of `list-tail` on the empty list: its op, and how much is to be taken off.
+#[derive(Clone, Copy)]
+struct Tail {
     op: u16,
-    cells: &Region<Cell>,
-    value: &Value,
-) -> Result<bool, Memory> {
+    number: i128,
+}
+
+const TAIL: Tail = Tail {
+    op: 125,
+    number: 2_000_000,
+};
+
+/// More than any limit.
+const LONGEST_TAIL: Tail = Tail {
+    op: 125,
+    number: 99_999_999_999_999_999_999_999,
+};
+
+fn tail_arguments(alloc: Global, tail: Tail) -> Result<Vec<Value>, Memory> {
     let mut args = Vec::new(alloc);
-    args.push(value.share()?)?;
-    args.push(value.share()?)?;
-    let outcome = called(alloc, table, Op(op), &args, cells);
-    Ok(comes_to_true(&outcome))
+    args.push(Value::Atom(Atom::Nil))?;
+    args.push(Value::Atom(Atom::Int(tail.number)))?;
+    Ok(args)
 }
 
-/// Whether those three say so of a pair, and not of a syntax object.
-fn are_told_apart(
-    alloc: Global,
-    table: &PrimTable,
-    cells: &mut Region<Cell>,
-) -> Result<bool, Memory> {
-    let one = Value::Atom(Atom::Int(1));
-    let two = Value::Atom(Atom::Int(2));
-    let pair = Value::Pair(add_cell(cells, Cell::Pair(one, two))?);
-    let tree = Value::Syn(Syn::atom(alloc, Atom::Int(1))?);
-    for op in [98, 99, 100] {
-        if !is_itself(alloc, table, op, cells, &pair)? {
-            return Ok(false);
-        }
-        if is_itself(alloc, table, op, cells, &tree)? {
-            return Ok(false);
-        }
+/// What such a call costs, where the limit is 1,000,000,000.
+fn tail_cost(alloc: Global, table: &PrimTable, tail: Tail) -> Result<u64, Memory> {
+    let args = tail_arguments(alloc, tail)?;
+    let cells: Region<Cell> = Region::new(alloc);
+    table.cost(alloc, Op(tail.op), &args, &cells, 1_000_000_000)
+}
+
+fn is_refused(outcome: &Result<Made, BareStop>) -> bool {
+    match outcome {
+        Err(BareStop::Fault(fault)) => fault.kind.name() == "PrimFault",
+        _ => false,
     }
-    Ok(true)
 }
 
-/// `eq?`, `equal?` and `eqv?` of a pair in the store, and of a syntax object.
+/// Whether such a call is refused.
+fn tail_is_refused(alloc: Global, table: &PrimTable, tail: Tail) -> Result<bool, Memory> {
+    let args = tail_arguments(alloc, tail)?;
+    let cells: Region<Cell> = Region::new(alloc);
+    let outcome = called(alloc, table, Op(tail.op), &args, &cells);
+    Ok(is_refused(&outcome))
+}
+
+/// `list-tail` costs what it is to take off, also where the list has less, and is refused then.
 #[test]
-fn a_pair_is_itself_and_a_syntax_object_is_not(rt: HostRuntime) -> Result<(), Fail> {
+fn tails_cost_what_they_take_off(rt: HostRuntime) -> Result<(), Fail> {
     let alloc = rt.alloc();
     let Some(table) = full_table(alloc)? else {
         return Err("rows in order are refused".into());
     };
-    let mut cells = Region::new(alloc);
-    let told = are_told_apart(alloc, &table, &mut cells);
-    assert!(rt; told?);
+    assert_eq!(rt; tail_cost(alloc, &table, TAIL)?, 2_000_000);
+    assert_eq!(rt; tail_cost(alloc, &table, LONGEST_TAIL)?, 1_000_000_001);
+    assert!(rt; tail_is_refused(alloc, &table, LONGEST_TAIL)?);
     Ok(())
 }

@@ -1,4 +1,4 @@
--- What `(quasisyntax TEMPLATE)` comes to (R6RS libraries 12.6): a template of `syntax`, whose expressions are inserts.
+-- What `(quasisyntax TEMPLATE)` comes to (R6RS libraries 12.8): a template of `syntax`, whose expressions are inserts.
 use Rattle.std.specs.Prelude.{ℕ, ◌-◌, Bool, true, false, ◌||◌, List, [], ◌∷◌, ◌++◌, length, take, drop, map, Option, None, Some, Result, Ok, Err, if◌then◌else◌}
 use Rattle.sx_base.specs.Gives.{◌>>=◌}
 use Rattle.sx_base.specs.declared.fault.Bare.{Bare}

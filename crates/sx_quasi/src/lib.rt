@@ -1,6 +1,6 @@
 //! What `quasiquote` and `quasisyntax` forms come to.
 //!
-//! A *template* is a form in which some parts are to be filled in (R6RS 11.17; libraries 12.6):
+//! A *template* is a form in which some parts are to be filled in (R6RS 11.17; libraries 12.8):
 //!
 //! ```text
 //! `(1 ,x ,@y (2 3))      comes to   (append (list '1 x) y (list '(2 3)) '())

@@ -485,7 +485,7 @@ fn step(
     }
 }
 
-/// What a `quasisyntax` form with this template comes to (R6RS libraries 12.6).
+/// What a `quasisyntax` form with this template comes to (R6RS libraries 12.8).
 ///
 /// Each expression is an insert, whose leaf stands for its value in the template; behind the leaf of a splice stands
 /// `dots`, which must stand for the ellipsis where the template is compiled. The form means

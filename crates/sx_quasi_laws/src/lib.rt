@@ -1,4 +1,4 @@
-//! Laws of `quasiquote` and `quasisyntax` templates (R6RS 11.17; libraries 12.6).
+//! Laws of `quasiquote` and `quasisyntax` templates (R6RS 11.17; libraries 12.8).
 //!
 //! A plan calls `list`, `cons*`, `append` and `list->vector`, and keeps whole what holds no expression. Here it is
 //! shown that, whatever the values of its expressions are, it makes just the template with these values in their

@@ -1,18 +1,26 @@
 -- A library is expanded behind records that serve, and its record serves too.
-use Rattle.std.proofs.Common.{◌≡◌, ℕ, List, [], Result, Ok, Err, refl}
+use Rattle.std.proofs.Common.{◌≡◌, ℕ, zero, suc, ◌+◌, Bool, true, false, List, [], ◌∷◌, Option, Result, Ok, Err, refl, inl, inr, if◌then◌else◌}
 use Rattle.std.specs.Prelude.{map}
 use Rattle.sx_base.specs.Datum.{PlainDatum}
 use Rattle.sx_base.specs.Gives.{◌>>=◌}
 use Rattle.sx_base.specs.declared.fault.Fault.{Fault}
+use Rattle.sx_base.specs.Op.{op_text}
 use Rattle.sx_base.specs.declared.library.LibName.{LibName}
+use Rattle.sx_base.specs.declared.library.LibName.TheVariants as library
+use Rattle.sx_base.specs.declared.name.Label.{Label}
+use Rattle.sx_builtin.specs.Exports.{derived, label_at}
+use Rattle.sx_builtin.specs.declared.derived.TheConstants.{DERIVED_SOURCE}
 use Rattle.sx_tree.specs.Tree.{Tree}
 use Rattle.sx_core.specs.declared.record.LibRecord.{LibRecord}
 use Rattle.sx_core_laws.specs.Follows.{names_of}
-use Rattle.sx_core_laws.specs.Words.{Among}
+use Rattle.sx_core_laws.specs.Words.{Each, Among}
+use Rattle.sx_derived.specs.Derived.{forms_of, record_of, derived_record}
+use Rattle.sx_derived.specs.Names.{path, start, is_defined, name_at, names_from, names, exports_of}
 use Rattle.sx_eval.specs.Codes.{Codes}
 use Rattle.sx_expand.specs.Expanding.{ready, library_record}
 use Rattle.sx_expand_laws.specs.Ready.{IsReady}
-use Rattle.sx_expand_laws.specs.Serves.{AllServe}
+use Rattle.sx_expand_laws.specs.Serves.{IsThere, AllServe}
+use Rattle.sx_expand_laws.proofs.Fresh.{each-append}
 use Rattle.sx_expand_laws.proofs.GoodKeywords.{keywords-good}
 use Rattle.sx_expand_laws.proofs.Records.{records-good}
 use Rattle.sx_expand_laws.proofs.Serving.{records-serve}
@@ -64,3 +72,40 @@ module _ (records : List LibRecord) (serve : AllServe [] records) (path : List �
           → Stands records form.name r
       by_names (Ok names) n h = by_forms names n (trees_at form.name_span [] body) h
       by_names (Err f) n h = absurd (cc)
+
+-- The derived library: it imports names of the implementation alone.
+
+names_there : (ds : List (Option ℕ)) (n count : ℕ) → Each (λ (e : List ℕ × Label). IsThere [] e.1.0.library) (names_from ds n count)
+unfolding names_from
+names_there ds n zero = tt
+names_there ds n (suc count) =
+    each-append (λ (e : List ℕ × Label). IsThere [] e.1.0.library) (name_at ds n) (names_from ds (n + 1) count) (by (is_defined n ds)) (names_there ds (n + 1) count)
+  where
+    by : (b : Bool) → Each (λ (e : List ℕ × Label). IsThere [] e.1.0.library) (if b then [] else (op_text n, label_at library.Core n) ∷ [])
+    by true = tt
+    by false = (inr (inl refl), tt)
+
+module _ (d : LibRecord) where
+  forms_stand : (codes : Codes) (forms : List Tree) → record_of codes forms ≡ Ok d → Stands [] library.Derived d
+  unfolding record_of
+  forms_stand codes forms h =
+      let is_ready : IsReady library.Derived [] = record { new = λ a. elim a [ ]; earlier = tt } in
+      let g = records-good library.Derived path [] names [] start (exports_of derived) forms codes d is_ready h in
+      record {
+        named = g.1;
+        good = g.0;
+        keywords = keywords-good library.Derived path [] names [] start (exports_of derived) forms codes d is_ready h;
+        serves = records-serve library.Derived path [] names [] start (exports_of derived) forms codes d is_ready (names_there derived 0 301) h;
+      }
+
+  pub derived_stands : (prelude : Result Codes Fault) → derived_record prelude ≡ Ok d → Stands [] library.Derived d
+  unfolding derived_record
+  derived_stands prelude h = by_forms (forms_of DERIVED_SOURCE.now) h
+    where
+      by_codes : (forms : List Tree) (x : Result Codes Fault) → (x >>= (λ codes. record_of codes forms)) ≡ Ok d → Stands [] library.Derived d
+      by_codes forms (Ok codes) h = forms_stand codes forms h
+      by_codes forms (Err f) h = absurd (cc)
+
+      by_forms : (x : Result (List Tree) Fault) → (x >>= (λ forms. prelude >>= (λ codes. record_of codes forms))) ≡ Ok d → Stands [] library.Derived d
+      by_forms (Ok forms) h = by_codes forms prelude h
+      by_forms (Err f) h = absurd (cc)

@@ -1,13 +1,13 @@
 -- The text of a run is closed, and bound once.
-use Rattle.std.proofs.Common.{◌≡◌, ℕ, zero, suc, List, [], ◌∷◌, Option, Some, None, refl, inl, inr}
+use Rattle.std.proofs.Common.{◌≡◌, ℕ, zero, suc, List, [], ◌∷◌, ◌++◌, Option, Some, None, refl, sym, subst, inl, inr}
 use Rattle.std.specs.Prelude.{slice_get}
 use Rattle.sx_base.specs.declared.library.LibName.{LibName}
 use Rattle.sx_base.specs.declared.library.LibName.TheVariants as library
 use Rattle.sx_core.specs.declared.record.LibRecord.{LibRecord}
-use Rattle.sx_core_laws.specs.Follows.{line_cores}
+use Rattle.sx_core_laws.specs.Follows.{names_of, line_cores}
 use Rattle.sx_core_laws.specs.Templates.{TemplatesSuit}
 use Rattle.sx_core_laws.specs.WellMade.{IsWellMade}
-use Rattle.sx_core_laws.specs.Words.{Each, Among}
+use Rattle.sx_core_laws.specs.Words.{Each, Among, Once}
 use Rattle.sx_expand_laws.proofs.Fresh.{each-map}
 use Rattle.sx_load.specs.Found.{needed}
 use Rattle.sx_load.specs.declared.found.Found.{Found}
@@ -41,10 +41,10 @@ each_place P (r ∷ rs) h = (h zero r refl, each_place P rs (λ i x e. h (suc i)
 -- ---- records that stand
 
 -- all that is asked of a record before the text is made
-standing : (records : List LibRecord) (ps : List ℕ) (name : LibName) (r : LibRecord) → Stands (records_at records ps) name r → IsStanding records r
-standing records ps name r h = record {
-  earlier = records_at records ps;
-  loaded = at_among records ps;
+standing : (records earlier : List LibRecord) → Each (Among records) earlier → (name : LibName) (r : LibRecord) → Stands earlier name r → IsStanding records r
+standing records earlier loaded name r h = record {
+  earlier = earlier;
+  loaded = loaded;
   closed = h.good.closed;
   suited = each-map (IsWellMade []) (TemplatesSuit []) (line_cores r) h.good.well_made (λ c w. w.templates);
   bound_once = h.good.bound_once;
@@ -55,16 +55,20 @@ standing records ps name r h = record {
 }
 
 all_standing : (found : Found) (s : Loading) (records : List LibRecord) (program : LibRecord) → AllStand found s records program → AreStanding records program
-all_standing found s records program h = record {
-  named_once = h.once;
-  libraries = each_place (IsStanding records) records here;
-  program = standing records (needed found) library.Program program h.last;
-}
+all_standing found s records program h = subst (λ (rs : List LibRecord). AreStanding rs program) (sym h.parts) (record {
+  named_once = subst (λ (rs : List LibRecord). Once (names_of (rs ++ program ∷ []))) h.parts h.once;
+  libraries = (standing (h.derived ∷ h.others) [] tt library.Derived h.derived h.first, each_place (IsStanding (h.derived ∷ h.others)) h.others here);
+  program = standing (h.derived ∷ h.others) (h.derived ∷ records_at h.others (needed found)) (behind found) library.Program program h.last;
+})
   where
-    here : (i : ℕ) (r : LibRecord) → slice_get records i ≡ Some r → IsStanding records r
+    -- the records that a library stands behind are among all
+    behind : (f : Found) → Each (Among (h.derived ∷ h.others)) (h.derived ∷ records_at h.others (needed f))
+    behind f = (inl refl, each-map (Among h.others) (Among (h.derived ∷ h.others)) (records_at h.others (needed f)) (at_among h.others (needed f)) (λ r a. inr a))
+
+    here : (i : ℕ) (r : LibRecord) → slice_get h.others i ≡ Some r → IsStanding (h.derived ∷ h.others) r
     here i r e =
-        let x = same_place records s.done i r h.as_many e in
-        standing records (needed x.0.1) x.0.1.opened.form.name r (h.each i x.0.0 x.0.1 r x.1 e)
+        let x = same_place h.others s.done i r h.as_many e in
+        standing (h.derived ∷ h.others) (h.derived ∷ records_at h.others (needed x.0.1)) (behind x.0.1) x.0.1.opened.form.name r (h.each i x.0.0 x.0.1 r x.1 e)
 
 pub runs_are_closed_once : RunsAreClosedOnce
 runs_are_closed_once prelude files roots path found s records program run =

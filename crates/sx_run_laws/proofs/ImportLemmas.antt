@@ -2,6 +2,7 @@
 use Rattle.std.proofs.Common.{◌≡◌, ℕ, Bool, true, false, List, [], ◌∷◌, ◌++◌, Result, Ok, Err, Option, Some, None, refl, sym, subst, inl, inr}
 use Rattle.std.specs.Prelude.{map, filter, not, option_map, if◌then◌else◌}
 use Rattle.std.specs.List.{find}
+use Rattle.std.specs.Map.{lookup}
 use Rattle.sx_base.specs.Gives.{◌>>=◌}
 use Rattle.sx_base.specs.Same.{same_library}
 use Rattle.sx_base.specs.declared.fault.Fault.{Fault}
@@ -17,12 +18,13 @@ use Rattle.sx_core_laws.specs.Words.{Each, Among}
 use Rattle.sx_expand_laws.proofs.Fresh.{each-append, each-map}
 use Rattle.sx_forms.specs.declared.set.Import.{Import}
 use Rattle.sx_import.specs.Names.{Labelled, same_label, conflict, join_by, join_one, joined, has_name, need_by, need, is_among, only, except, prefixed, new_name, renamed, sources, step_names, import_names}
-use Rattle.sx_import.specs.Table.{value_of}
+use Rattle.sx_import.specs.Table.{same_text, value_of}
 use Rattle.sx_import.specs.Turns.{turns}
 use Rattle.sx_import.specs.declared.set.NameAt.{NameAt}
 use Rattle.sx_import.specs.declared.set.Step.{Step}
 use Rattle.sx_import.specs.declared.set.Step.TheVariants.{Only, Except, Prefix, Rename}
-use Rattle.sx_library.specs.Imports.{named, refer, record_exports, exported_by, exported, import_into, form_names}
+use Rattle.sx_derived.specs.Derived.{label_or, relabelled_in}
+use Rattle.sx_library.specs.Imports.{named, refer, record_exports, given_names, exported_by, exported, import_into, form_names}
 use Rattle.sx_expand_laws.specs.Serves.{IsOfImplementation, IsThere, AllServe}
 use Rattle.sx_run_laws.proofs.NameLemmas.{exports_there}
 
@@ -178,12 +180,41 @@ module _ (records : List LibRecord) (serve : AllServe [] records) where
   record_gives l None e = tt
   record_gives l (Some r) e = each_label There r.exports (exports_there [] records serve r (found_among (λ (x : LibRecord). same_library x.name l) records r e))
 
+  -- a derived name stands for what the derived record exports
+  module _ (r : LibRecord) (gives : LabelsAre There r.exports) where
+    looked_up : (name : List ℕ) (rows : Labelled) (l : Label) → LabelsAre There rows → lookup (same_text name) rows ≡ Some l → There l
+    looked_up name [] l h e = absurd (cc)
+    looked_up name (row ∷ rows) l h e = by (same_text name row.0) (looked_up name rows l h.1) e
+      where
+        by : (b : Bool) → (lookup (same_text name) rows ≡ Some l → There l) → (if b then Some row.1 else lookup (same_text name) rows) ≡ Some l → There l
+        by true rest e = let same : row.1 ≡ l = cc in subst There same h.0
+        by false rest e = rest e
+
+    one_there : (x : List ℕ × Label) → There x.1 → There (relabelled_in r x).1
+    one_there x h = by (same_library x.1.0.library library.Derived)
+      where
+        found : (o : Option Label) → lookup (same_text x.0) r.exports ≡ o → There (label_or x.1 o)
+        found None e = h
+        found (Some l) e = looked_up x.0 r.exports l gives e
+
+        by : (b : Bool) → There (if b then (x.0, label_or x.1 (lookup (same_text x.0) r.exports)) else x).1
+        by true = found (lookup (same_text x.0) r.exports) refl
+        by false = h
+
+    all_there : (names : Labelled) → LabelsAre There names → LabelsAre There (map (λ (e : List ℕ × Label). relabelled_in r e) names)
+    all_there [] h = tt
+    all_there (x ∷ xs) h = (one_there x h.0, all_there xs h.1)
+
+  given_there : (o : Option LibRecord) → named library.Derived records ≡ o → (names : Labelled) → LabelsAre There names → LabelsAre There (given_names o names)
+  given_there None e names h = h
+  given_there (Some r) e names h = all_there r (record_gives library.Derived (Some r) e) names h
+
   library_gives : (l : LibName) → LabelsAre There (exported records l)
   library_gives l = by (exports l) refl
     where
-      by : (o : Option Labelled) → exports l ≡ o → LabelsAre There (exported_by (named l records) o)
+      by : (o : Option Labelled) → exports l ≡ o → LabelsAre There (exported_by (named library.Derived records) (named l records) o)
       by None e = record_gives l (named l records) refl
-      by (Some names) e = each-map IsGivenLabel (LabelIs There) names (given_labels l names e) (λ x h. inr h)
+      by (Some names) e = given_there (named library.Derived records) refl names (each-map IsGivenLabel (LabelIs There) names (given_labels l names e) (λ x h. inr h))
 
   -- what a form imports is there, where the records that it stands behind serve
   pub imports_there : (imports : List Import) (names : Labelled) → form_names records imports ≡ Ok names → ImportsAreThere records names

@@ -38,13 +38,13 @@ named_among (r ∷ rs) n (inr a) = let x = named_among rs n a in record { record
 
 -- ---- names that stand once
 
-record IsNamedAt (rs : List LibRecord) (n : LibName) : Type 0 where
+pub record IsNamedAt (rs : List LibRecord) (n : LibName) : Type 0 where
   pub place : ℕ
   pub record_of : LibRecord
   pub there : slice_get rs place ≡ Some record_of
   pub name : record_of.name ≡ n
 
-named_at : (rs : List LibRecord) (n : LibName) → Among (names_of rs) n → IsNamedAt rs n
+pub named_at : (rs : List LibRecord) (n : LibName) → Among (names_of rs) n → IsNamedAt rs n
 named_at [] n a = elim a [ ]
 named_at (r ∷ rs) n (inl e) = record { place = zero; record_of = r; there = refl; name = sym e }
 named_at (r ∷ rs) n (inr a) = let x = named_at rs n a in record { place = suc x.place; record_of = x.record_of; there = x.there; name = x.name }

@@ -5,6 +5,8 @@ use Rattle.sx_core.specs.declared.record.LibRecord.{LibRecord}
 use Rattle.sx_core_laws.specs.Words.{Among}
 use Rattle.sx_load.specs.Found.{places_from}
 use Rattle.sx_standing.specs.Start.{or_skip, records_at}
+use Rattle.sx_library.specs.Records.{needed_records}
+use Rattle.sx_library.proofs.PlaceLemmas.{places_behind}
 
 -- the place of one of them
 pub record IsMarked (records : List LibRecord) (k : ℕ) (ms : List Bool) (r : LibRecord) : Type 0 where
@@ -48,3 +50,13 @@ module _ (before after : List LibRecord) where
       let less : k < length before = let l = low zero refl in omega (arith, l) in
       ap (λ o. or_skip o (records_at (before ++ after) (places_from (suc k) ms))) (first_get before after k less)
       ∙ ap (or_skip (slice_get before k)) (first_records (suc k) ms (λ p h. let l = low (suc p) h in omega (arith, l)))
+
+-- behind the record of the derived library, which is always marked
+pub needed_behind : (d : LibRecord) (rs : List LibRecord) (ms : List Bool) → needed_records (d ∷ rs) (true ∷ ms) ≡ d ∷ records_at rs (places_from zero ms)
+unfolding places_from
+needed_behind d rs ms = ap (λ (xs : List LibRecord). d ∷ xs) (places_behind d rs zero ms)
+
+-- such a mark, too, is that of one of the first records
+pub low_behind : (n : ℕ) (ms : List Bool) → ((p : ℕ) → slice_get ms p ≡ Some true → suc p < n) → 0 < n → (p : ℕ) → slice_get (true ∷ ms) p ≡ Some true → zero + p < n
+low_behind n ms low some zero h = omega (arith, some)
+low_behind n ms low some (suc p) h = let l = low p h in omega (arith, l)

@@ -35,12 +35,17 @@ pub record Stands (earlier : List LibRecord) (name : LibName) (r : LibRecord) : 
   pub keywords : HasGoodKeywords earlier r
   pub serves : Serves earlier r
 
--- the records of libraries that were loaded, and of the program
+-- the records of the derived library, of libraries that were loaded, and of the program
 pub record AllStand (found : Found) (s : Loading) (records : List LibRecord) (program : LibRecord) : Type 0 where
+  pub derived : LibRecord
+  pub others : List LibRecord
+  -- that of the derived library comes first, behind no other
+  pub parts : records ≡ derived ∷ others
+  pub first : Stands [] library.Derived derived
   -- each library has its record, in the order of loading
-  pub as_many : length records ≡ length s.done
-  pub each : (i : ℕ) (file : List ℕ) (f : Found) (r : LibRecord) → IsAt s.done i file f → slice_get records i ≡ Some r → Stands (records_at records (needed f)) f.opened.form.name r
-  pub last : Stands (records_at records (needed found)) library.Program program
+  pub as_many : length others ≡ length s.done
+  pub each : (i : ℕ) (file : List ℕ) (f : Found) (r : LibRecord) → IsAt s.done i file f → slice_get others i ≡ Some r → Stands (derived ∷ records_at others (needed f)) f.opened.form.name r
+  pub last : Stands (derived ∷ records_at others (needed found)) library.Program program
   -- no two of them have one name
   pub once : Once (names_of (records ++ program ∷ []))
 

@@ -1,17 +1,19 @@
 //! Laws of whole runs: the records of a run stand behind one another, and its text is closed and bound once.
 //!
-//! A program is loaded with all that it imports, and the libraries are expanded in the order of loading, each
-//! behind the records of those that it needs. What expansion promises of one record it promises only behind
-//! records that serve, and of a library with a new name. Here it is told that in a run this always holds:
+//! A program is loaded with all that it imports. The record of the derived library is made first, behind no other;
+//! then the libraries are expanded in the order of loading, each behind it and the records of those that it needs.
+//! What expansion promises of one record it promises only behind records that serve, and of a library with a new
+//! name. Here it is told that in a run this always holds:
 //!
 //! ```text
 //! p.sps            (import (rnrs) (util all)) ..
 //! util/all.sls     (library (util all) (export ..) (import (util stack) (util loop)))
 //!
-//! record 0         (util stack), behind no record
-//! record 1         (util loop), behind record 0 if it imports (util stack), else behind no record
-//! record 2         (util all), behind records 0 and 1
-//! the program      behind records 0, 1 and 2
+//! record 0         the derived library, behind no record
+//! record 1         (util stack), behind record 0
+//! record 2         (util loop), behind records 0 and 1 if it imports (util stack), else behind record 0
+//! record 3         (util all), behind records 0, 1 and 2
+//! the program      behind records 0, 1, 2 and 3
 //! ```
 //!
 //! The first promise: each record of a run, and the program's, is good behind the records that its library needs,
@@ -21,9 +23,10 @@
 //! - Where a library is needed, so is all that it needs, and this was loaded before it. So the records that a
 //!   library needs serve, each behind those of them that come earlier.
 //! - The name of a library that is loaded is a list of parts, and the library stands under the file of its name,
-//!   once. So no name is that of the program, and no two are the same.
+//!   once. So no name is that of the program or of the derived library, and no two are the same.
 //! - Import sets select and rename, and make no labels. So each imported label comes from the implementation,
-//!   or from a record that exports it: it is of that record's library, or of one that was there before it.
+//!   or from a record that exports it, as that of the derived library does: it is of that record's library, or of
+//!   one that was there before it.
 //!
 //! The second promise is of the text of a run: the lines of the libraries that the program needs when it runs, and
 //! its own. This text is closed, so whatever a line of it mentions is defined in it; no label has two binders in it;

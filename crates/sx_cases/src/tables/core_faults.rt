@@ -494,20 +494,20 @@ pub const KEYWORDS: &str = r#"(import (rnrs))
 => 25 KeywordMisuse: begin
 
 (import (rnrs))
-§(let ((x 1)) x)
-=> 90 NotBuilt
+(let ((x 1)) x)
+=> ((lambda (%/x/0) %/x/0) 1)
 
 (import (rnrs))
 §let
-=> 90 NotBuilt
+=> 37 NoClause
 
 (import (rnrs))
-§(cond (else 1))
-=> 90 NotBuilt
+(cond (else 1))
+=> 1
 
 (import (rnrs))
-(list §(and))
-=> 90 NotBuilt
+(list (and))
+=> (list #t)
 
 (import (rnrs))
 (define-syntax f §1)
@@ -526,8 +526,8 @@ pub const KEYWORDS: &str = r#"(import (rnrs))
 => 30 SyntaxInRunCode
 
 (import (rnrs))
-(list §`a)
-=> 90 NotBuilt
+(list `a)
+=> (list (quote a))
 
 (import (rnrs))
 (list §(syntax-case 1 ()))
@@ -550,8 +550,8 @@ zork (define-syntax a §b)
 => 21 Unbound: b
 
 (import (rnrs))
-(list §(quasiquote x))
-=> 90 NotBuilt
+(list (quasiquote x))
+=> (list (quote x))
 
 (import (rnrs))
 (lambda () (let-syntax () 1))

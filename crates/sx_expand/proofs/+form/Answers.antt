@@ -5,6 +5,7 @@ use Rattle.sx_base.proofs.Loops.{each_on, each_stops, each_done, gather_on, gath
 use Rattle.sx_expand.specs.Body.{finish_one}
 use Rattle.sx_expand.specs.Expression.{inside, one_case, one_init, pattern_clause}
 use Rattle.sx_expand.specs.Keywords.{keyword_in}
+use Rattle.sx_expand.specs.Quasi.{part_core}
 use Rattle.sx_expand.proofs.+form.Goals as goal
 
 pub expression::in_order-loop-form-init : goal.expression::in_order-loop-form-init
@@ -111,3 +112,18 @@ patterns::all_clauses-loop-case-preserved g t c =
 
 pub patterns::all_clauses-returns : goal.patterns::all_clauses-returns
 patterns::all_clauses-returns g t c = each_done (λ x. x) (pattern_clause (inside (g.M.Transformers.records c.args.means.now) c.args.room) c.args.place.now c.args.level c.args.depth c.args.literals.now) c.loop-case.done.items c.args.cases.now c.loop-case.case-index c.loop-case.state _ c.loop-case-test.false c.loop-case.invariant
+
+pub quasi::parts_in_order-loop-part-init : goal.quasi::parts_in_order-loop-part-init
+quasi::parts_in_order-loop-part-init g t c = rw (c.new-done.ensures.items, map-id c.args.parts.now) refl
+
+pub quasi::parts_in_order-returns-in_err-core : goal.quasi::parts_in_order-returns-in_err-core
+quasi::parts_in_order-returns-in_err-core g t c =
+    let p = err_from_is_err_and c.from_residual.result c.from_residual.ensures.1 in
+    rw (p.1, p.2) (each_stops (λ x. x) (part_core (inside (g.M.Transformers.records c.args.means.now) c.args.room) c.args.place.now c.args.level) c.loop-part.done.items c.args.parts.now c.loop-part.part-index c.part-item.result c.loop-part.state _ c.in_err-core.field-0.0 c.loop-part-test.true c.part-item.is c.in_err-core.ensures c.loop-part.invariant)
+
+pub quasi::parts_in_order-loop-part-preserved : goal.quasi::parts_in_order-loop-part-preserved
+quasi::parts_in_order-loop-part-preserved g t c =
+    rw c.in_ok-push.ensures.items (each_on (λ x. x) (part_core (inside (g.M.Transformers.records c.args.means.now) c.args.room) c.args.place.now c.args.level) c.loop-part.done.items c.args.parts.now c.loop-part.part-index c.part-item.result c.loop-part.state _ c.in_ok-core.core c.expression.new.state c.loop-part-test.true c.part-item.is c.in_ok-core.ensures c.loop-part.invariant)
+
+pub quasi::parts_in_order-returns : goal.quasi::parts_in_order-returns
+quasi::parts_in_order-returns g t c = each_done (λ x. x) (part_core (inside (g.M.Transformers.records c.args.means.now) c.args.room) c.args.place.now c.args.level) c.loop-part.done.items c.args.parts.now c.loop-part.part-index c.loop-part.state _ c.loop-part-test.false c.loop-part.invariant

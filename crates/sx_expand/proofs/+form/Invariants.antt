@@ -3,6 +3,7 @@ use Rattle.sx_base.specs.Act.{each, gather}
 use Rattle.sx_expand.specs.Body.{splice, finish_one, finish_all}
 use Rattle.sx_expand.specs.Expression.{inside, in_order, one_case, all_cases, one_init, all_inits, pattern_clause, all_clauses}
 use Rattle.sx_expand.specs.Keywords.{keyword_in, all_keywords}
+use Rattle.sx_expand.specs.Quasi.{part_core, parts_in_order}
 use Rattle.sx_expand.proofs.+form.Given as goal
 
 abbrev pub invariant-expression::in_order-loop-form : goal.invariant-expression::in_order-loop-form
@@ -136,3 +137,12 @@ invariant-keywords::all_keywords-loop-one g l = gather (keyword_in (inside (g.M.
 
 abbrev pub invariant-patterns::all_clauses-loop-case : goal.invariant-patterns::all_clauses-loop-case
 invariant-patterns::all_clauses-loop-case g l = each (pattern_clause (inside (g.M.Transformers.records l.means) l.room) l.place l.level l.depth l.literals) l.done.items (map (λ c. c) (drop l.case-index l.cases)) l.state ≡ all_clauses (inside (g.M.Transformers.records l.means) l.room) l.place l.level l.depth l.literals l.cases l.fn.state
+
+abbrev pub invariant-quasi::parts_in_order-loop-part : goal.invariant-quasi::parts_in_order-loop-part
+invariant-quasi::parts_in_order-loop-part g l = each (part_core (inside (g.M.Transformers.records l.means) l.room) l.place l.level) l.done.items (map (λ p. p) (drop l.part-index l.parts)) l.state ≡ parts_in_order (inside (g.M.Transformers.records l.means) l.room) l.place l.level l.parts l.fn.state
+
+abbrev pub decreases-quasi::parts_in_order : goal.decreases-quasi::parts_in_order
+decreases-quasi::parts_in_order g l = 32 * l.room + 1
+
+abbrev pub decreases-quasi::quasi_form : goal.decreases-quasi::quasi_form
+decreases-quasi::quasi_form g l = 32 * l.room + 2

@@ -1,0 +1,222 @@
+//! Ellipses in ellipses, vectors and escapes (R6RS libraries 12.4).
+
+pub const MATCH_ELLIPSES: &str =
+    r#"; ellipses in ellipses, several behind one item, several variables under one, and vectors
+(import (rnrs))
+(define-syntax match
+  (lambda (s)
+    (syntax-case s ()
+      ((_ (l ...) p e t)
+       #'(let-syntax ((m (lambda (u) (syntax-case e (l ...) (p #`(quote #,#'t)) (_ #''none))))) (m))))))
+(match () (_ ...) #'(1 2 3) ok)
+(match () (_ (a b) ...) #'(k (1 2) (3 4)) ((a ...) (b ...)))
+(match () ((a b) ...) #'((1 2) (3)) 1)
+(match () ((a b) ...) #'() ((a ...) (b ...)))
+(match () ((a b ...) ...) #'((1 2 3) (4) (5 6)) ((a ...) (b ...) ...))
+(match () ((a ...) ...) #'((1 2) () (3)) (a ... ...))
+(match () ((a ...) ...) #'((1 2) () (3)) ((a ...) ...))
+(match () (((a ...) ...) ...) #'(((1 2) (3)) ((4))) (a ... ... ...))
+(match () (((a ...) ...) ...) #'(((1 2) (3)) ((4))) ((a ... ...) ...))
+(match () (((a ...) ...) ...) #'(((1 2) (3)) ((4))) ((a ...) ... ...))
+(match () (((a ...) ...) ...) #'(((1 2) (3)) ((4))) (((a ...) ...) ...))
+(match () ((a b ...) ...) #'((1 2 3) (4 5)) ((a b ...) ...))
+(match () ((a b ...) ...) #'((1 2 3) (4)) ((b ... a) ...))
+(match () ((a ... b) ...) #'((1 2 3) (4)) ((b a ...) ...))
+(match () ((a ...) ... b) #'((1) (2 3) 4) (b (a ...) ...))
+(match () (((a b) ...) ...) #'(((1 2) (3 4)) ((5 6))) ((a ... b ...) ...))
+(match () (a b ...) #'(1 2 3) ((a b) ...))
+(match () (a b ...) #'(1) ((a b) ...))
+(match () ((a b ...) ...) #'((1 2 3) (4 5 6)) ((a b) ... ...))
+(match () ((a ...) (b ...)) #'((1 2) (3 4)) ((a ... b) ...))
+(match () ((a ...) (b ...)) #'((1 2) (3 4)) ((a b ...) ...))
+=> (quote ok)
+(quote ((1 3) (2 4)))
+(quote none)
+(quote (() ()))
+(quote ((1 4 5) (2 3) () (6)))
+(quote (1 2 3))
+(quote ((1 2) () (3)))
+(quote (1 2 3 4))
+(quote ((1 2 3) (4)))
+(quote ((1 2) (3) (4)))
+(quote (((1 2) (3)) ((4))))
+(quote ((1 2 3) (4 5)))
+(quote ((2 3 1) (4)))
+(quote ((3 1 2) (4)))
+(quote (4 (1) (2 3)))
+(quote ((1 3 2 4) (5 6)))
+(quote ((1 2) (1 3)))
+(quote ())
+(quote ((1 2) (4 3) (1 5) (4 6)))
+(quote ((1 2 3) (1 2 4)))
+(quote ((1 3 4) (2 3 4)))
+
+; ellipses in ellipses, several behind one item, several variables under one, and vectors
+(import (rnrs))
+(define-syntax match
+  (lambda (s)
+    (syntax-case s ()
+      ((_ (l ...) p e t)
+       #'(let-syntax ((m (lambda (u) (syntax-case e (l ...) (p #`(quote #,#'t)) (_ #''none))))) (m))))))
+(match () ((a ...) b) #'((1 2) 3) ((a b) ... b))
+(match () (a ...) #'(1 2) ((a (a ...)) ...))
+(match () (a ...) #'(1 2) (a ... a ...))
+(match () ((a ...) (b ...)) #'((1 2) (3 4)) ((a b) ...))
+(match () #(a b) #'#(1 2) #(b a))
+(match () #(a b) #'#(1) a)
+(match () #(a b) #'(1 2) a)
+(match () (a b) #'#(1 2) a)
+(match () #() #'#() ok)
+(match () #() #'#(1) ok)
+(match () #(a ...) #'#(1 2 3) (a ...))
+(match () #(a ... b) #'#(1 2 3) #(b a ...))
+(match () #(a b ... c) #'#(1) a)
+(match () #((a b) ...) #'#((1 2) (3 4)) (#(a ...) #(b ...)))
+(match () (a ...) #'(1 2) #(a ... 3))
+(match () #(a ...) #'#() #(a ...))
+(match () (#(a ...) ...) #'(#(1 2) #(3)) #(#(a ...) ...))
+(match () #(a #(b)) #'#(1 #(2)) (b a))
+(match () (a . #(b)) #'(1 . #(2)) (b . #(a)))
+(match () a #'1 (a . a))
+(match () a #'1 (x . a))
+=> (quote ((1 3) (2 3) 3))
+(quote ((1 (1 2)) (2 (1 2))))
+(quote (1 2 1 2))
+(quote ((1 3) (2 4)))
+(quote #(2 1))
+(quote none)
+(quote none)
+(quote none)
+(quote ok)
+(quote none)
+(quote (1 2 3))
+(quote #(3 1 2))
+(quote none)
+(quote (#(1 3) #(2 4)))
+(quote #(1 2 3))
+(quote #())
+(quote #(#(1 2) #(3)))
+(quote (2 1))
+(quote (2 . #(1)))
+(quote (1 . 1))
+(quote (x . 1))
+
+; ellipses in ellipses, several behind one item, several variables under one, and vectors
+(import (rnrs))
+(define-syntax match
+  (lambda (s)
+    (syntax-case s ()
+      ((_ (l ...) p e t)
+       #'(let-syntax ((m (lambda (u) (syntax-case e (l ...) (p #`(quote #,#'t)) (_ #''none))))) (m))))))
+(match () a #'1 (a x y))
+(match () a #'1 (a (x y) #(z)))
+(match () a #'(2 3) (1 . a))
+(match () a #'1 (a . x))
+(match () a #'1 (a "s" #\c #t))
+(match () a #'1 (x y))
+(match () (a ...) #'(1 2) (0 a ... 3))
+(match () (a ...) #'(1 2) (a ... . 3))
+(match () (a ... . b) #'(1 2 . 3) (a ... . b))
+(match () (a ...) #'() (0 a ... . 3))
+(match () (a ...) #'() (a ... . 3))
+(match () (a ... . b) #'(1 . 2) (b . b))
+=> (quote (1 x y))
+(quote (1 (x y) #(z)))
+(quote (1 2 3))
+(quote (1 . x))
+(quote (1 "s" #\c #t))
+(quote (x y))
+(quote (0 1 2 3))
+(quote (1 2 . 3))
+(quote (1 2 . 3))
+(quote (0 . 3))
+3
+(quote (2 . 2))
+
+; lengths that differ under one ellipsis
+(import (rnrs))
+(define-syntax m (lambda (s) (syntax-case #'((1 2 3) (4 5)) () (((a b ...) ...) #'((a b) ... ...)))))
+§(m)
+=> 36 EllipsisLength: 2 1
+
+; lengths that differ under one ellipsis
+(import (rnrs))
+(define-syntax m (lambda (s) (syntax-case #'((1 2) (3 4 5)) () (((a ...) (b ...)) #'((a b) ...)))))
+§(m)
+=> 36 EllipsisLength: 2 3
+
+; lengths that differ under one ellipsis
+(import (rnrs))
+(define-syntax m (lambda (s) (syntax-case #'((1 2 3) (4)) () (((a ...) (b ...)) #'((a b) ...)))))
+§(m)
+=> 36 EllipsisLength: 3 1
+
+; lengths that differ under one ellipsis
+(import (rnrs))
+(define-syntax m (lambda (s) (syntax-case #'((1) (2) (3 4)) () (((a ...) (b ...) (c ...)) #'((a b c) ...)))))
+§(m)
+=> 36 EllipsisLength: 1 2
+
+; lengths that differ under one ellipsis
+(import (rnrs))
+(define-syntax m (lambda (s) (syntax-case #'(() (1)) () (((a ...) (b ...)) #'((a b) ...)))))
+§(m)
+=> 36 EllipsisLength: 0 1
+
+; lengths that differ under one ellipsis
+(import (rnrs))
+(define-syntax m (lambda (s) (syntax-case #'(z (1 2) (3 4 5)) () ((_ (a ...) (b ...)) #'((a b) ...)))))
+§(m)
+=> 36 EllipsisLength: 2 3
+
+; lengths that differ under one ellipsis
+(import (rnrs))
+(define-syntax m (lambda (s) (syntax-case #'((1 2) (3)) () (((a ...) (b ...)) #'((b a) ...)))))
+§(m)
+=> 36 EllipsisLength: 1 2
+
+; lengths that differ under one ellipsis
+(import (rnrs))
+(define-syntax m (lambda (s) (syntax-case #'((1 2) (3)) () (((a ...) (b ...)) #'(#(a b) ...)))))
+§(m)
+=> 36 EllipsisLength: 2 1
+
+; lengths that differ under one ellipsis
+(import (rnrs))
+(define-syntax m (lambda (s) (syntax-case #'(((1) (2)) ((3 4) (5))) () ((((a ...) (b ...)) ...) #'(((a b) ...) ...)))))
+§(m)
+=> 36 EllipsisLength: 2 1
+
+; escapes
+(import (rnrs))
+(define-syntax match
+  (lambda (s)
+    (syntax-case s ()
+      ((_ (l ...) p e t)
+       #'(let-syntax ((m (lambda (u) (syntax-case e (l ...) (p #`(quote #,#'t)) (_ #''none))))) (m))))))
+(match () a #'1 (... ...))
+(match () a #'1 (... (a ...)))
+(match () a #'1 ((... ...) a))
+(match () a #'1 (... (x ...)))
+(match () a #'1 (x (... ...)))
+(match () a #'1 (... (... a)))
+(match () (a ...) #'(1 2) ((... ...) a ...))
+(match () (a ...) #'(1 2) ((a (... ...)) ...))
+(match () a #'1 #(a (... ...)))
+(match () a #'1 #(x (... ...)))
+(match () a #'1 (x (y (... ...)) z))
+(match () a #'1 (... _))
+(match () (_ (a b ...) ... z) #'(f (1) (2 3 4) 5) ((a ...) ((b ...) ...) z (... ...)))
+=> (quote ...)
+(quote (1 ...))
+(quote (... 1))
+(quote (x ...))
+(quote (x ...))
+(quote (... 1))
+(quote (... 1 2))
+(quote ((1 ...) (2 ...)))
+(quote #(1 ...))
+(quote #(x ...))
+(quote (x (y ...) z))
+(quote _)
+(quote ((1 2) (() (3 4)) 5 ...))"#;

@@ -1,0 +1,52 @@
+-- The derived library: the forms that are defined in terms of core forms (R6RS 11; libraries report 5 and 12), as a text that is expanded
+-- before all other libraries of a run.
+use Rattle.std.specs.Prelude.{ℕ, List, [], ◌∷◌, ◌++◌, Option, None, Some, Result, Ok, Err, if◌then◌else◌}
+use Rattle.std.specs.Map.{lookup}
+use Rattle.sx_base.specs.Datum.{PlainDatum}
+use Rattle.sx_base.specs.Gives.{◌>>=◌}
+use Rattle.sx_base.specs.Same.{same_library}
+use Rattle.sx_base.specs.declared.fault.Fault.{Fault}
+use Rattle.sx_base.specs.declared.library.LibName.TheVariants as library
+use Rattle.sx_base.specs.declared.name.Label.{Label}
+use Rattle.sx_builtin.specs.Exports.{derived}
+use Rattle.sx_builtin.specs.declared.derived.TheConstants.{DERIVED_SOURCE}
+use Rattle.sx_core.specs.declared.record.LibRecord.{LibRecord}
+use Rattle.sx_eval.specs.Codes.{Codes}
+use Rattle.sx_expand.specs.Expanding.{ready, library_record}
+use Rattle.sx_import.specs.Table.{same_text}
+use Rattle.sx_prelude.specs.Prelude.{at_place}
+use Rattle.sx_reader.specs.Read.{data_of}
+use Rattle.sx_tree.specs.Context.{blank}
+use Rattle.sx_tree.specs.Leaves.{tree_of}
+use Rattle.sx_tree.specs.Measures.{within}
+use Rattle.sx_tree.specs.Tree.{Tree}
+use Rattle.sx_derived.specs.Names.{path, start, names, exports_of}
+
+-- a datum as a tree; one that passes a limit is at fault at the start of the text
+abbrev pub tree_at : PlainDatum → Result Tree Fault
+tree_at d = at_place start (within (tree_of blank d))
+
+abbrev pub trees : List Tree → List PlainDatum → Result (List Tree) Fault
+trees done [] = Ok done
+trees done (d ∷ ds) = tree_at d >>= (λ t. trees (done ++ t ∷ []) ds)
+
+-- the forms of a text
+unfoldable pub forms_of : List ℕ → Result (List Tree) Fault
+forms_of text = data_of path text 500 >>= trees []
+
+-- the record of these forms, behind no others
+unfoldable pub record_of : Codes → List Tree → Result LibRecord Fault
+record_of codes forms = library_record (ready library.Derived path [] names codes) [] [] start (exports_of derived) forms
+
+-- the record of the derived library; as in any library, what procedures mean that are texts comes after its forms
+unfoldable pub derived_record : Result Codes Fault → Result LibRecord Fault
+derived_record prelude = forms_of DERIVED_SOURCE.now >>= (λ forms. prelude >>= (λ codes. record_of codes forms))
+
+-- What a derived name stands for: the label under which the record exports it.
+
+abbrev pub label_or : Label → Option Label → Label
+label_or l None = l
+label_or l (Some m) = m
+
+abbrev pub relabelled_in : LibRecord → List ℕ × Label → List ℕ × Label
+relabelled_in r e = if same_library e.1.0.library library.Derived then (e.0, label_or e.1 (lookup (same_text e.0) r.exports)) else e

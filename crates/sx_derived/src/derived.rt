@@ -1,0 +1,186 @@
+//! The record of the derived library.
+
+ghost use Rattle.std.specs.Prelude.{◌≡◌, ◌<◌, ◌^◌, length, [], false, IfOk, Ok};
+ghost use Rattle.std.specs.Map.{lookup};
+ghost use Rattle.sx_base.specs.Gives.{Gives};
+ghost use Rattle.sx_import.specs.Table.{same_text};
+ghost use Rattle.sx_base.specs.declared.library.LibName.TheVariants as library;
+ghost use Rattle.sx_builtin.specs.Exports.{derived};
+ghost use Rattle.sx_eval.specs.Codes as table;
+ghost use Rattle.sx_expand.specs.Expanding.{ready, library_record};
+ghost use Rattle.sx_prelude.specs.Prelude.{kept};
+ghost use Rattle.sx_derived.specs.Names.{path, start, names, exports_of};
+ghost use Rattle.sx_derived.specs.Derived.{tree_at, trees, forms_of, record_of, derived_record, label_or, relabelled_in};
+
+use crate::names::{exports_of, names, path, start};
+use indexmap::IndexMap;
+use std::alloc::Global;
+use std::rc::Rc;
+use std::sync::ledger::Ledger;
+use sx_base::datum::Datum;
+use sx_base::fault::{Bare, BareStop, Fault, Stop};
+use sx_base::items::Items;
+use sx_base::library::LibName;
+use sx_base::memory::Memory;
+use sx_base::name::{CodeNo, Label};
+use sx_base::span::Span;
+use sx_base::symbol::Symbol;
+use sx_builtin::derived::derived_source;
+use sx_builtin::exports::DERIVED;
+use sx_core::code::Code;
+use sx_core::record::LibRecord;
+use sx_expand::expander::Expander;
+use sx_prelude::prelude::Prelude;
+use sx_prims::table::PrimTable;
+use sx_reader::read::read_all;
+use sx_stage::earlier::Earlier;
+use sx_standing::means::{Counts, Means};
+use sx_standing::ready::ReadyRecords;
+use sx_syntax::syn::Syn;
+
+fn tree_at(alloc: Global, place: &Span, datum: &Datum) -> Result<Syn, Stop>
+    requires { place.now ≡ start }
+    ensures { Gives (λ t. t) result (tree_at datum.now) }
+{
+    match Syn::of_datum(alloc, datum) {
+        Ok(tree) => Ok(tree),
+        Err(BareStop::Fault(Bare { kind, words })) => Err(Stop::Fault(Fault {
+            kind,
+            span: place.share()?,
+            words,
+        })),
+        Err(BareStop::Memory) => Err(Stop::Memory),
+    }
+}
+
+fn trees(alloc: Global, place: &Span, found: &[Datum]) -> Result<Items<Syn>, Stop>
+    requires { place.now ≡ start }
+    ensures { Gives (λ ts. ts) result (trees [] found.now) }
+{
+    let mut done = Items::new(alloc);
+    for datum in found {
+        let tree = tree_at(alloc, place, datum)?;
+        done.push(tree)?;
+    }
+    Ok(done)
+}
+
+// The forms of a text.
+#[tactic(auto, unfolding(crate::specs::Derived::forms_of))]
+fn forms_of(alloc: Global, place: &Span, text: &[u8]) -> Result<Items<Syn>, Stop>
+    requires place { place.now ≡ start }
+    requires fits { length text.now < 2 ^ 32 }
+    ensures { Gives (λ ts. ts) result (forms_of text.now) }
+{
+    let found = read_all(alloc, &place.file, text)?;
+    trees(alloc, place, &found)
+}
+
+// An expander behind no records.
+fn expander_of(
+    alloc: Global,
+    names: &[(Symbol, Label)],
+    codes: IndexMap<CodeNo, Rc<Code>>,
+) -> Result<Expander, Stop>
+    ensures { Gives (λ e. e) result (Ok (ready library.Derived path [] names.now (table.seen codes.entries))) }
+{
+    let path = path(alloc)?;
+    let records = ReadyRecords::new(alloc)?;
+    Expander::new(alloc, LibName::Derived, path, &records, &[], names, codes)
+}
+
+// The record of these forms.
+fn record_by<N: Ledger, L: Ledger>(
+    alloc: Global,
+    begun: Expander,
+    exports: &[(Symbol, Syn)],
+    forms: &[Syn],
+    place: &Span,
+    prims: &PrimTable,
+    counts: &mut Counts<N, L>,
+) -> Result<LibRecord, Stop>
+    requires { begun.failed ≡ false }
+    ensures { Gives (λ r. r) result (library_record begun [] [] place.now exports.now forms.now) }
+{
+    let earlier = Earlier {
+        records: &[],
+        needs: &[],
+    };
+    let means = Means { earlier, prims };
+    begun.top(forms, place, exports, Items::new(alloc), &means, counts)
+}
+
+// The record of these forms, where this is what the procedures mean that are texts.
+#[tactic(auto, unfolding(crate::specs::Derived::record_of))]
+fn record_of<N: Ledger, L: Ledger>(
+    alloc: Global,
+    codes: IndexMap<CodeNo, Rc<Code>>,
+    imports: &[(Symbol, Label)],
+    exports: &[(Symbol, Syn)],
+    forms: &[Syn],
+    place: &Span,
+    prims: &PrimTable,
+    counts: &mut Counts<N, L>,
+) -> Result<LibRecord, Stop>
+    requires imports { imports.now ≡ names }
+    requires exports { exports.now ≡ exports_of derived }
+    requires place { place.now ≡ start }
+    ensures { Gives (λ r. r) result (record_of (table.seen codes.entries) forms.now) }
+{
+    let begun = expander_of(alloc, imports, codes)?;
+    record_by(alloc, begun, exports, forms, place, prims, counts)
+}
+
+/// The record of the derived library. It is expanded behind no other.
+#[tactic(auto, unfolding(crate::specs::Derived::derived_record))]
+pub fn derived_record<N: Ledger, L: Ledger>(
+    alloc: Global,
+    prelude: &Prelude,
+    prims: &PrimTable,
+    counts: &mut Counts<N, L>,
+) -> Result<LibRecord, Stop>
+    ensures { Gives (λ r. r) result (derived_record (kept prelude.now)) }
+{
+    let place = start(alloc)?;
+    let forms = forms_of(alloc, &place, derived_source())?;
+    let names = names(alloc)?;
+    let exports = exports_of(alloc, &DERIVED)?;
+    let codes = prelude.codes(alloc)?;
+    record_of(
+        alloc,
+        codes,
+        names.as_slice(),
+        exports.as_slice(),
+        forms.as_slice(),
+        &place,
+        prims,
+        counts,
+    )
+}
+
+// The label under which a record exports a name, or another.
+fn label_in(derived: &LibRecord, name: &Symbol, label: &Label) -> Result<Label, Memory>
+    ensures { IfOk result (λ l. l ≡ label_or label.now (lookup (same_text name.now) derived.now.exports)) }
+{
+    for (exported, own) in derived.exports.as_slice() {
+        if *name == *exported {
+            return own.share();
+        }
+    }
+    label.share()
+}
+
+/// A name of the implementation with what it stands for: a derived one for the label under which the record exports it.
+pub fn relabelled(
+    derived: &LibRecord,
+    name: &Symbol,
+    label: &Label,
+) -> Result<(Symbol, Label), Memory>
+    ensures { IfOk result (λ e. e ≡ relabelled_in derived.now (name.now, label.now)) }
+{
+    let shared = name.share()?;
+    if *label.0.library != LibName::Derived {
+        return Ok((shared, label.share()?));
+    }
+    Ok((shared, label_in(derived, name, label)?))
+}

@@ -1,0 +1,4 @@
+pub mod Parts
+pub mod Filled
+pub mod Inserted
+pub mod Form

@@ -1,0 +1,130 @@
+//! `quasiquote` and `quasisyntax` forms.
+
+ghost use Rattle.std.specs.Prelude.{◌≡◌, IfOk};
+ghost use Rattle.sx_base.specs.Act.{GivesAfter};
+ghost use Rattle.sx_quasi.specs.declared.word.Family.TheVariants as family;
+ghost use Rattle.sx_quasi_code.specs.Form.{form_of, parts_of, code_of};
+ghost use Rattle.sx_quasi_code.specs.Inserted.{syntax_code};
+
+use crate::filled::plan_code;
+use crate::inserted::{dots, inserted, plain_instance};
+use crate::parts::{Part, inserts_parts, push_quasi};
+use std::alloc::Global;
+use std::sync::ledger::Ledger;
+use sx_base::fault::Stop;
+use sx_base::items::Items;
+use sx_base::memory::Memory;
+use sx_base::span::Span;
+use sx_base::steps::Steps;
+use sx_core::code::Core;
+use sx_quasi::plan::Quasi;
+use sx_quasi::quasi::quasi;
+use sx_quasi::quasi_syntax::{QuasiSyntax, quasi_syntax};
+use sx_quasi::word::Family;
+use sx_standing::expansion::Expansion;
+use sx_syntax::syn::Syn;
+
+/// What a quasi form comes to.
+#[derive(Drop)]
+pub enum QuasiForm {
+    /// `quasiquote`.
+    Quote(Quasi),
+    /// `quasisyntax`.
+    Syntax(QuasiSyntax),
+}
+
+fn quote_form(
+    state: &Expansion,
+    form: &Syn,
+    template: &Syn,
+    place: &Span,
+) -> Result<QuasiForm, Stop>
+    ensures { GivesAfter (λ q. q) result state.now (form_of place.now form.now family.Quote template.now state.now) }
+{
+    let plan = quasi(state.alloc(), template, form, place, state.frames())?;
+    Ok(QuasiForm::Quote(plan))
+}
+
+fn syntax_form(
+    state: &Expansion,
+    form: &Syn,
+    template: &Syn,
+    place: &Span,
+) -> Result<QuasiForm, Stop>
+    ensures { GivesAfter (λ q. q) result state.now (form_of place.now form.now family.Syntax template.now state.now) }
+{
+    let dots = dots(state.alloc())?;
+    let quasi = quasi_syntax(state.alloc(), template, &dots, form, place, state.frames())?;
+    Ok(QuasiForm::Syntax(quasi))
+}
+
+/// What a form with this template comes to. It is `BadForm` at the form where R6RS has no meaning for the template,
+/// and `TooDeep` at the form where a template of `syntax` would pass a limit of trees.
+pub fn form_of(
+    state: &Expansion,
+    form: &Syn,
+    which: Family,
+    template: &Syn,
+    place: &Span,
+) -> Result<QuasiForm, Stop>
+    ensures { GivesAfter (λ q. q) result state.now (form_of place.now form.now which template.now state.now) }
+{
+    match which {
+        Family::Quote => quote_form(state, form, template, place),
+        Family::Syntax => syntax_form(state, form, template, place),
+    }
+}
+
+/// What is to be expanded of a form that stands at a depth, in order.
+pub fn parts_of(
+    alloc: Global,
+    form: &Syn,
+    quasi: &QuasiForm,
+    depth: u16,
+) -> Result<Items<Part>, Memory>
+    ensures { IfOk result (λ ps. ps ≡ parts_of form.now depth quasi.now) }
+{
+    match quasi {
+        QuasiForm::Quote(plan) => {
+            let mut parts = Items::new(alloc);
+            push_quasi(form, plan, depth, &mut parts)?;
+            Ok(parts)
+        }
+        QuasiForm::Syntax(quasi) => inserts_parts(alloc, form, quasi.inserts.as_slice(), depth),
+    }
+}
+
+fn syntax_code<N: Ledger>(
+    state: &mut Expansion,
+    form: &Syn,
+    quasi: &QuasiSyntax,
+    codes: Vec<Core>,
+    place: &Span,
+    level: u32,
+    nodes: &mut Steps<N>,
+) -> Result<Core, Stop>
+    ensures { GivesAfter (λ c. c) result state.new (syntax_code place.now level form.now quasi.now codes.items quasi.now.inserts state.old) }
+{
+    if quasi.inserts.as_slice().is_empty() {
+        return plain_instance(state, form, quasi, place, level);
+    }
+    inserted(state, form, quasi, codes, place, level, nodes)
+}
+
+/// The code of a form, whose parts have these codes. A fault of the template of a `quasisyntax` form is at its part.
+pub fn code_of<N: Ledger>(
+    state: &mut Expansion,
+    form: &Syn,
+    quasi: &QuasiForm,
+    codes: Vec<Core>,
+    place: &Span,
+    level: u32,
+    nodes: &mut Steps<N>,
+) -> Result<Core, Stop>
+    ensures { GivesAfter (λ c. c) result state.new (code_of place.now level form.now quasi.now codes.items state.old) }
+{
+    match quasi {
+        QuasiForm::Quote(plan) => Ok(plan_code(state.alloc(), plan, codes)?),
+        QuasiForm::Syntax(quasi) => syntax_code(state, form, quasi, codes, place, level, nodes),
+    }
+}

@@ -1,0 +1,243 @@
+//! The code of `quasisyntax` forms.
+
+ghost use Rattle.std.specs.Prelude.{◌≡◌, map, IfOk};
+ghost use Rattle.sx_base.specs.Act.{GivesAfter};
+ghost use Rattle.sx_quasi_code.specs.Inserted.{dots, ellipsis, insert_variable, insert_variables, nothing_behind, listed, insert_pattern, inserts_pattern, match_of, bind_inserts, inserted_in, inserted, plain_instance};
+
+use crate::filled::call_of;
+use std::alloc::Global;
+use std::rc::Rc;
+use std::sync::ledger::Ledger;
+use sx_base::atom::Atom;
+use sx_base::fault::Stop;
+use sx_base::items::Items;
+use sx_base::library::LibName;
+use sx_base::memory::Memory;
+use sx_base::name::{FrameNo, Label, Mark, Name};
+use sx_base::op::Op;
+use sx_base::span::Span;
+use sx_base::steps::Steps;
+use sx_base::symbol::Symbol;
+use sx_core::code::{Clause, Core, CoreNode};
+use sx_core::core_form::CoreForm;
+use sx_core::pattern::{Elements, Pattern, PatternNode, Repeated};
+use sx_core::template::Template;
+use sx_pattern::compile::PatternVariable;
+use sx_quasi::quasi_syntax::{Insert, QuasiSyntax};
+use sx_shapes::at::place_of;
+use sx_standing::expansion::Expansion;
+use sx_syntax::syn::Syn;
+
+/// The identifier that stands for the ellipsis behind splices: no leaf of a program has its mark.
+pub(crate) fn dots(alloc: Global) -> Result<Syn, Memory>
+    ensures { IfOk result (λ t. t ≡ dots) }
+{
+    let library = Rc::new(alloc, LibName::Core)?;
+    let symbol = Symbol::new(alloc, "...")?;
+    Syn::leaf(alloc, &symbol, Mark(Name { library, number: 0 }))
+}
+
+fn ellipsis(alloc: Global) -> Result<Label, Memory>
+    ensures { IfOk result (λ l. l ≡ ellipsis) }
+{
+    let library = Rc::new(alloc, LibName::Core)?;
+    let number = u64::from(CoreForm::Ellipsis.number());
+    Ok(Label(Name { library, number }))
+}
+
+/// An insert as a pattern variable, whose label is the next name of the library.
+fn insert_variable(state: &mut Expansion, insert: &Insert) -> Result<PatternVariable, Stop>
+    ensures { GivesAfter (λ v. v) result state.new (insert_variable insert.now state.old) }
+{
+    let label = Label(state.fresh()?);
+    let id = insert.leaf.share()?;
+    Ok(PatternVariable {
+        id,
+        label,
+        depth: insert.depth,
+    })
+}
+
+fn insert_variables(
+    state: &mut Expansion,
+    inserts: &[Insert],
+) -> Result<Items<PatternVariable>, Stop>
+    ensures { GivesAfter (λ vs. vs) result state.new (insert_variables inserts.now state.old) }
+{
+    let mut done = Items::new(state.alloc());
+    for insert in inserts {
+        let one = insert_variable(state, insert)?;
+        done.push(one)?;
+    }
+    Ok(done)
+}
+
+fn nothing_behind(alloc: Global) -> Result<Box<Pattern>, Memory>
+    ensures { IfOk result (λ p. p.value ≡ nothing_behind) }
+{
+    let nil = Pattern {
+        node: PatternNode::Atom(Atom::Nil),
+    };
+    let nil = Box::new(alloc, nil)?;
+    Ok(nil)
+}
+
+/// The pattern of lists whose elements this one takes.
+fn listed(alloc: Global, pattern: Pattern) -> Result<Pattern, Memory>
+    ensures { IfOk result (λ p. p ≡ listed pattern) }
+{
+    let repeated = Repeated {
+        pattern: Box::new(alloc, pattern)?,
+        after: Vec::new(alloc),
+    };
+    let elements = Elements {
+        before: Vec::new(alloc),
+        repeated: Some(repeated),
+    };
+    let tail = nothing_behind(alloc)?;
+    Ok(Pattern {
+        node: PatternNode::List(elements, tail),
+    })
+}
+
+/// A variable; that of a splice stands under an ellipsis.
+#[tactic(auto, using(crate::proofs::Walks::under_on, crate::proofs::Walks::under_none))]
+fn insert_pattern(alloc: Global, variable: &PatternVariable) -> Result<Pattern, Memory>
+    ensures { IfOk result (λ p. p ≡ insert_pattern variable.now) }
+{
+    let label = variable.label.share()?;
+    let mut pattern = Pattern {
+        node: PatternNode::Variable(label),
+    };
+    let mut left = variable.depth;
+    while left > 0 {
+        pattern = listed(alloc, pattern)?;
+        left -= 1;
+    }
+    Ok(pattern)
+}
+
+fn insert_patterns(alloc: Global, variables: &[PatternVariable]) -> Result<Vec<Pattern>, Memory>
+    ensures { IfOk result (λ ps. ps.items ≡ map insert_pattern variables.now) }
+{
+    let mut done = Vec::new(alloc);
+    for variable in variables {
+        let one = insert_pattern(alloc, variable)?;
+        done.push(one)?;
+    }
+    Ok(done)
+}
+
+/// The pattern of the list of all values.
+fn inserts_pattern(alloc: Global, variables: &[PatternVariable]) -> Result<Pattern, Memory>
+    ensures { IfOk result (λ p. p ≡ inserts_pattern variables.now) }
+{
+    let elements = Elements {
+        before: insert_patterns(alloc, variables)?,
+        repeated: None,
+    };
+    let tail = nothing_behind(alloc)?;
+    Ok(Pattern {
+        node: PatternNode::List(elements, tail),
+    })
+}
+
+/// The match of the list of these values against the inserts.
+fn match_of(
+    alloc: Global,
+    variables: &[PatternVariable],
+    template: Template,
+    span: Span,
+    codes: Vec<Core>,
+) -> Result<Core, Memory>
+    ensures { IfOk result (λ c. c ≡ match_of variables.now template span codes.items) }
+{
+    let pattern = inserts_pattern(alloc, variables)?;
+    let output = Core {
+        node: CoreNode::Syntax(template, span.share()?),
+    };
+    let mut clauses = Vec::new(alloc);
+    clauses.push(Clause {
+        pattern,
+        fender: None,
+        output,
+    })?;
+    let subject = call_of(alloc, Op(121), codes)?;
+    let subject = Box::new(alloc, subject)?;
+    Ok(Core {
+        node: CoreNode::SyntaxCase(subject, clauses, span),
+    })
+}
+
+/// The inserts in a frame, and the ellipsis behind them.
+fn bind_inserts(
+    state: &mut Expansion,
+    frame: &FrameNo,
+    variables: &[PatternVariable],
+    place: &Span,
+    level: u32,
+) -> Result<(), Stop>
+    ensures { GivesAfter (λ _. tt) result state.new (bind_inserts frame.now place.now level variables.now state.old) }
+{
+    state.bind_pattern(frame, place, level, variables)?;
+    let dots = dots(state.alloc())?;
+    let ellipsis = ellipsis(state.alloc())?;
+    state.bind_row(frame, &dots, &ellipsis, place)
+}
+
+fn inserted_in<N: Ledger>(
+    state: &mut Expansion,
+    form: &Syn,
+    quasi: &QuasiSyntax,
+    codes: Vec<Core>,
+    frame: FrameNo,
+    place: &Span,
+    level: u32,
+    nodes: &mut Steps<N>,
+) -> Result<Core, Stop>
+    ensures { GivesAfter (λ c. c) result state.new (inserted_in place.now level form.now quasi.now codes.items frame state.old) }
+{
+    let variables = insert_variables(state, quasi.inserts.as_slice())?;
+    bind_inserts(state, &frame, variables.as_slice(), place, level)?;
+    let template = quasi.template.stamp(state.alloc(), frame, nodes)?;
+    let template = state.template(&template, place, level)?;
+    let span = place_of(form, place)?;
+    Ok(match_of(state.alloc(), variables.as_slice(), template, span, codes)?)
+}
+
+/// The code of a form with inserts, whose expressions have these codes.
+#[tactic(auto, unfolding(crate::specs::Inserted::inserted))]
+pub(crate) fn inserted<N: Ledger>(
+    state: &mut Expansion,
+    form: &Syn,
+    quasi: &QuasiSyntax,
+    codes: Vec<Core>,
+    place: &Span,
+    level: u32,
+    nodes: &mut Steps<N>,
+) -> Result<Core, Stop>
+    ensures { GivesAfter (λ c. c) result state.new (inserted place.now level form.now quasi.now codes.items state.old) }
+{
+    let outer = state.in_scope();
+    let frame = state.fresh_frame()?;
+    let core = inserted_in(state, form, quasi, codes, frame, place, level, nodes)?;
+    state.cut_scope(outer);
+    Ok(core)
+}
+
+/// The code of a form without inserts.
+pub(crate) fn plain_instance(
+    state: &mut Expansion,
+    form: &Syn,
+    quasi: &QuasiSyntax,
+    place: &Span,
+    level: u32,
+) -> Result<Core, Stop>
+    ensures { GivesAfter (λ c. c) result state.new (plain_instance place.now level form.now quasi.now state.old) }
+{
+    let template = state.template(&quasi.template, place, level)?;
+    let span = place_of(form, place)?;
+    Ok(Core {
+        node: CoreNode::Syntax(template, span),
+    })
+}
