@@ -28,30 +28,47 @@ fn place_behind(alloc: Global, path: &str, text: &str) -> Result<String, AllocEr
     format!(in alloc; "{path}:{row}:{column}: ")
 }
 
+fn put_spelt(bytes: &mut Vec<u8>, spelt: &str) -> Result<(), Fail> {
+    for byte in spelt.split(" ") {
+        bytes.push(u8::from_str_radix(byte, 16).ok().ok_or("no byte")?)?;
+    }
+    Ok(())
+}
+
+// The bytes of a text, in which those between `‹` and `›` are spelt in hexadecimal.
+fn bytes_of(alloc: Global, text: &str) -> Result<Vec<u8>, Fail> {
+    let mut bytes = Vec::new(alloc);
+    for part in text.split("‹") {
+        let (spelt, rest) = part.split_once("›").unwrap_or(("", part));
+        if !spelt.is_empty() {
+            put_spelt(&mut bytes, spelt)?;
+        }
+        bytes.extend_from_slice(rest.as_bytes())?;
+    }
+    Ok(bytes)
+}
+
 impl Case {
-    fn put(&mut self, alloc: Global, path: &str, text: String) -> Result<(), AllocError> {
+    fn put(&mut self, alloc: Global, path: &str, text: &str) -> Result<(), Fail> {
         let path = String::from_str(alloc, path)?;
-        self.files.push((path, text.into_bytes()))?;
+        self.files.push((path, bytes_of(alloc, text)?))?;
         Ok(())
     }
 
     // Where the sign stands in a file, a fault with that place is wanted.
-    fn put_file(&mut self, alloc: Global, path: &str, text: &str) -> Result<(), AllocError> {
+    fn put_file(&mut self, alloc: Global, path: &str, text: &str) -> Result<(), Fail> {
         match text.split_once("§") {
             Some((before, behind)) => {
                 self.wanted = place_behind(alloc, path, before)?;
                 let text = format!(in alloc; "{before}{behind}")?;
-                self.put(alloc, path, text)
+                self.put(alloc, path, text.as_str())
             }
-            None => {
-                let text = String::from_str(alloc, text)?;
-                self.put(alloc, path, text)
-            }
+            None => self.put(alloc, path, text),
         }
     }
 
     // The program, and the other files, each behind its path.
-    fn put_files(&mut self, alloc: Global, text: &str) -> Result<(), AllocError> {
+    fn put_files(&mut self, alloc: Global, text: &str) -> Result<(), Fail> {
         let Some((program, others)) = text.split_once("\nfile ") else {
             return self.put_file(alloc, "p.sps", text);
         };
@@ -63,9 +80,13 @@ impl Case {
         Ok(())
     }
 
-    fn put_answer(&mut self, answer: &str) -> Result<(), AllocError> {
+    // A fault of the program may have its place written out.
+    fn put_answer(&mut self, alloc: Global, answer: &str) -> Result<(), AllocError> {
         if answer.is_empty() {
             return Ok(());
+        }
+        if answer.starts_with("p.sps:") {
+            self.wanted = String::new(alloc);
         }
         self.wanted.push_str(answer)?;
         self.wanted.push_str("\n")
@@ -98,6 +119,6 @@ pub fn read_case(alloc: Global, text: &str) -> Result<Case, Fail> {
         wanted: String::from_str(alloc, "(import (rnrs))\n")?,
     };
     case.put_files(alloc, files)?;
-    case.put_answer(answer.strip_prefix(" ").unwrap_or(answer))?;
+    case.put_answer(alloc, answer.strip_prefix(" ").unwrap_or(answer))?;
     Ok(case)
 }

@@ -28,6 +28,7 @@ use crate::tables::imports::IMPORTS;
 use crate::tables::late::LATE;
 use crate::tables::let_syntax::LET_SYNTAX;
 use crate::tables::levels::LEVELS;
+use crate::tables::lexemes::{LEXEME_FAULTS, LEXEMES};
 use crate::tables::libraries::LIBRARIES;
 use crate::tables::loading::{BAD, FIRST_FAULTS, NAMES, ORDER, ROOTS, SETS, VERSIONS};
 use crate::tables::match_ellipses::MATCH_ELLIPSES;
@@ -44,7 +45,9 @@ use crate::tables::prim_lists::LIST_CALLS;
 use crate::tables::prim_numbers::NUMBER_CALLS;
 use crate::tables::prim_strings::STRING_CALLS;
 use crate::tables::prim_syntax::SYNTAX_CALLS;
+use crate::tables::printed::PRINTED;
 use crate::tables::quasi::QUASI;
+use crate::tables::reading::{DATA, MISPLACED, NESTING};
 use crate::tables::realistic::REALISTIC;
 use crate::tables::rules::RULES;
 use crate::tables::templates::{LIST_TEMPLATES, SYNTAX_TEMPLATES};
@@ -178,6 +181,9 @@ fn check(alloc: Global, tables: &[&str]) -> Result<(), Fail> {
     }
 }
 
+// What files are read as, and what of it is written.
+const READING: [&str; 6] = [LEXEMES, LEXEME_FAULTS, DATA, MISPLACED, NESTING, PRINTED];
+
 // Programs without libraries of their own and without macros.
 const CORE_FORMS: [&str; 8] = [
     EXPRESSIONS,
@@ -253,6 +259,11 @@ const FUEL: [&str; 5] = [FUEL_FORMS, FUEL_CALLS, FUEL_TEXTS, FUEL_SYNTAX, FUEL_C
 
 // What takes all fuel, or nearly.
 const RUNS: [&str; 1] = [FUEL_RUNS];
+
+#[test]
+fn files_are_read_as_their_data(rt: HostRuntime) -> Result<(), Fail> {
+    check(rt.alloc(), &READING)
+}
 
 #[test]
 fn core_forms_expand(rt: HostRuntime) -> Result<(), Fail> {

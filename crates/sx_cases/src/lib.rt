@@ -13,7 +13,8 @@
 //!
 //! The sign `§`, which is no part of the text, stands before the place of the fault. Other files stand behind the
 //! program, each under a line `file NAME`; a first line `root DIR ..` names the directories in which libraries are
-//! looked for.
+//! looked for. Where line ends or bytes come before a place that a text can't show, `=> p.sps:2:1: ` has it written out;
+//! between `‹` and `›` stand bytes in hexadecimal.
 //!
 //! In the tables `prim_..`, `match_..` and `fuel_..` transformers compute what is tested, and the core text shows it:
 //! what primitives answer, what patterns and templates come to, and how much fuel evaluation spends.

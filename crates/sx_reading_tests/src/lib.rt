@@ -1,19 +1,14 @@
-//! Tests of what turns bytes into data, and data into text.
+//! Tests of what no program shows of the reader.
 //!
-//! `lexing` cuts sources into lexemes, `reading` reads them as data with their spans or to their first
-//! fault, and `grammar` reads one by the grammar. `printing` writes data, `names` generated names, and
-//! `places` counts lines and columns. What they expect is from R6RS 4.
+//! `spans` asks where data and faults begin and end, by the sources of `rows`; `deep` reads data that are nested deeper
+//! than a program may nest them, and `grammar` reads a source by the grammar. What they expect is from R6RS 4.
 #![tactic(auto)]
 
 #[cfg(test)]
+mod deep;
+#[cfg(test)]
 mod grammar;
 #[cfg(test)]
-mod lexing;
+mod rows;
 #[cfg(test)]
-mod names;
-#[cfg(test)]
-mod places;
-#[cfg(test)]
-mod printing;
-#[cfg(test)]
-mod reading;
+mod spans;
