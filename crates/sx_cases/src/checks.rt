@@ -22,6 +22,7 @@ use crate::tables::fuel_forms::FUEL_FORMS;
 use crate::tables::fuel_runs::FUEL_RUNS;
 use crate::tables::fuel_syntax::FUEL_SYNTAX;
 use crate::tables::fuel_texts::FUEL_TEXTS;
+use crate::tables::given::GIVEN;
 use crate::tables::hygiene::HYGIENE;
 use crate::tables::identifiers::IDENTIFIERS;
 use crate::tables::imports::IMPORTS;
@@ -50,6 +51,8 @@ use crate::tables::quasi::QUASI;
 use crate::tables::reading::{DATA, MISPLACED, NESTING};
 use crate::tables::realistic::REALISTIC;
 use crate::tables::rules::RULES;
+use crate::tables::source_faults::SOURCE_FAULTS;
+use crate::tables::sources::{NESTED_SOURCES, SOURCES, SOURCES_AGAIN};
 use crate::tables::templates::{LIST_TEMPLATES, SYNTAX_TEMPLATES};
 use crate::tables::transformer_faults::TRANSFORMER_FAULTS;
 use crate::tables::transformers::TRANSFORMERS;
@@ -182,7 +185,19 @@ fn check(alloc: Global, tables: &[&str]) -> Result<(), Fail> {
 }
 
 // What files are read as, and what of it is written.
-const READING: [&str; 6] = [LEXEMES, LEXEME_FAULTS, DATA, MISPLACED, NESTING, PRINTED];
+const READING: [&str; 11] = [
+    LEXEMES,
+    LEXEME_FAULTS,
+    DATA,
+    MISPLACED,
+    NESTING,
+    PRINTED,
+    SOURCES,
+    SOURCES_AGAIN,
+    NESTED_SOURCES,
+    SOURCE_FAULTS,
+    GIVEN,
+];
 
 // Programs without libraries of their own and without macros.
 const CORE_FORMS: [&str; 8] = [
