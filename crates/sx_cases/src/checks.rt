@@ -48,6 +48,7 @@ use crate::tables::prim_strings::STRING_CALLS;
 use crate::tables::prim_syntax::SYNTAX_CALLS;
 use crate::tables::printed::PRINTED;
 use crate::tables::quasi::QUASI;
+use crate::tables::quasi_plans::{QUASI_FAULTS, QUASI_PLANS, QUASI_TEMPLATES};
 use crate::tables::reading::{DATA, MISPLACED, NESTING};
 use crate::tables::realistic::REALISTIC;
 use crate::tables::rules::RULES;
@@ -211,6 +212,9 @@ const CORE_FORMS: [&str; 8] = [
     KEYWORDS,
 ];
 
+// Forms by their shapes, and quasi forms by what they come to.
+const SHAPES: [&str; 3] = [QUASI_PLANS, QUASI_FAULTS, QUASI_TEMPLATES];
+
 // Imports, and the libraries that are loaded for them.
 const LOADING: [&str; 8] = [
     IMPORTS,
@@ -283,6 +287,11 @@ fn files_are_read_as_their_data(rt: HostRuntime) -> Result<(), Fail> {
 #[test]
 fn core_forms_expand(rt: HostRuntime) -> Result<(), Fail> {
     check(rt.alloc(), &CORE_FORMS)
+}
+
+#[test]
+fn forms_have_the_parts_that_the_report_says(rt: HostRuntime) -> Result<(), Fail> {
+    check(rt.alloc(), &SHAPES)
 }
 
 #[test]

@@ -45,6 +45,7 @@ pub mod prim_strings;
 pub mod prim_syntax;
 pub mod printed;
 pub mod quasi;
+pub mod quasi_plans;
 pub mod reading;
 pub mod realistic;
 pub mod rules;
