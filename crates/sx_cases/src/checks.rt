@@ -52,6 +52,7 @@ use crate::tables::quasi_plans::{QUASI_FAULTS, QUASI_PLANS, QUASI_TEMPLATES};
 use crate::tables::reading::{DATA, MISPLACED, NESTING};
 use crate::tables::realistic::REALISTIC;
 use crate::tables::rules::RULES;
+use crate::tables::shapes::{HEADLESS, SHAPED, UNSHAPED};
 use crate::tables::source_faults::SOURCE_FAULTS;
 use crate::tables::sources::{NESTED_SOURCES, SOURCES, SOURCES_AGAIN};
 use crate::tables::templates::{LIST_TEMPLATES, SYNTAX_TEMPLATES};
@@ -213,7 +214,14 @@ const CORE_FORMS: [&str; 8] = [
 ];
 
 // Forms by their shapes, and quasi forms by what they come to.
-const SHAPES: [&str; 3] = [QUASI_PLANS, QUASI_FAULTS, QUASI_TEMPLATES];
+const SHAPES: [&str; 6] = [
+    QUASI_PLANS,
+    QUASI_FAULTS,
+    QUASI_TEMPLATES,
+    SHAPED,
+    UNSHAPED,
+    HEADLESS,
+];
 
 // Imports, and the libraries that are loaded for them.
 const LOADING: [&str; 8] = [

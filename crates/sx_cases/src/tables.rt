@@ -49,6 +49,7 @@ pub mod quasi_plans;
 pub mod reading;
 pub mod realistic;
 pub mod rules;
+pub mod shapes;
 pub mod source_faults;
 pub mod sources;
 pub mod templates;
