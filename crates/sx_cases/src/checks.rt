@@ -6,13 +6,21 @@ use crate::primitives::primitives;
 use crate::tables::aliases::ALIASES;
 use crate::tables::bindings::BINDINGS;
 use crate::tables::choices::CHOICES;
-use crate::tables::core_faults::{BAD_FORMS, BINDERS, BODIES, KEYWORDS, REFERENCES};
-use crate::tables::core_forms::{DEFINITIONS, EXPRESSIONS, PROCEDURES};
-use crate::tables::corners::{BAD_DERIVED, DERIVED_CORNERS};
+use crate::tables::core_faults::BAD_FORMS;
+use crate::tables::core_faults::BINDERS;
+use crate::tables::core_faults::BODIES;
+use crate::tables::core_faults::KEYWORDS;
+use crate::tables::core_faults::REFERENCES;
+use crate::tables::core_forms::DEFINITIONS;
+use crate::tables::core_forms::EXPRESSIONS;
+use crate::tables::core_forms::PROCEDURES;
+use crate::tables::corners::BAD_DERIVED;
+use crate::tables::corners::DERIVED_CORNERS;
 use crate::tables::deep::DEEP;
 use crate::tables::defining::DEFINING;
 use crate::tables::derived::DERIVED;
-use crate::tables::derived_names::{DERIVED_LEVELS, DERIVED_NAMES};
+use crate::tables::derived_names::DERIVED_LEVELS;
+use crate::tables::derived_names::DERIVED_NAMES;
 use crate::tables::endless::ENDLESS;
 use crate::tables::fault_pairs::FAULT_PAIRS;
 use crate::tables::form_faults::FORM_FAULTS;
@@ -29,9 +37,23 @@ use crate::tables::imports::IMPORTS;
 use crate::tables::late::LATE;
 use crate::tables::let_syntax::LET_SYNTAX;
 use crate::tables::levels::LEVELS;
-use crate::tables::lexemes::{LEXEME_FAULTS, LEXEMES};
+use crate::tables::lexemes::LEXEME_FAULTS;
+use crate::tables::lexemes::LEXEMES;
 use crate::tables::libraries::LIBRARIES;
-use crate::tables::loading::{BAD, FIRST_FAULTS, NAMES, ORDER, ROOTS, SETS, VERSIONS};
+use crate::tables::library_faults::BAD_SPECS;
+use crate::tables::library_faults::NO_LIBRARIES;
+use crate::tables::library_forms::EXPORT_SPECS;
+use crate::tables::library_forms::FORM_PLACES;
+use crate::tables::library_forms::IMPORT_SPECS;
+use crate::tables::library_forms::LIBRARY_FORMS;
+use crate::tables::library_forms::PROGRAM_FORMS;
+use crate::tables::loading::BAD;
+use crate::tables::loading::FIRST_FAULTS;
+use crate::tables::loading::NAMES;
+use crate::tables::loading::ORDER;
+use crate::tables::loading::ROOTS;
+use crate::tables::loading::SETS;
+use crate::tables::loading::VERSIONS;
 use crate::tables::match_ellipses::MATCH_ELLIPSES;
 use crate::tables::match_faults::MATCH_FAULTS;
 use crate::tables::match_lists::MATCH_LISTS;
@@ -48,25 +70,40 @@ use crate::tables::prim_strings::STRING_CALLS;
 use crate::tables::prim_syntax::SYNTAX_CALLS;
 use crate::tables::printed::PRINTED;
 use crate::tables::quasi::QUASI;
-use crate::tables::quasi_plans::{QUASI_FAULTS, QUASI_PLANS, QUASI_TEMPLATES};
-use crate::tables::reading::{DATA, MISPLACED, NESTING};
+use crate::tables::quasi_plans::QUASI_FAULTS;
+use crate::tables::quasi_plans::QUASI_PLANS;
+use crate::tables::quasi_plans::QUASI_TEMPLATES;
+use crate::tables::reading::DATA;
+use crate::tables::reading::MISPLACED;
+use crate::tables::reading::NESTING;
 use crate::tables::realistic::REALISTIC;
 use crate::tables::rules::RULES;
-use crate::tables::shapes::{HEADLESS, SHAPED, UNSHAPED};
+use crate::tables::shapes::HEADLESS;
+use crate::tables::shapes::SHAPED;
+use crate::tables::shapes::UNSHAPED;
 use crate::tables::source_faults::SOURCE_FAULTS;
-use crate::tables::sources::{NESTED_SOURCES, SOURCES, SOURCES_AGAIN};
-use crate::tables::templates::{LIST_TEMPLATES, SYNTAX_TEMPLATES};
+use crate::tables::sources::NESTED_SOURCES;
+use crate::tables::sources::SOURCES;
+use crate::tables::sources::SOURCES_AGAIN;
+use crate::tables::templates::LIST_TEMPLATES;
+use crate::tables::templates::SYNTAX_TEMPLATES;
 use crate::tables::transformer_faults::TRANSFORMER_FAULTS;
 use crate::tables::transformers::TRANSFORMERS;
-use std::alloc::{AllocError, Global};
+use crate::tables::version_references::FITTING;
+use crate::tables::version_references::NO_REFERENCES;
+use crate::tables::version_references::UNFITTING;
+use std::alloc::AllocError;
+use std::alloc::Global;
 use std::marker::Brand;
-use std::sync::ledger::{Blank, Ledger};
+use std::sync::ledger::Blank;
+use std::sync::ledger::Ledger;
 use std::test::Fail;
 use sx_base::steps::Steps;
 use sx_prelude::prelude::Prelude;
 use sx_prims::table::PrimTable;
 use sx_stage::earlier::Earlier;
-use sx_standing::means::{Counts, Means};
+use sx_standing::means::Counts;
+use sx_standing::means::Means;
 
 // A case comes to what it should.
 fn check_case<N: Ledger, L: Ledger>(
@@ -224,7 +261,7 @@ const SHAPES: [&str; 6] = [
 ];
 
 // Imports, and the libraries that are loaded for them.
-const LOADING: [&str; 8] = [
+const LOADING: [&str; 18] = [
     IMPORTS,
     SETS,
     ORDER,
@@ -233,6 +270,16 @@ const LOADING: [&str; 8] = [
     NAMES,
     BAD,
     ROOTS,
+    LIBRARY_FORMS,
+    EXPORT_SPECS,
+    IMPORT_SPECS,
+    PROGRAM_FORMS,
+    FORM_PLACES,
+    NO_LIBRARIES,
+    BAD_SPECS,
+    FITTING,
+    UNFITTING,
+    NO_REFERENCES,
 ];
 
 // What macros expand to: binders and references, patterns and transformers.
