@@ -14,6 +14,7 @@ use crate::tables::core_faults::REFERENCES;
 use crate::tables::core_forms::DEFINITIONS;
 use crate::tables::core_forms::EXPRESSIONS;
 use crate::tables::core_forms::PROCEDURES;
+use crate::tables::core_text::CORE_TEXT;
 use crate::tables::corners::BAD_DERIVED;
 use crate::tables::corners::DERIVED_CORNERS;
 use crate::tables::deep::DEEP;
@@ -224,7 +225,7 @@ fn check(alloc: Global, tables: &[&str]) -> Result<(), Fail> {
 }
 
 // What files are read as, and what of it is written.
-const READING: [&str; 11] = [
+const READING: [&str; 12] = [
     LEXEMES,
     LEXEME_FAULTS,
     DATA,
@@ -236,6 +237,7 @@ const READING: [&str; 11] = [
     NESTED_SOURCES,
     SOURCE_FAULTS,
     GIVEN,
+    CORE_TEXT,
 ];
 
 // Programs without libraries of their own and without macros.

@@ -5,6 +5,7 @@ pub mod bindings;
 pub mod choices;
 pub mod core_faults;
 pub mod core_forms;
+pub mod core_text;
 pub mod corners;
 pub mod deep;
 pub mod defining;
