@@ -34,6 +34,7 @@ use crate::tables::fuel_texts::FUEL_TEXTS;
 use crate::tables::given::GIVEN;
 use crate::tables::hygiene::HYGIENE;
 use crate::tables::identifiers::IDENTIFIERS;
+use crate::tables::import_names::IMPORT_NAMES;
 use crate::tables::imports::IMPORTS;
 use crate::tables::late::LATE;
 use crate::tables::let_syntax::LET_SYNTAX;
@@ -263,7 +264,7 @@ const SHAPES: [&str; 6] = [
 ];
 
 // Imports, and the libraries that are loaded for them.
-const LOADING: [&str; 18] = [
+const LOADING: [&str; 19] = [
     IMPORTS,
     SETS,
     ORDER,
@@ -282,6 +283,7 @@ const LOADING: [&str; 18] = [
     FITTING,
     UNFITTING,
     NO_REFERENCES,
+    IMPORT_NAMES,
 ];
 
 // What macros expand to: binders and references, patterns and transformers.

@@ -23,6 +23,7 @@ pub mod fuel_texts;
 pub mod given;
 pub mod hygiene;
 pub mod identifiers;
+pub mod import_names;
 pub mod imports;
 pub mod late;
 pub mod let_syntax;
