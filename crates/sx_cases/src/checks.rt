@@ -61,6 +61,7 @@ use crate::tables::match_faults::MATCH_FAULTS;
 use crate::tables::match_lists::MATCH_LISTS;
 use crate::tables::match_stored::MATCH_STORED;
 use crate::tables::patterns::PATTERNS;
+use crate::tables::plans::PLANS;
 use crate::tables::positions::POSITIONS;
 use crate::tables::prim_basics::BASIC_CALLS;
 use crate::tables::prim_characters::CHARACTER_CALLS;
@@ -264,7 +265,7 @@ const SHAPES: [&str; 6] = [
 ];
 
 // Imports, and the libraries that are loaded for them.
-const LOADING: [&str; 19] = [
+const LOADING: [&str; 20] = [
     IMPORTS,
     SETS,
     ORDER,
@@ -284,6 +285,7 @@ const LOADING: [&str; 19] = [
     UNFITTING,
     NO_REFERENCES,
     IMPORT_NAMES,
+    PLANS,
 ];
 
 // What macros expand to: binders and references, patterns and transformers.

@@ -38,6 +38,7 @@ pub mod match_faults;
 pub mod match_lists;
 pub mod match_stored;
 pub mod patterns;
+pub mod plans;
 pub mod positions;
 pub mod prim_basics;
 pub mod prim_characters;

@@ -1,4 +1,4 @@
-//! Tests of plans: small graphs of records, with the places of those that the program needs (R6RS 7.2).
+//! Tests of plans that no program has: references that lead back, to later records, to none, or to themselves (R6RS 7.2).
 #![tactic(auto)]
 
 #[cfg(test)]
