@@ -25,6 +25,7 @@ use crate::tables::derived_names::DERIVED_NAMES;
 use crate::tables::endless::ENDLESS;
 use crate::tables::fault_pairs::FAULT_PAIRS;
 use crate::tables::form_faults::FORM_FAULTS;
+use crate::tables::free::FREE;
 use crate::tables::fuel_calls::FUEL_CALLS;
 use crate::tables::fuel_costs::FUEL_COSTS;
 use crate::tables::fuel_forms::FUEL_FORMS;
@@ -265,7 +266,7 @@ const SHAPES: [&str; 6] = [
 ];
 
 // Imports, and the libraries that are loaded for them.
-const LOADING: [&str; 20] = [
+const LOADING: [&str; 21] = [
     IMPORTS,
     SETS,
     ORDER,
@@ -286,6 +287,7 @@ const LOADING: [&str; 20] = [
     NO_REFERENCES,
     IMPORT_NAMES,
     PLANS,
+    FREE,
 ];
 
 // What macros expand to: binders and references, patterns and transformers.

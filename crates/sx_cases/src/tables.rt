@@ -14,6 +14,7 @@ pub mod derived_names;
 pub mod endless;
 pub mod fault_pairs;
 pub mod form_faults;
+pub mod free;
 pub mod fuel_calls;
 pub mod fuel_costs;
 pub mod fuel_forms;
