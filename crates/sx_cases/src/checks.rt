@@ -35,6 +35,7 @@ use crate::tables::fuel_texts::FUEL_TEXTS;
 use crate::tables::given::GIVEN;
 use crate::tables::hygiene::HYGIENE;
 use crate::tables::identifiers::IDENTIFIERS;
+use crate::tables::import_names::AGAIN;
 use crate::tables::import_names::IMPORT_NAMES;
 use crate::tables::imports::IMPORTS;
 use crate::tables::late::LATE;
@@ -266,7 +267,7 @@ const SHAPES: [&str; 6] = [
 ];
 
 // Imports, and the libraries that are loaded for them.
-const LOADING: [&str; 21] = [
+const LOADING: [&str; 22] = [
     IMPORTS,
     SETS,
     ORDER,
@@ -288,6 +289,7 @@ const LOADING: [&str; 21] = [
     IMPORT_NAMES,
     PLANS,
     FREE,
+    AGAIN,
 ];
 
 // What macros expand to: binders and references, patterns and transformers.

@@ -63,8 +63,8 @@ fn side_by_side(alloc: Global, count: usize) -> Result<String, Fail> {
     told(alloc, files, program.as_str())
 }
 
-// A program that refers to one library so many times, and at last to this.
-fn again_and_again(alloc: Global, count: usize, last: &str) -> Result<String, Fail> {
+// A program that refers to one library so many times.
+fn again_and_again(alloc: Global, count: usize) -> Result<String, Fail> {
     let mut files = Vec::new(alloc);
     let text = library_text(alloc, 0, "")?;
     put_file(alloc, &mut files, "./l0.sls", text.as_str())?;
@@ -72,7 +72,6 @@ fn again_and_again(alloc: Global, count: usize, last: &str) -> Result<String, Fa
     for _place in 0..count {
         program.push_str(" (l0)")?;
     }
-    program.push_str(last)?;
     program.push_str(")")?;
     put_file(alloc, &mut files, "p.sps", program.as_str())?;
     told(alloc, files, program.as_str())
@@ -164,11 +163,6 @@ fn a_file_has_4_mib_at_most_and_all_have_64_mib_at_most(rt: HostRuntime) -> Resu
 // What the library needs is joined once, so each further reference takes a look-up of its file.
 #[test]
 fn a_library_is_loaded_once_however_often_a_file_refers_to_it(rt: HostRuntime) -> Result<(), Fail> {
-    let alloc = rt.alloc();
-    assert_eq!(rt; again_and_again(alloc, 800_000, "")?.as_str(), "1\n");
-    assert_eq!(rt;
-        again_and_again(alloc, 2, " (l0 (1))")?.as_str(),
-        "p.sps:1:19: 13 VersionRefused: (l0)\n"
-    );
+    assert_eq!(rt; again_and_again(rt.alloc(), 800_000)?.as_str(), "1\n");
     Ok(())
 }

@@ -25,3 +25,9 @@ file ./m.sls
 file ./n.sls
 (library (n) (export a) (import (rnrs)) (define a 2))
 => 16 ImportConflict: a"#;
+
+/// A version is looked at wherever a library is referred to.
+pub const AGAIN: &str = r#"(import (l0) (l0) §(l0 (1)))
+file ./l0.sls
+(library (l0) (export) (import))
+=> 13 VersionRefused: (l0)"#;
