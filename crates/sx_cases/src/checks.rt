@@ -78,6 +78,7 @@ use crate::tables::quasi::QUASI;
 use crate::tables::quasi_plans::QUASI_FAULTS;
 use crate::tables::quasi_plans::QUASI_PLANS;
 use crate::tables::quasi_plans::QUASI_TEMPLATES;
+use crate::tables::read_values::READ_VALUES;
 use crate::tables::reading::DATA;
 use crate::tables::reading::MISPLACED;
 use crate::tables::reading::NESTING;
@@ -339,7 +340,14 @@ const PRIMITIVES: [&str; 8] = [
 const MATCHES: [&str; 4] = [MATCH_LISTS, MATCH_ELLIPSES, MATCH_FAULTS, MATCH_STORED];
 
 // Evaluation with exactly the fuel that it needs, and with less.
-const FUEL: [&str; 5] = [FUEL_FORMS, FUEL_CALLS, FUEL_TEXTS, FUEL_SYNTAX, FUEL_COSTS];
+const FUEL: [&str; 6] = [
+    FUEL_FORMS,
+    FUEL_CALLS,
+    FUEL_TEXTS,
+    FUEL_SYNTAX,
+    FUEL_COSTS,
+    READ_VALUES,
+];
 
 // What takes all fuel, or nearly.
 const RUNS: [&str; 1] = [FUEL_RUNS];

@@ -52,6 +52,7 @@ pub mod prim_syntax;
 pub mod printed;
 pub mod quasi;
 pub mod quasi_plans;
+pub mod read_values;
 pub mod reading;
 pub mod realistic;
 pub mod rules;

@@ -1,7 +1,7 @@
-//! Tests of regions, values and cells.
+//! Tests of what no program shows of regions, values and cells.
 //!
-//! `regions` adds to a region, cuts it back and adds again. `read` reads values that are built step by step,
-//! and one of a million cells; `stored` makes the value of a datum.
+//! `regions` adds to a region, cuts it back and adds again. `read` reads values of a million pairs, and `stored` asks which
+//! cells the value of a datum has.
 #![tactic(auto)]
 
 #[cfg(test)]
