@@ -23,6 +23,7 @@ use crate::tables::derived::DERIVED;
 use crate::tables::derived_names::DERIVED_LEVELS;
 use crate::tables::derived_names::DERIVED_NAMES;
 use crate::tables::endless::ENDLESS;
+use crate::tables::exported::EXPORTED;
 use crate::tables::fault_pairs::FAULT_PAIRS;
 use crate::tables::form_faults::FORM_FAULTS;
 use crate::tables::free::FREE;
@@ -268,7 +269,7 @@ const SHAPES: [&str; 6] = [
 ];
 
 // Imports, and the libraries that are loaded for them.
-const LOADING: [&str; 22] = [
+const LOADING: [&str; 23] = [
     IMPORTS,
     SETS,
     ORDER,
@@ -291,6 +292,7 @@ const LOADING: [&str; 22] = [
     PLANS,
     FREE,
     AGAIN,
+    EXPORTED,
 ];
 
 // What macros expand to: binders and references, patterns and transformers.

@@ -12,6 +12,7 @@ pub mod defining;
 pub mod derived;
 pub mod derived_names;
 pub mod endless;
+pub mod exported;
 pub mod fault_pairs;
 pub mod form_faults;
 pub mod free;

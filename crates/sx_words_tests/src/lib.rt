@@ -1,7 +1,7 @@
 //! Tests of the crates of words, names and reports that stand on `sx_base` alone.
 //!
-//! `words` reads command lines, `exports` asks what the libraries of this profile export and how long their
-//! texts are, and `report` writes a report.
+//! `words` reads command lines, `exports` asks how many names the libraries of this profile export, and in which order, and
+//! `report` writes a report.
 #![tactic(auto)]
 
 #[cfg(test)]
