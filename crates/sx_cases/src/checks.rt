@@ -96,6 +96,8 @@ use crate::tables::templates::LIST_TEMPLATES;
 use crate::tables::templates::SYNTAX_TEMPLATES;
 use crate::tables::transformer_faults::TRANSFORMER_FAULTS;
 use crate::tables::transformers::TRANSFORMERS;
+use crate::tables::trees::DATA_TREES;
+use crate::tables::trees::TREE_LIMITS;
 use crate::tables::version_references::FITTING;
 use crate::tables::version_references::NO_REFERENCES;
 use crate::tables::version_references::UNFITTING;
@@ -296,7 +298,16 @@ const LOADING: [&str; 23] = [
 ];
 
 // What macros expand to: binders and references, patterns and transformers.
-const MACROS: [&str; 6] = [HYGIENE, DEEP, DEFINING, IDENTIFIERS, PATTERNS, TRANSFORMERS];
+const MACROS: [&str; 8] = [
+    HYGIENE,
+    DEEP,
+    DEFINING,
+    IDENTIFIERS,
+    PATTERNS,
+    TRANSFORMERS,
+    TREE_LIMITS,
+    DATA_TREES,
+];
 
 // Where macros are bound.
 const SCOPES: [&str; 5] = [LET_SYNTAX, LEVELS, LATE, LIBRARIES, REALISTIC];

@@ -63,4 +63,5 @@ pub mod sources;
 pub mod templates;
 pub mod transformer_faults;
 pub mod transformers;
+pub mod trees;
 pub mod version_references;

@@ -1,7 +1,7 @@
-//! Tests of syntax objects.
+//! Tests of what no program shows of syntax objects.
 //!
 //! `contexts` changes the marks and stamps of single leaves, and `changes` enters, leaves and stamps shared
-//! ones. `trees` makes trees up to their limits and past them, and of data. What they expect is the algorithm
+//! ones. `trees` changes trees of a million nodes, and takes the rests of long lists. What they expect is the algorithm
 //! of Dybvig, Hieb and Bruggeman (1992), worked out by hand.
 #![tactic(auto)]
 
