@@ -85,6 +85,7 @@ use crate::tables::reading::MISPLACED;
 use crate::tables::reading::NESTING;
 use crate::tables::realistic::REALISTIC;
 use crate::tables::rules::RULES;
+use crate::tables::same::SAME;
 use crate::tables::shapes::HEADLESS;
 use crate::tables::shapes::SHAPED;
 use crate::tables::shapes::UNSHAPED;
@@ -298,7 +299,7 @@ const LOADING: [&str; 23] = [
 ];
 
 // What macros expand to: binders and references, patterns and transformers.
-const MACROS: [&str; 8] = [
+const MACROS: [&str; 9] = [
     HYGIENE,
     DEEP,
     DEFINING,
@@ -307,6 +308,7 @@ const MACROS: [&str; 8] = [
     TRANSFORMERS,
     TREE_LIMITS,
     DATA_TREES,
+    SAME,
 ];
 
 // Where macros are bound.

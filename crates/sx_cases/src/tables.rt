@@ -57,6 +57,7 @@ pub mod read_values;
 pub mod reading;
 pub mod realistic;
 pub mod rules;
+pub mod same;
 pub mod shapes;
 pub mod source_faults;
 pub mod sources;

@@ -2,69 +2,78 @@
 
 use std::alloc::Global;
 use std::rc::Rc;
+use std::test::Fail;
 use sx_base::library::LibName;
-use sx_base::memory::Memory;
 use sx_base::name::{FrameNo, Label, Mark, Name};
 use sx_base::symbol::Symbol;
 use sx_syntax::syn::Syn;
+use sx_tree::frame_row::FrameRow;
 use sx_tree::marks::Marks;
 use sx_tree::stamp::Stamp;
 
-fn name(library: &Rc<LibName>, number: u64) -> Result<Name, Memory> {
+pub fn number(text: &str) -> Result<u64, Fail> {
+    Ok(text.parse::<u64>().ok().ok_or("no number")?)
+}
+
+fn name(library: &Rc<LibName>, text: &str) -> Result<Name, Fail> {
+    let number = number(text)?;
     let library = library.clone()?;
     Ok(Name { library, number })
 }
 
-pub fn frame(library: &Rc<LibName>, number: u64) -> Result<FrameNo, Memory> {
-    Ok(FrameNo(name(library, number)?))
+pub fn frame(library: &Rc<LibName>, text: &str) -> Result<FrameNo, Fail> {
+    Ok(FrameNo(name(library, text)?))
 }
 
-pub fn label(library: &Rc<LibName>, number: u64) -> Result<Label, Memory> {
-    Ok(Label(name(library, number)?))
+pub fn label(library: &Rc<LibName>, text: &str) -> Result<Label, Fail> {
+    Ok(Label(name(library, text)?))
 }
 
-fn mark(library: &Rc<LibName>, number: u64) -> Result<Mark, Memory> {
-    Ok(Mark(name(library, number)?))
-}
-
-fn marks(alloc: Global, library: &Rc<LibName>, numbers: &[u64]) -> Result<Marks, Memory> {
+fn marks(alloc: Global, library: &Rc<LibName>, text: &str) -> Result<Marks, Fail> {
     let mut list = Vec::new(alloc);
-    for number in numbers {
-        list.push(mark(library, *number)?)?;
+    for spelt in text.split(".") {
+        if !spelt.is_empty() {
+            list.push(Mark(name(library, spelt)?))?;
+        }
     }
-    Marks::from_vec(alloc, list)
+    Ok(Marks::from_vec(alloc, list)?)
 }
 
-/// A frame and the marks at stamping.
-type Stamped = (u64, &'static [u64]);
-
-fn stamp(alloc: Global, library: &Rc<LibName>, row: &Stamped) -> Result<Stamp, Memory> {
-    let frame = frame(library, row.0)?;
-    let marks = marks(alloc, library, row.1)?;
+fn stamp(alloc: Global, library: &Rc<LibName>, text: &str) -> Result<Stamp, Fail> {
+    let (number, numbers) = text.split_once(".").unwrap_or((text, ""));
+    let frame = frame(library, number)?;
+    let marks = marks(alloc, library, numbers)?;
     Ok(Stamp { frame, marks })
 }
 
-fn stamps(alloc: Global, library: &Rc<LibName>, rows: &[Stamped]) -> Result<Vec<Stamp>, Memory> {
+fn stamps(alloc: Global, library: &Rc<LibName>, text: &str) -> Result<Vec<Stamp>, Fail> {
     let mut stamps = Vec::new(alloc);
-    for row in rows {
-        stamps.push(stamp(alloc, library, row)?)?;
+    for spelt in text.split(",") {
+        if !spelt.is_empty() {
+            stamps.push(stamp(alloc, library, spelt)?)?;
+        }
     }
     Ok(stamps)
 }
 
-/// A leaf: its symbol, its marks and its stamps.
-pub type Spelt = (&'static str, &'static [u64], &'static [Stamped]);
-
-pub fn leaf(alloc: Global, library: &Rc<LibName>, spelt: &Spelt) -> Result<Syn, Memory> {
-    let symbol = Symbol::new(alloc, spelt.0)?;
-    let marks = marks(alloc, library, spelt.1)?;
-    let stamps = stamps(alloc, library, spelt.2)?;
-    Syn::whole_leaf(alloc, None, &symbol, marks, stamps)
+/// The leaf `SYMBOL.MARKS@STAMPS`.
+pub fn leaf(alloc: Global, library: &Rc<LibName>, text: &str) -> Result<Syn, Fail> {
+    let (id, frames) = text.split_once("@").unwrap_or((text, ""));
+    let (symbol, numbers) = id.split_once(".").unwrap_or((id, ""));
+    let symbol = Symbol::new(alloc, symbol)?;
+    let marks = marks(alloc, library, numbers)?;
+    let stamps = stamps(alloc, library, frames)?;
+    Ok(Syn::whole_leaf(alloc, None, &symbol, marks, stamps)?)
 }
 
-/// The leaf x with this mark.
-pub fn marked(alloc: Global, library: &Rc<LibName>, numbers: &[u64]) -> Result<Syn, Memory> {
-    let symbol = Symbol::new(alloc, "x")?;
-    let marks = marks(alloc, library, numbers)?;
-    Syn::whole_leaf(alloc, None, &symbol, marks, Vec::new(alloc))
+/// The row `FRAME SYMBOL LABEL`, without marks.
+pub fn row(alloc: Global, library: &Rc<LibName>, text: &str) -> Result<FrameRow, Fail> {
+    let (at, rest) = text.split_once(" ").ok_or("no symbol")?;
+    let (symbol, number) = rest.split_once(" ").ok_or("no label")?;
+    Ok(FrameRow {
+        frame: frame(library, at)?,
+        symbol: Symbol::new(alloc, symbol)?,
+        marks: Marks::new(alloc),
+        label: label(library, number)?,
+    })
 }
