@@ -1,0 +1,6 @@
+mod Marking
+mod Rowing
+mod Using
+mod Knowing
+mod Living
+mod Adding
