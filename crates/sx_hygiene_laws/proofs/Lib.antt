@@ -1,6 +1,6 @@
-mod Marking
+pub mod Marking
 mod Rowing
-mod Using
+pub mod Using
 mod Knowing
 mod Living
 mod Adding
