@@ -51,13 +51,13 @@ fn words_given(rt: &HostRuntime, alloc: Global) -> io::Result<Vec<String>> {
 fn main(rt: HostRuntime) -> io::Result<ExitCode> {
     let alloc = rt.alloc();
     let Ok(words) = words_given(&rt, alloc) else {
-        return Ok(ExitCode::from(Status::Memory as u8));
+        return Ok(ExitCode::from(Status::Memory.number()));
     };
     let status = match run_over_system(&rt, &words) {
         Ok(status) => status,
         Err(_) => Status::Memory,
     };
-    Ok(ExitCode::from(status as u8))
+    Ok(ExitCode::from(status.number()))
 }
 
 #[cfg(test)]

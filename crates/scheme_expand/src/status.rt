@@ -1,5 +1,8 @@
 //! How a run ended.
 
+ghost use Rattle.std.specs.Prelude.{◌≡◌};
+ghost use Rattle.scheme_expand.specs.Statuses.{status_number};
+
 /// The exit status of a run.
 #[derive(Clone, Copy, Debug, PartialEq, Eq)]
 pub enum Status {
@@ -15,4 +18,13 @@ pub enum Status {
     WriteFault = 4,
     /// No memory was left.
     Memory = 5,
+}
+
+impl Status {
+    /// The exit status of the process.
+    pub fn number(self) -> u8
+        ensures { result ≡ status_number self }
+    {
+        self as u8
+    }
 }
