@@ -129,8 +129,12 @@ fn loaded(
     at_fault: &str,
 ) -> Result<String, Fail> {
     match load(alloc, files, roots, program, loading) {
-        Ok(found) => Ok(format!(in alloc; "{}\n", found.place)?),
-        Err(Halt::Fault(fault)) => Ok(fault_line(alloc, &fault, at_fault.as_bytes())?),
+        Ok(found) => Ok(format!(in alloc; "{}", found.place)?),
+        Err(Halt::Fault(fault)) => {
+            let line = fault_line(alloc, &fault, at_fault.as_bytes())?;
+            let (line, _) = line.as_str().split_once("\n").ok_or("no line")?;
+            Ok(String::from_str(alloc, line)?)
+        }
         Err(_) => Err(Fail::from("no files")),
     }
 }
@@ -188,7 +192,7 @@ fn check(rt: &impl Abort, alloc: Global, rows: &str) -> Result<(), Fail> {
     for row in rows.split("\n") {
         let (asked, wanted) = row.split_once(" => ").ok_or("no answer")?;
         let found = outcome(alloc, asked)?;
-        assert_eq!(rt; found.as_str().strip_suffix("\n"), Some(wanted), "{asked}");
+        assert_eq!(rt; found.as_str(), wanted, "{asked}");
     }
     Ok(())
 }

@@ -56,9 +56,12 @@ fn is_planned(alloc: Global, libraries: &str, refs: &str, places: &str) -> Resul
     let program = record(alloc, LibName::Program, refs)?;
     let mut told = String::new(alloc);
     for place in &run_plan(alloc, records.as_slice(), &program)? {
-        write!(told, " {place}")?;
+        if !told.is_empty() {
+            told.push_str(" ")?;
+        }
+        write!(told, "{place}")?;
     }
-    Ok(told.as_str().strip_prefix(" ") == Some(places))
+    Ok(told.as_str() == places)
 }
 
 fn check(rt: &impl Abort, alloc: Global, rows: &str) -> Result<(), Fail> {
