@@ -186,7 +186,7 @@ y
 (import (rnrs) (m))
 (define t 1)
 (both t t)
-file m.sls
+file ./m.sls
 (library (m) (export both) (import (rnrs))
   (define-syntax both (syntax-rules () ((_ a b) (let ((t a)) (and t b))))))
 => (define %/t/0 1)
