@@ -21,7 +21,11 @@ fn with_one(alloc: Global, first: Atom) -> Result<Datum, Memory> {
     let mut items = Vec::new(alloc);
     items.push(atom(first))?;
     items.push(atom(Atom::Int(1)))?;
-    let tail = Box::new(alloc, atom(Atom::Nil))?;
+    let nil = Datum {
+        span: None,
+        node: Node::Atom(Atom::Nil),
+    };
+    let tail = Box::new(alloc, nil)?;
     Ok(Datum {
         span: None,
         node: Node::List(items, tail),
