@@ -272,7 +272,7 @@ const SHAPES: [&str; 6] = [
 ];
 
 // Imports, and the libraries that are loaded for them.
-const LOADING: [&str; 23] = [
+const LOADING: [&str; 8] = [
     IMPORTS,
     SETS,
     ORDER,
@@ -281,6 +281,10 @@ const LOADING: [&str; 23] = [
     NAMES,
     BAD,
     ROOTS,
+];
+
+// Library forms, programs and import sets, and what is none.
+const LIBRARY_TEXTS: [&str; 7] = [
     LIBRARY_FORMS,
     EXPORT_SPECS,
     IMPORT_SPECS,
@@ -288,6 +292,10 @@ const LOADING: [&str; 23] = [
     FORM_PLACES,
     NO_LIBRARIES,
     BAD_SPECS,
+];
+
+// Versions that references take, names of import sets, and what a program needs of libraries.
+const REFERENCES_TO_LIBRARIES: [&str; 8] = [
     FITTING,
     UNFITTING,
     NO_REFERENCES,
@@ -385,6 +393,16 @@ fn forms_have_the_parts_that_the_report_says(rt: HostRuntime) -> Result<(), Fail
 #[test]
 fn imports_bind_what_loaded_libraries_export(rt: HostRuntime) -> Result<(), Fail> {
     check(rt.alloc(), &LOADING)
+}
+
+#[test]
+fn library_forms_are_taken_as_they_are_written(rt: HostRuntime) -> Result<(), Fail> {
+    check(rt.alloc(), &LIBRARY_TEXTS)
+}
+
+#[test]
+fn references_to_libraries_take_what_fits(rt: HostRuntime) -> Result<(), Fail> {
+    check(rt.alloc(), &REFERENCES_TO_LIBRARIES)
 }
 
 #[test]
