@@ -1,5 +1,8 @@
 //! How many libraries a program may load, and how many bytes.
 
+ghost use Rattle.std.specs.Prelude.{◌≡◌};
+ghost use Rattle.sx_load.specs.Found.{nothing_loaded};
+
 use std::alloc::Global;
 use std::fmt::Write;
 use std::process::Abort;
@@ -127,7 +130,9 @@ fn loaded(
     program: &Symbol,
     loading: &mut Loading,
     at_fault: &str,
-) -> Result<String, Fail> {
+) -> Result<String, Fail>
+    requires { loading.old ≡ nothing_loaded }
+{
     match load(alloc, files, roots, program, loading) {
         Ok(found) => Ok(format!(in alloc; "{}", found.place)?),
         Err(Halt::Fault(fault)) => {
