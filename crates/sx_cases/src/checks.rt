@@ -233,14 +233,11 @@ fn check(alloc: Global, tables: &[&str]) -> Result<(), Fail> {
     }
 }
 
+// Lexemes and data, and how they are printed.
+const READING: [&str; 6] = [LEXEMES, LEXEME_FAULTS, DATA, MISPLACED, NESTING, PRINTED];
+
 // What files are read as, and what of it is written.
-const READING: [&str; 12] = [
-    LEXEMES,
-    LEXEME_FAULTS,
-    DATA,
-    MISPLACED,
-    NESTING,
-    PRINTED,
+const SOURCE_TEXTS: [&str; 6] = [
     SOURCES,
     SOURCES_AGAIN,
     NESTED_SOURCES,
@@ -362,15 +359,11 @@ const PRIMITIVES: [&str; 8] = [
 // Patterns, templates and the instances that come of them.
 const MATCHES: [&str; 4] = [MATCH_LISTS, MATCH_ELLIPSES, MATCH_FAULTS, MATCH_STORED];
 
-// Evaluation with exactly the fuel that it needs, and with less.
-const FUEL: [&str; 6] = [
-    FUEL_FORMS,
-    FUEL_CALLS,
-    FUEL_TEXTS,
-    FUEL_SYNTAX,
-    FUEL_COSTS,
-    READ_VALUES,
-];
+// Evaluation of forms with exactly the fuel that it needs, and with less.
+const FUEL: [&str; 3] = [FUEL_FORMS, FUEL_CALLS, FUEL_TEXTS];
+
+// The same for syntax objects and primitives, and for values that are read as forms.
+const FUEL_OF_SYNTAX: [&str; 3] = [FUEL_SYNTAX, FUEL_COSTS, READ_VALUES];
 
 // What takes all fuel, or nearly.
 const RUNS: [&str; 1] = [FUEL_RUNS];
@@ -378,6 +371,11 @@ const RUNS: [&str; 1] = [FUEL_RUNS];
 #[test]
 fn files_are_read_as_their_data(rt: HostRuntime) -> Result<(), Fail> {
     check(rt.alloc(), &READING)
+}
+
+#[test]
+fn sources_come_to_their_data_or_their_fault(rt: HostRuntime) -> Result<(), Fail> {
+    check(rt.alloc(), &SOURCE_TEXTS)
 }
 
 #[test]
@@ -438,6 +436,11 @@ fn patterns_match_and_templates_give_instances(rt: HostRuntime) -> Result<(), Fa
 #[test]
 fn evaluation_spends_what_it_says(rt: HostRuntime) -> Result<(), Fail> {
     check(rt.alloc(), &FUEL)
+}
+
+#[test]
+fn syntax_objects_spend_what_they_say(rt: HostRuntime) -> Result<(), Fail> {
+    check(rt.alloc(), &FUEL_OF_SYNTAX)
 }
 
 #[test]
