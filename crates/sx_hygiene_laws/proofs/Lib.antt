@@ -1,6 +1,6 @@
-pub mod Marking
+mod Marking
 mod Rowing
-pub mod Using
+mod Using
 mod Knowing
 mod Living
 mod Adding
