@@ -22,7 +22,6 @@ use Rattle.sx_spelling.specs.declared.escapes.Letter.{Letter}
 is_some : (n : ℕ) → 0 < n → n == 0 ≡ false
 is_some n h = grind (arith, nat_tests)
 
-
 three : (a b c : Bool) → (a && b && c) ≡ true → (a ≡ true) × (c ≡ true)
 three true true true h = (refl, refl)
 three true true false h = absurd (cc)
