@@ -8,6 +8,7 @@ use Rattle.sx_lexer.specs.declared.token.Lexeme.{Lexeme}
 use Rattle.sx_reader.specs.Lexemes as lexemes
 use Rattle.sx_reader.specs.Lexemes.{Follow}
 use Rattle.sx_reader.specs.Spells.{Spells}
+use Rattle.sx_fault_laws.specs.Laws.{StartsAre}
 use Rattle.sx_grammar.specs.Reads.{Tokens, none, one, Reads, SpellingsAre}
 
 -- lexemes that follow one another, and none behind the last
@@ -16,7 +17,7 @@ record Followed (file bytes : List ℕ) (at : ℕ) (ls : List Lexeme) : Type 0 w
   follow : Follow (next_lexeme file bytes) at ls end
   ends : next_lexeme file bytes end ≡ Ok None
 
-module _ (lexemes_are : LexemesAre) (ends_are : EndsAre) (file bytes : List ℕ) where
+module _ (lexemes_are : LexemesAre) (ends_are : EndsAre) (starts_are : StartsAre) (file bytes : List ℕ) where
   to_tokens : {at end : ℕ} {ls : List Lexeme} → Follow (next_lexeme file bytes) at ls end → next_lexeme file bytes end ≡ Ok None → Tokens bytes at ls
   to_tokens (lexemes.none {at}) ends =
       let (n, gap, last) = (ends_are file bytes at).0 ends in
@@ -32,12 +33,12 @@ module _ (lexemes_are : LexemesAre) (ends_are : EndsAre) (file bytes : List ℕ)
       record { end = rest.end; follow = lexemes.one l ((lexemes_are file bytes at l).1 (n, from, gap, size, to, token)) rest.follow; ends = rest.ends }
 
   pub reads : {nesting : ℕ} {ds : List PlainDatum} → Spells file bytes nesting ds → Reads file bytes nesting ds
-  reads s = record { start = s.start; lexemes = s.lexemes; begins = s.begins; tokens = to_tokens s.tokens s.ends; items = s.items }
+  reads s = record { start = s.start; lexemes = s.lexemes; begins = (starts_are file bytes s.start).0 s.begins; tokens = to_tokens s.tokens s.ends; items = s.items }
 
   pub spells : {nesting : ℕ} {ds : List PlainDatum} → Reads file bytes nesting ds → Spells file bytes nesting ds
   spells r =
       let f = to_followed r.tokens in
-      record { start = r.start; end = f.end; lexemes = r.lexemes; begins = r.begins; tokens = f.follow; ends = f.ends; items = r.items }
+      record { start = r.start; end = f.end; lexemes = r.lexemes; begins = (starts_are file bytes r.start).1 r.begins; tokens = f.follow; ends = f.ends; items = r.items }
 
-pub spellings_are : LexemesAre → EndsAre → SpellingsAre
-spellings_are lexemes_are ends_are file bytes nesting ds = (reads lexemes_are ends_are file bytes, spells lexemes_are ends_are file bytes)
+pub spellings_are : LexemesAre → EndsAre → StartsAre → SpellingsAre
+spellings_are lexemes_are ends_are starts_are file bytes nesting ds = (reads lexemes_are ends_are starts_are file bytes, spells lexemes_are ends_are starts_are file bytes)

@@ -1,9 +1,9 @@
 -- Which data the bytes of a source spell, down to its bytes (R6RS 4.2 and 4.3).
-use Rattle.std.specs.Prelude.{◌≡◌, ℕ, ◌+◌, ◌≤◌, ◌↔◌, List, [], ◌∷◌, drop, length, Ok}
+use Rattle.std.specs.Prelude.{◌≡◌, ℕ, ◌+◌, ◌≤◌, ◌↔◌, List, [], ◌∷◌, drop, length}
 use Rattle.sx_base.specs.Datum.{PlainDatum}
+use Rattle.sx_fault_laws.specs.Start.{Start}
 use Rattle.sx_lexer.specs.Between.{Gap}
 use Rattle.sx_lexer.specs.Grammar.{IsToken}
-use Rattle.sx_lexer.specs.Start.{start_of}
 use Rattle.sx_lexer.specs.declared.token.Lexeme.{Lexeme}
 use Rattle.sx_reader.specs.Grammar.{AreItems}
 use Rattle.sx_reader.specs.Spells.{Spells}
@@ -19,7 +19,7 @@ pub data Tokens (bytes : List ℕ) : ℕ → List Lexeme → Type 0 where
 pub record Reads (file bytes : List ℕ) (nesting : ℕ) (ds : List PlainDatum) : Type 0 where
   pub start : ℕ
   pub lexemes : List Lexeme
-  pub begins : start_of file bytes ≡ Ok start
+  pub begins : Start bytes start
   pub tokens : Tokens bytes start lexemes
   pub items : AreItems file nesting lexemes ds
 

@@ -2,23 +2,30 @@
 //!
 //! The file `a 'b ; c` spells two data, since its bytes are the token `a`, a gap of one space, the token
 //! `'`, no gap, the token `b`, and a gap of a space and a comment that goes up to the end; and since a
-//! symbol is a datum, and `'` before a datum is the list of `quote` and that datum.
+//! symbol is a datum, and `'` before a datum is the list of `quote` and that datum. The file `(a #q)` is
+//! at fault: behind tokens with which data can begin stands `#q` at offset 3, which begins no token.
 //!
 //! The promise: the data that `sx_reader` reads are exactly those that this grammar relates to the bytes,
-//! a relation by cases that knows no reader, no loop and no machine.
+//! and the fault with which it refuses exactly the one that `specs/Fails` relates to them; these are
+//! relations by cases that know no reader, no lexer, no loop and no machine.
 //!
-//! This crate joins `sx_lexer`'s laws on tokens with `sx_reader`'s on data. No code stands on it.
+//! This crate joins `sx_lexer`'s laws on tokens and `sx_fault_laws` on bytes that are none with
+//! `sx_reader`'s on data. No code stands on it.
 #![tactic(auto)]
 
-ghost use Rattle.std.specs.Prelude.{◌≡◌, ◌<◌, ◌≤◌, ◌^◌, length, List, IfOk, Ok};
+ghost use Rattle.std.specs.Prelude.{◌≡◌, ◌<◌, ◌≤◌, ◌^◌, length, List, IfOk, Ok, Err};
 ghost use Rattle.sx_base.specs.Datum.{PlainDatum};
+ghost use Rattle.sx_base.specs.declared.fault.Fault.{Fault};
 ghost use Rattle.sx_base.specs.Gives.{Gives};
+ghost use Rattle.sx_grammar.specs.Fails.{Fails, FailuresAre, OneFailure, ReadsOrFails};
 ghost use Rattle.sx_grammar.specs.Reads.{Reads, SpellingsAre};
+ghost use Rattle.sx_reader.specs.FirstFault.{OnFault};
 
 use std::alloc::Global;
 use sx_base::datum::Datum;
 use sx_base::fault::Stop;
 use sx_base::symbol::Symbol;
+use sx_fault_laws::{bytes_go_wrong_in_gaps_and_tokens, starts_are_marks_and_lines};
 use sx_lexer::laws::lexemes_are_tokens_behind_gaps;
 use sx_reader::read::read_deep;
 
@@ -27,11 +34,31 @@ pub fn spellings_are_read_by_the_grammar()
     ensures { SpellingsAre }
 {
     lexemes_are_tokens_behind_gaps();
+    starts_are_marks_and_lines();
+}
+
+/// What `sx_reader` calls the first fault is exactly what these cases relate to the bytes.
+pub fn failures_are_told_by_bytes()
+    ensures { FailuresAre }
+{
+    lexemes_are_tokens_behind_gaps();
+    bytes_go_wrong_in_gaps_and_tokens();
+    starts_are_marks_and_lines();
+}
+
+/// A source has one fault at most, and one that spells data has none.
+pub fn sources_read_or_fail()
+    ensures one { OneFailure }
+    ensures other { ReadsOrFails }
+{
+    spellings_are_read_by_the_grammar();
+    failures_are_told_by_bytes();
 }
 
 /// The data of a source in which so many forms may be nested, as `sx_reader` reads them: what is read is
 /// related to the bytes, whatever is related to them is read unless memory runs out, and bytes are
-/// related to one list of data at most.
+/// related to one list of data at most. What is refused is at fault so by its bytes, and what is at fault
+/// by its bytes is refused so.
 pub fn read_source(
     alloc: Global,
     file: &Symbol,
@@ -43,7 +70,10 @@ pub fn read_source(
     ensures sound { IfOk result (λ v. Reads file.now bytes.now nesting v.items) }
     ensures complete { (ds : List PlainDatum) → Reads file.now bytes.now nesting ds → Gives (λ v. v.items) result (Ok ds) }
     ensures single { (ds es : List PlainDatum) → Reads file.now bytes.now nesting ds → Reads file.now bytes.now nesting es → ds ≡ es }
+    ensures refused { OnFault result (Fails file.now bytes.now nesting) }
+    ensures faulted { (f : Fault) → Fails file.now bytes.now nesting f → Gives (λ v. v.items) result (Err f) }
 {
     spellings_are_read_by_the_grammar();
+    failures_are_told_by_bytes();
     read_deep(alloc, file, bytes, nesting)
 }

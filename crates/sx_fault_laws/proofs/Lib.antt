@@ -1,0 +1,11 @@
+pub mod Tests
+pub mod Repeats
+pub mod Lines
+pub mod Small
+pub mod Blocks
+pub mod GapFaults
+pub mod Elements
+pub mod StringFaults
+pub mod CharacterFaults
+pub mod BareTexts
+pub mod TokenFaults
