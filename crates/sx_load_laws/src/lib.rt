@@ -31,6 +31,7 @@ ghost use Rattle.sx_load.specs.declared.found.Loading.{Loading};
 ghost use Rattle.sx_load_laws.specs.Laws.{AreLoadedOnce, AreAfterTheirImports, IsAfterItsImports, AllNeedsAreClosed, NeedsAreClosed, OnlyImportsAreNeeded, OnlyTheirImportsAreNeeded};
 ghost use Rattle.sx_load_laws.specs.Chains.{ChainsLeadToNeeds, NeedsAll, ImportsLeadToAll};
 ghost use Rattle.sx_load_laws.specs.Files.{PartsHaveNoSlash, PartsHaveNoDot, PartsComeBack, FilesTellLibraries};
+ghost use Rattle.sx_load_laws.specs.Orders.{AreInOrder, IsTheOrder};
 ghost use Rattle.sx_load_laws.specs.Roots.{AllStandBelow};
 ghost use Rattle.sx_load_laws.specs.Sources.{AreAsHeld, AreFoundOnce, AreFoundOnceButLast};
 
@@ -75,6 +76,13 @@ pub fn all_is_needed()
     ensures needed { (files : Paths) (roots : List (List ℕ)) (path : List ℕ) (program : Found) (s : Loading) → load files roots path ≡ Ok (program, s) → NeedsAll s.done program }
     ensures chains { (files : Paths) (roots : List (List ℕ)) (path : List ℕ) (program : Found) (s : Loading) → load files roots path ≡ Ok (program, s) → ChainsLeadToNeeds s.done program }
     ensures all { (files : Paths) (roots : List (List ℕ)) (path : List ℕ) (program : Found) (s : Loading) → load files roots path ≡ Ok (program, s) → ImportsLeadToAll s.done program }
+{}
+
+/// The order is depth first along the imports: each library comes behind all that its own imports load, and
+/// before what the next import loads, at the first reference to it. There is one such order.
+pub fn order_is_depth_first()
+    ensures follows { (files : Paths) (roots : List (List ℕ)) (path : List ℕ) (program : Found) (s : Loading) → load files roots path ≡ Ok (program, s) → AreInOrder s.done program }
+    ensures only { (files : Paths) (roots : List (List ℕ)) (path : List ℕ) (program : Found) (s : Loading) → load files roots path ≡ Ok (program, s) → IsTheOrder s.done program }
 {}
 
 /// Each library is what the file of its name holds below the first root that has this file.
