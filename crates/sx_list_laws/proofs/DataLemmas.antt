@@ -251,8 +251,8 @@ module _ (cells : List Cell) (id : Tree) where
   one_more grow well t d first rest s y ys is h again (one_grew {t = u} {ts = vs} n ns) =
       let tail = again vs ns in
       let plain : vs ≡ [] → rest_of t ≡ t = λ none.
-          let alone : t ≡ datum_like id rest = sym (ap (λ (ts : List Tree). list_of ts (Some t)) none) ∙ tail in
-          ap rest_of alone ∙ plain_rest (context_of id) rest ∙ sym alone in
+      let alone : t ≡ datum_like id rest = sym (ap (λ (ts : List Tree). list_of ts (Some t)) none) ∙ tail in
+      ap rest_of alone ∙ plain_rest (context_of id) rest ∙ sym alone in
       (λ i. pair None (well first y u h n i) ((list_more vs t plain ∙ tail) i)) ∙ ap (datum_like id) (sym is)
 
   -- the elements of a list and what ends it

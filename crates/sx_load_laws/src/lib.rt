@@ -14,7 +14,8 @@
 //! ```
 //!
 //! The promise: each library is loaded once, after those that it imports, each of which has a version that
-//! fits; and it needs just these and what they need. Where loading stops with a fault, this holds of the
+//! fits; the imports are followed depth first, from the first to the last, and there is one such order. And a
+//! library needs just those that it imports and what they need. Where loading stops with a fault, this holds of the
 //! libraries that were loaded before. The program needs all of them, by chains of imports. Each stands in the
 //! file of its name below the first root that has this file, and no other library does. What is kept of a
 //! path is what the files hold there, and a path where a file is was read once.
