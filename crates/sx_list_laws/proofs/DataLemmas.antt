@@ -1,5 +1,5 @@
 -- From data to syntax objects and back.
-use Rattle.std.proofs.Common.{◌≡◌, ℕ, zero, suc, ◌+◌, ◌<◌, ◌==◌, ◌&&◌, Bool, true, false, List, [], ◌∷◌, ◌++◌, length, slice_get, Option, None, Some, Result, Ok, Err, refl, sym, ap, subst, ◌∙◌, arith, append_assoc}
+use Rattle.std.proofs.Common.{◌≡◌, ℕ, zero, suc, ◌&&◌, Bool, true, false, List, [], ◌∷◌, ◌++◌, length, slice_get, Option, None, Some, Result, Ok, Err, refl, sym, ap, subst, ◌∙◌, append_assoc}
 use Rattle.std.specs.Prelude.{if◌then◌else◌}
 use Rattle.std.specs.Cmp.{unsigned_Decides}
 use Rattle.std.proofs.lemmas.List.{append-nil}
@@ -13,7 +13,6 @@ use Rattle.sx_base.specs.declared.atom.Atom.{Atom}
 use Rattle.sx_base.specs.declared.atom.Atom.TheVariants as a
 use Rattle.sx_base.specs.declared.fault.Bare.{Bare}
 use Rattle.sx_base.specs.declared.span.Span.{Span}
-use Rattle.sx_region.specs.declared.region.Place.{Place}
 use Rattle.sx_region.proofs.Laws.{slice_get-added, slice_get-released}
 use Rattle.sx_tree.specs.Context.{LeafContext}
 use Rattle.sx_tree.specs.Leaves.{tree_of, strip, context_of, datum_like}
@@ -21,26 +20,25 @@ use Rattle.sx_tree.specs.Measures.{fits, within, too_deep}
 use Rattle.sx_tree.specs.Tree.{Tree, atom, leaf, pair, vector, is_list, rest_of, list_of, vector_of}
 use Rattle.sx_tree.specs.Tree as tree
 use Rattle.sx_tree.proofs.LeafLaws.{strip-tree_of}
-use Rattle.sx_value.specs.Cells.{pair_in, pair_at, vector_in, vector_at, string_in, string_at}
+use Rattle.sx_value.specs.Cells.{pair_in, vector_in, vector_at, string_in, string_at}
 use Rattle.sx_value.specs.FromDatum.{Keeps, atom_stored, stored, elements_stored}
 use Rattle.sx_value.proofs.Stored.{stored_keeps, elements_keep}
 use Rattle.sx_value.specs.declared.cell.Cell.{Cell}
 use Rattle.sx_value.specs.declared.cell.Cell.TheVariants as cell
 use Rattle.sx_value.specs.declared.value.Value.{Value}
 use Rattle.sx_value.specs.declared.value.Value.TheVariants as value
-use Rattle.sx_prims.specs.declared.made.Made.{Made}
 use Rattle.sx_prims.specs.declared.made.Made.TheVariants as made
-use Rattle.sx_prims.specs.Answers.{Answer, refused}
+use Rattle.sx_prims.specs.Answers.{refused}
 use Rattle.sx_prims.specs.Chains.{pair_of, chain_on, chain_to, chain}
 use Rattle.sx_prims.specs.Each.{all_are}
 use Rattle.sx_prims.specs.Copied.{is_syntax_to, is_syntax, datum_to, datum_in}
 use Rattle.sx_prims.specs.Data.{datum_answer, text_grown, all_grown, vector_grown, list_grown, level_grown, grown_to, tree_made, tree_by, syntax_answer}
 use Rattle.sx_prims.specs.Equality.{same_lengths, same_texts, same_shape, all_equal, equal_to, equal}
-use Rattle.sx_prims.specs.Identity.{same_atom, same}
+use Rattle.sx_prims.specs.Identity.{same}
 use Rattle.sx_prims.specs.Parts.{parts_in, parts_of, is_datum}
 use Rattle.sx_prims.specs.Perform.{performed}
 use Rattle.sx_prims.specs.Syntax.{identifier}
-use Rattle.sx_list_laws.specs.Data.{is_text, IsDatum, of_atom, of_string, of_symbol, of_pair, of_vector, AreData, no_data, one_datum}
+use Rattle.sx_list_laws.specs.Data.{IsDatum, of_atom, of_string, of_symbol, of_pair, of_vector, AreData, no_data, one_datum}
 use Rattle.sx_list_laws.proofs.RunLemmas.{Stay, stay_added}
 use Rattle.sx_list_laws.proofs.SameLemmas.{atom_itself}
 

@@ -1,8 +1,8 @@
 -- In whole cells the parts of a value lie below it.
-use Rattle.std.proofs.Common.{◌≡◌, ℕ, zero, suc, ◌<◌, ◌≤◌, Bool, true, false, List, [], ◌∷◌, length, Option, None, Some, refl, subst, ap, arith, slice_get}
+use Rattle.std.proofs.Common.{◌≡◌, ℕ, suc, ◌<◌, ◌≤◌, Bool, false, List, [], ◌∷◌, length, Option, None, Some, refl, subst, ap, arith, slice_get}
 use Rattle.std.specs.Prelude.{IsTrue}
 use Rattle.std.proofs.lemmas.Option.{slice_get_within}
-use Rattle.sx_value.specs.Cells.{pair_in, pair_at, vector_in, vector_at, string_in, string_at, transformer_in, has_variables, is_found, FitsIn, IsBelow, Lies, Each, Whole}
+use Rattle.sx_value.specs.Cells.{pair_in, pair_at, vector_in, vector_at, string_in, transformer_in, has_variables, is_found, FitsIn, IsBelow, Lies, Each, Whole}
 use Rattle.sx_value.specs.declared.cell.Cell.{Cell}
 use Rattle.sx_value.specs.declared.cell.Cell.TheVariants as cell
 use Rattle.sx_value.specs.declared.value.Value.{Value}

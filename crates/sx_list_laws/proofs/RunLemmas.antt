@@ -1,27 +1,24 @@
 -- In whole cells the bound of a walk along a list doesn't show.
-use Rattle.std.proofs.Common.{◌≡◌, ℕ, zero, suc, ◌+◌, ◌-◌, ◌<◌, ◌≤◌, Bool, true, false, List, [], ◌∷◌, ◌++◌, length, reverse, take, slice_get, Option, None, Some, refl, sym, ap, subst, ◌∙◌, arith, append_assoc, length-append, pos}
+use Rattle.std.proofs.Common.{◌≡◌, ℕ, zero, suc, ◌+◌, ◌-◌, ◌≤◌, Bool, true, false, List, [], ◌∷◌, ◌++◌, length, reverse, take, slice_get, Option, None, Some, refl, sym, ap, subst, ◌∙◌, arith, append_assoc, length-append, pos}
 use Rattle.std.specs.Prelude.{nat_lt, if◌then◌else◌}
 use Rattle.std.proofs.lemmas.Bool.{lt-ltb}
 use Rattle.std.proofs.lemmas.List.{append-nil}
 use Rattle.std.proofs.Math.Seq.{take-append_seam}
 use Rattle.sx_base.specs.declared.atom.Atom.{Atom}
 use Rattle.sx_base.specs.declared.atom.Atom.TheVariants as a
-use Rattle.sx_base.specs.Named.{Named}
-use Rattle.sx_region.proofs.Laws.{slice_get-added, slice_get-kept, slice_get-released, take-added}
-use Rattle.sx_value.specs.Cells.{pair_in, pair_at, is_found, IsBelow, Whole}
-use Rattle.sx_value.specs.FromDatum.{pairs_stored, pair_stored}
+use Rattle.sx_region.proofs.Laws.{slice_get-added}
+use Rattle.sx_value.specs.Cells.{pair_in, pair_at, IsBelow, Whole}
+use Rattle.sx_value.specs.FromDatum.{pairs_stored}
 use Rattle.sx_value.specs.declared.cell.Cell.{Cell}
 use Rattle.sx_value.specs.declared.cell.Cell.TheVariants as cell
 use Rattle.sx_value.specs.declared.value.Value.{Value}
 use Rattle.sx_value.specs.declared.value.Value.TheVariants as value
-use Rattle.sx_prims.specs.declared.made.Made.{Made}
 use Rattle.sx_prims.specs.declared.made.Made.TheVariants as made
 use Rattle.sx_prims.specs.Answers.{said, given}
-use Rattle.sx_prims.specs.Chains.{Chain, pair_of, is_nil, ended, linked, chain_on, chain_to, chain, list_elements, then_tail, tail_after}
+use Rattle.sx_prims.specs.Chains.{Chain, pair_of, is_nil, linked, chain_on, chain_to, chain, list_elements, then_tail, tail_after}
 use Rattle.sx_prims.specs.Each.{if_some, before_last, last_of}
-use Rattle.sx_prims.specs.Strings.{natural, below, natural_below, index_below}
-use Rattle.sx_prims.specs.Lists.{nil, of_elements, of_list, list_made, elements_joined, last_or_nil, appended_made, tail_made, car_of, indexed_made}
-use Rattle.sx_prims.specs.Perform.{performed}
+use Rattle.sx_prims.specs.Strings.{natural, index_below}
+use Rattle.sx_prims.specs.Lists.{nil, of_elements, list_made, elements_joined, last_or_nil, appended_made, tail_made, indexed_made}
 use Rattle.sx_list_laws.specs.Runs.{Runs, here, next, IsList, AreLists, no_lists, one_list, joined}
 use Rattle.sx_list_laws.proofs.Parts.{below_more, pair_within, pair_lies}
 

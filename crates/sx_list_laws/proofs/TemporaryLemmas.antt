@@ -1,5 +1,5 @@
 -- Temporaries have marks that nothing has that was there before, each its own.
-use Rattle.std.proofs.Common.{◌≡◌, ℕ, zero, suc, ◌+◌, ◌<◌, ◌&&◌, Bool, true, false, List, [], ◌∷◌, length, Option, Some, None, refl, sym, ap, subst, ◌∙◌, slice_get, arith, codes}
+use Rattle.std.proofs.Common.{◌≡◌, ℕ, zero, suc, ◌+◌, ◌<◌, ◌&&◌, Bool, true, false, List, [], ◌∷◌, length, Option, Some, refl, sym, ap, subst, ◌∙◌, slice_get, arith}
 use Rattle.std.specs.Prelude.{◌≢◌, nat_eq}
 use Rattle.std.specs.Cmp.Lexicographic.{pointwise}
 use Rattle.sx_base.specs.Named.{Named}
@@ -17,11 +17,10 @@ use Rattle.sx_value.specs.declared.value.Value.{Value}
 use Rattle.sx_value.specs.declared.value.Value.TheVariants as value
 use Rattle.sx_prims.specs.Perform.{name_after, temporary, temporaries}
 use Rattle.sx_prims.proofs.Temporaries.{name_after_add, name_after_zero}
-use Rattle.sx_prims.specs.declared.made.Made.{Made}
 use Rattle.sx_prims.specs.declared.made.Made.TheVariants as made
 use Rattle.sx_prims.specs.Chains.{Chain, chain_to, chain}
 use Rattle.sx_prims.specs.Each.{if_some}
-use Rattle.sx_prims.specs.Syntax.{after_nil, elements_from, elements_with, temporaries_made}
+use Rattle.sx_prims.specs.Syntax.{elements_from, elements_with, temporaries_made}
 use Rattle.sx_prims.specs.Perform.{performed}
 use Rattle.sx_list_laws.specs.Older.{IsBefore, IsOlder}
 use Rattle.sx_list_laws.specs.Runs.{IsList}

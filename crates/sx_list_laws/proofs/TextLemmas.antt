@@ -1,6 +1,6 @@
 -- Strings by their characters.
-use Rattle.std.proofs.Common.{◌≡◌, ℕ, zero, suc, ◌+◌, ◌-◌, ◌<◌, ◌≤◌, Bool, true, false, List, [], ◌∷◌, ◌++◌, length, take, drop, map, slice_get, Option, None, Some, refl, sym, ap, ◌∙◌, arith, append_assoc, pos, chars, encode_utf8_all, encode_utf8}
-use Rattle.std.specs.Prelude.{nat_lt, if◌then◌else◌}
+use Rattle.std.proofs.Common.{◌≡◌, ℕ, ◌+◌, ◌-◌, ◌<◌, ◌≤◌, true, List, [], ◌∷◌, ◌++◌, length, take, drop, map, slice_get, None, Some, refl, sym, ap, ◌∙◌, arith, append_assoc, pos, chars, encode_utf8_all, encode_utf8}
+use Rattle.std.specs.Prelude.{if◌then◌else◌}
 use Rattle.std.specs.Str.{all_scalars}
 use Rattle.std.proofs.lemmas.Bool.{lt-ltb}
 use Rattle.std.proofs.lemmas.List.{append-nil}
@@ -9,15 +9,14 @@ use Rattle.std.proofs.lemmas.Str.{chars-encodes}
 use Rattle.sx_base.specs.declared.atom.Atom.TheVariants as a
 use Rattle.sx_base.specs.Named.{Named}
 use Rattle.sx_region.proofs.Laws.{slice_get-added}
-use Rattle.sx_value.specs.Cells.{string_in, string_at}
+use Rattle.sx_value.specs.Cells.{string_in}
 use Rattle.sx_value.specs.declared.cell.Cell.{Cell}
 use Rattle.sx_value.specs.declared.cell.Cell.TheVariants as cell
 use Rattle.sx_value.specs.declared.value.Value.{Value}
 use Rattle.sx_value.specs.declared.value.Value.TheVariants as value
-use Rattle.sx_prims.specs.declared.made.Made.{Made}
 use Rattle.sx_prims.specs.declared.made.Made.TheVariants as made
 use Rattle.sx_prims.specs.Each.{if_some, all_of}
-use Rattle.sx_prims.specs.Strings.{string_of, natural, char_value, char_given, below, index_below, length_made, char_at, element_made, part_made, listed, unpacked, unpacked_made, text_made, joined, between, cut, text_of_few, string_made}
+use Rattle.sx_prims.specs.Strings.{string_of, natural, char_value, char_given, index_below, char_at, part_made, listed, unpacked_made, text_made, joined, between, cut, string_made}
 use Rattle.sx_prims.specs.Perform.{performed}
 use Rattle.sx_list_laws.specs.Texts.{IsString, spelt, AreStrings, no_strings, one_string, all_chars}
 

@@ -1,5 +1,5 @@
 -- Marks that were taken before a name. Names are taken from a counter, each library's from its own.
-use Rattle.std.specs.Prelude.{◌≡◌, ℕ, ◌<◌}
+use Rattle.std.specs.Prelude.{◌≡◌, ◌<◌}
 use Rattle.sx_base.specs.Named.{Named}
 use Rattle.sx_base.specs.declared.name.Mark.{Mark}
 use Rattle.sx_tree.specs.Tree.{Tree}
