@@ -12,3 +12,4 @@ pub mod ReadingLemmas
 pub mod ChainLemmas
 pub mod RootLemmas
 pub mod FileLemmas
+pub mod OrderLemmas

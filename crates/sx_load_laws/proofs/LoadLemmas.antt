@@ -63,7 +63,7 @@ module _ (o : Opened) (needs : List Bool) (s : Loading) (i : Import) (is : List 
   }
 
 module _ (files : Paths) (roots : List (List ℕ)) where
-  refers_each : (inside : Option Loader) → InsideWell inside → (o : Opened) (needs : List Bool) (s : Loading) (is : List Import) → IsSound s → Standing o s needs
+  pub refers_each : (inside : Option Loader) → InsideWell inside → (o : Opened) (needs : List Bool) (s : Loading) (is : List Import) → IsSound s → Standing o s needs
       → Ends (ReferredAll o needs s is) IsSound (refer_each files roots inside needs s is)
   unfolding refer_each
   refers_each inside well o needs s [] sound standing = record {

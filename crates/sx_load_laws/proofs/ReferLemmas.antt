@@ -154,7 +154,7 @@ module _ (s : Loading) (set : ImportSet) (sound : IsSound s) (new : New s set) (
     not_done : IsNotIn u.done (file_of set.library)
     not_done = loaded.grows.wait (file_of set.library) is_begun (still_waits (file_of set.library) new.not_done)
 
-    done_is : (with_done u (file_of set.library) found).done ≡ u.done ++ (file_of set.library, found) ∷ []
+    pub done_is : (with_done u (file_of set.library) found).done ≡ u.done ++ (file_of set.library, found) ∷ []
     done_is = put_new u.done (file_of set.library) found not_done
 
     done_more : length (with_done u (file_of set.library) found).done ≡ length u.done + 1

@@ -3,3 +3,4 @@ pub mod Sources
 pub mod Chains
 pub mod Roots
 pub mod Files
+pub mod Orders

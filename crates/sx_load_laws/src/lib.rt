@@ -14,7 +14,8 @@
 //! ```
 //!
 //! The promise: each library is loaded once, after those that it imports, each of which has a version that
-//! fits; and it needs just these and what they need. Where loading stops with a fault, this holds of the
+//! fits; the imports are followed depth first, from the first to the last, and there is one such order. And a
+//! library needs just those that it imports and what they need. Where loading stops with a fault, this holds of the
 //! libraries that were loaded before. The program needs all of them, by chains of imports. Each stands in the
 //! file of its name below the first root that has this file, and no other library does. What is kept of a
 //! path is what the files hold there, and a path where a file is was read once.
@@ -31,6 +32,7 @@ ghost use Rattle.sx_load.specs.declared.found.Loading.{Loading};
 ghost use Rattle.sx_load_laws.specs.Laws.{AreLoadedOnce, AreAfterTheirImports, IsAfterItsImports, AllNeedsAreClosed, NeedsAreClosed, OnlyImportsAreNeeded, OnlyTheirImportsAreNeeded};
 ghost use Rattle.sx_load_laws.specs.Chains.{ChainsLeadToNeeds, NeedsAll, ImportsLeadToAll};
 ghost use Rattle.sx_load_laws.specs.Files.{PartsHaveNoSlash, PartsHaveNoDot, PartsComeBack, FilesTellLibraries};
+ghost use Rattle.sx_load_laws.specs.Orders.{AreInOrder, IsTheOrder};
 ghost use Rattle.sx_load_laws.specs.Roots.{AllStandBelow};
 ghost use Rattle.sx_load_laws.specs.Sources.{AreAsHeld, AreFoundOnce, AreFoundOnceButLast};
 
@@ -75,6 +77,13 @@ pub fn all_is_needed()
     ensures needed { (files : Paths) (roots : List (List ℕ)) (path : List ℕ) (program : Found) (s : Loading) → load files roots path ≡ Ok (program, s) → NeedsAll s.done program }
     ensures chains { (files : Paths) (roots : List (List ℕ)) (path : List ℕ) (program : Found) (s : Loading) → load files roots path ≡ Ok (program, s) → ChainsLeadToNeeds s.done program }
     ensures all { (files : Paths) (roots : List (List ℕ)) (path : List ℕ) (program : Found) (s : Loading) → load files roots path ≡ Ok (program, s) → ImportsLeadToAll s.done program }
+{}
+
+/// The order is depth first along the imports: each library comes behind all that its own imports load, and
+/// before what the next import loads, at the first reference to it. There is one such order.
+pub fn order_is_depth_first()
+    ensures follows { (files : Paths) (roots : List (List ℕ)) (path : List ℕ) (program : Found) (s : Loading) → load files roots path ≡ Ok (program, s) → AreInOrder s.done program }
+    ensures only { (files : Paths) (roots : List (List ℕ)) (path : List ℕ) (program : Found) (s : Loading) → load files roots path ≡ Ok (program, s) → IsTheOrder s.done program }
 {}
 
 /// Each library is what the file of its name holds below the first root that has this file.

@@ -1,0 +1,7 @@
+pub mod Parts
+pub mod EqualLemmas
+pub mod SameLemmas
+pub mod RunLemmas
+pub mod TemporaryLemmas
+pub mod TextLemmas
+pub mod DataLemmas

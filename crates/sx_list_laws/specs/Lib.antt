@@ -1,0 +1,5 @@
+pub mod Equals
+pub mod Older
+pub mod Runs
+pub mod Texts
+pub mod Data
