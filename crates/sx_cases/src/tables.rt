@@ -25,6 +25,8 @@ pub mod patterns;
 pub mod positions;
 pub mod quasi;
 pub mod realistic;
+pub mod record_uses;
+pub mod records;
 pub mod rules;
 pub mod templates;
 pub mod transformer_faults;
