@@ -70,11 +70,7 @@ fn fixed_field(alloc: Global, name: &Syn, id: &Syn) -> Result<Field, Memory>
 
 /// `(immutable id)` or `(immutable id accessor)`.
 #[tactic(auto, unfolding(crate::specs::Clauses::immutable_field))]
-fn immutable_field(
-    alloc: Global,
-    name: &Syn,
-    operands: &[Syn],
-) -> Result<Option<Field>, Memory>
+fn immutable_field(alloc: Global, name: &Syn, operands: &[Syn]) -> Result<Option<Field>, Memory>
     ensures { IfOk result (λ f. f ≡ immutable_field name.now operands.now) }
 {
     match operands {
@@ -172,12 +168,7 @@ fn field_in(
 
 /// A field of the record type with this name; a bare identifier is an immutable one.
 #[tactic(auto, unfolding(crate::specs::Clauses::field_of))]
-fn field_of(
-    alloc: Global,
-    name: &Syn,
-    form: &Syn,
-    frames: &Frames,
-) -> Result<Option<Field>, Memory>
+fn field_of(alloc: Global, name: &Syn, form: &Syn, frames: &Frames) -> Result<Option<Field>, Memory>
     ensures { IfOk result (λ f. f ≡ field_of frames.now name.now form.now) }
 {
     if is_id(alloc, form)? {

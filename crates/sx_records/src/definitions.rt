@@ -379,11 +379,7 @@ fn push_field(
 }
 
 /// Adds the definitions of all fields.
-fn push_fields(
-    alloc: Global,
-    fields: &[Field],
-    forms: &mut Items<Syn>,
-) -> Result<(), BareStop>
+fn push_fields(alloc: Global, fields: &[Field], forms: &mut Items<Syn>) -> Result<(), BareStop>
     ensures { BareGives (λ _. forms.new) result (with_fields 0 forms.old fields.now) }
 {
     let mut number: u64 = 0;

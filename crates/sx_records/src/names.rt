@@ -13,7 +13,6 @@ use sx_names::{put_library, put_name_part};
 use sx_shapes::lists::{is_id, proper};
 use sx_syntax::syn::{Opened, Syn};
 
-
 /// What a form that defines a record type binds besides its fields.
 #[derive(Drop)]
 pub struct RecordNames {

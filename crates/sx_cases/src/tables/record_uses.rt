@@ -115,7 +115,8 @@ file ./m.sls
 => 22 Duplicate: p"##;
 
 /// Record types that macros define, and that libraries export.
-pub const RECORD_MACROS: &str = r##"; names that the form makes stand where the record type's name stands
+pub const RECORD_MACROS: &str =
+    r##"; names that the form makes stand where the record type's name stands
 (import (rnrs) (rnrs records syntactic))
 (define-syntax def (syntax-rules () ((_ n c ...) (define-record-type n c ...))))
 (def p (fields x) (sealed #t))
