@@ -71,4 +71,4 @@ unfoldable pub record_symbol : Tree → List ℕ
 record_symbol t = symbol_behind (proper_elements t)
 
 unfoldable pub record_uid : LibName → Tree → ℕ → List ℕ
-record_uid own t n = (((library_text own ++ codes "/") ++ name_part (record_symbol t)) ++ codes "/") ++ decimal n
+record_uid own t n = library_text own ++ codes "/" ++ name_part (record_symbol t) ++ codes "/" ++ decimal n

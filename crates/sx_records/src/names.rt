@@ -156,7 +156,7 @@ fn spec_symbol(alloc: Global, spec: &Syn) -> Result<Symbol, Memory>
     let Some(parts) = proper(alloc, spec)? else {
         return Symbol::new(alloc, "");
     };
-    let [name, ..] = parts.as_slice() else {
+    let [name, _others @ ..] = parts.as_slice() else {
         return Symbol::new(alloc, "");
     };
     symbol_of(alloc, name)
@@ -170,7 +170,7 @@ fn record_symbol(alloc: Global, form: &Syn) -> Result<Symbol, Memory>
     let Some(parts) = proper(alloc, form)? else {
         return Symbol::new(alloc, "");
     };
-    let [_head, spec, ..] = parts.as_slice() else {
+    let [_head, spec, _clauses @ ..] = parts.as_slice() else {
         return Symbol::new(alloc, "");
     };
     spec_symbol(alloc, spec)

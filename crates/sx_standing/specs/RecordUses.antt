@@ -1,5 +1,5 @@
 -- Uses of the record forms (libraries report 6.2). Nothing is evaluated.
-use Rattle.std.specs.Prelude.{ℕ, ◌+◌, Option, Result, Ok, Err}
+use Rattle.std.specs.Prelude.{ℕ, ◌+◌, Bool, true, false, Option, Result, Ok, Err, if◌then◌else◌}
 use Rattle.sx_base.specs.Act.{after, give}
 use Rattle.sx_base.specs.declared.fault.Fault.{Fault}
 use Rattle.sx_base.specs.declared.name.FrameNo.{FrameNo}
@@ -18,10 +18,13 @@ abbrev pub at_state : {A : Type 0} → State → Result A Fault → Result (A ×
 at_state s (Ok x) = Ok (x, s)
 at_state s (Err f) = Err f
 
+abbrev pub defines_type : CoreForm → Bool
+defines_type core_forms.DefineRecordType = true
+defines_type _ = false
+
 -- how many uses of `define-record-type` there were before this use; the other forms aren't counted
 unfoldable pub count_record_type : CoreForm → Does ℕ
-count_record_type core_forms.DefineRecordType s = Ok (s.record_types, record s { record_types = s.record_types + 1 })
-count_record_type f s = Ok (s.record_types, s)
+count_record_type f s = Ok (s.record_types, if defines_type f then record s { record_types = s.record_types + 1 } else s)
 
 -- what a form comes to, at a place, with so many uses before it
 unfoldable pub record_tree : Span → Tree → CoreForm → ℕ → Does Tree

@@ -2,7 +2,7 @@
 
 ghost use Rattle.std.specs.Prelude.{◌≡◌};
 ghost use Rattle.sx_base.specs.Act.{GivesAfter};
-ghost use Rattle.sx_standing.specs.RecordUses.{count_record_type, record_tree, record_marked, use_record};
+ghost use Rattle.sx_standing.specs.RecordUses.{defines_type, count_record_type, record_tree, record_marked, use_record};
 
 use crate::expansion::Expansion;
 use std::sync::ledger::Ledger;
@@ -15,6 +15,13 @@ use sx_records::forms::record_forms;
 use sx_records::names::record_uid;
 use sx_syntax::syn::Syn;
 
+/// Whether it is `define-record-type`.
+fn defines_type(form: CoreForm) -> bool
+    ensures { result ≡ defines_type form }
+{
+    matches!(form, CoreForm::DefineRecordType)
+}
+
 impl Expansion {
     /// How many uses of `define-record-type` there were before this use. The other forms aren't counted.
     #[tactic(auto, unfolding(crate::specs::RecordUses::count_record_type))]
@@ -22,12 +29,13 @@ impl Expansion {
         ensures { GivesAfter (λ n. n) result self.new (count_record_type which self.old) }
     {
         let before = self.record_types;
-        if which == CoreForm::DefineRecordType {
-            let Some(next) = before.checked_add(1) else {
-                return Err(Stop::Memory);
-            };
-            self.record_types = next;
+        if !defines_type(which) {
+            return Ok(before);
         }
+        let Some(next) = before.checked_add(1) else {
+            return Err(Stop::Memory);
+        };
+        self.record_types = next;
         Ok(before)
     }
 
@@ -41,7 +49,7 @@ impl Expansion {
     ) -> Result<Syn, Stop>
         ensures { GivesAfter (λ t. t) result self.now (record_tree place.now form.now which before self.now) }
     {
-        let uid = record_uid(self.alloc, &self.library, form, before)?;
+        let uid = record_uid(self.alloc, self.library(), form, before)?;
         record_forms(self.alloc, form, which, place, &uid, self.frames())
     }
 
