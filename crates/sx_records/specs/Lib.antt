@@ -4,3 +4,4 @@ pub mod Clauses
 pub mod Definitions
 pub mod Forms
 pub mod Frame
+pub mod Binders

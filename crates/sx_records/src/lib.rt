@@ -34,4 +34,5 @@ pub mod definitions;
 pub mod forms;
 pub mod frame;
 pub mod introduced;
+pub mod laws;
 pub mod names;
