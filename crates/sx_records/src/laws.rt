@@ -19,6 +19,6 @@ pub fn a_record_type_binds_its_names()
 
 /// The identifiers of the two descriptors have the mark of the use alone, which no identifier of the program has.
 pub fn descriptors_have_the_mark_of_the_use()
-    ensures rtd { (m : AnyMark) (frame : Option AnyFrame) → marks_of (leave m frame rtd) ≡ m ∷ [] }
-    ensures rcd { (m : AnyMark) (frame : Option AnyFrame) → marks_of (leave m frame rcd) ≡ m ∷ [] }
+    ensures type_descriptor { (m : AnyMark) (frame : Option AnyFrame) → marks_of (leave m frame rtd) ≡ m ∷ [] }
+    ensures constructor_descriptor { (m : AnyMark) (frame : Option AnyFrame) → marks_of (leave m frame rcd) ≡ m ∷ [] }
 {}
