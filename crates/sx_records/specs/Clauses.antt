@@ -59,14 +59,14 @@ mutable_field name (id ∷ (get ∷ (put ∷ []))) =
     if is_leaf id then (if is_leaf get then (if is_leaf put then Some (field_with id get (Some put)) else None) else None) else None
 mutable_field name _ = None
 
-abbrev pub field_by : Tree → List Tree → Option CoreForm → Option Field
-field_by name operands (Some form.Immutable) = immutable_field name operands
-field_by name operands (Some form.Mutable) = mutable_field name operands
+abbrev pub field_by : Tree → List Tree → CoreForm → Option Field
+field_by name operands form.Immutable = immutable_field name operands
+field_by name operands form.Mutable = mutable_field name operands
 field_by name operands _ = None
 
 abbrev pub field_in : Scope → Tree → List Tree → Option Field
 field_in fs name [] = None
-field_in fs name (head ∷ operands) = field_by name operands (keyword_of fs head)
+field_in fs name (head ∷ operands) = if_some (keyword_of fs head) (field_by name operands)
 
 -- a field of the record type with this name
 unfoldable pub field_of : Scope → Tree → Tree → Option Field
@@ -115,19 +115,19 @@ nongenerative_clause [] = Some (clause.Nongenerative uid.Generated)
 nongenerative_clause (id ∷ []) = if is_leaf id then Some (clause.Nongenerative (uid.Given id)) else None
 nongenerative_clause _ = None
 
-abbrev pub clause_by : Scope → Tree → List Tree → Option CoreForm → Option RecordClause
-clause_by fs name operands (Some form.Fields) = fields_clause fs name operands
-clause_by fs name operands (Some form.Parent) = parent_clause operands
-clause_by fs name operands (Some form.ParentRtd) = parent_rtd_clause operands
-clause_by fs name operands (Some form.Protocol) = protocol_clause operands
-clause_by fs name operands (Some form.Sealed) = sealed_clause operands
-clause_by fs name operands (Some form.Opaque) = opaque_clause operands
-clause_by fs name operands (Some form.Nongenerative) = nongenerative_clause operands
+abbrev pub clause_by : Scope → Tree → List Tree → CoreForm → Option RecordClause
+clause_by fs name operands form.Fields = fields_clause fs name operands
+clause_by fs name operands form.Parent = parent_clause operands
+clause_by fs name operands form.ParentRtd = parent_rtd_clause operands
+clause_by fs name operands form.Protocol = protocol_clause operands
+clause_by fs name operands form.Sealed = sealed_clause operands
+clause_by fs name operands form.Opaque = opaque_clause operands
+clause_by fs name operands form.Nongenerative = nongenerative_clause operands
 clause_by fs name operands _ = None
 
 abbrev pub clause_in : Scope → Tree → List Tree → Option RecordClause
 clause_in fs name [] = None
-clause_in fs name (head ∷ operands) = clause_by fs name operands (keyword_of fs head)
+clause_in fs name (head ∷ operands) = if_some (keyword_of fs head) (clause_by fs name operands)
 
 unfoldable pub clause_of : Scope → Tree → Tree → Option RecordClause
 clause_of fs name t = if_some (proper_elements t) (clause_in fs name)

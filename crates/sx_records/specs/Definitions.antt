@@ -57,15 +57,21 @@ or_no_fields (Some fs) = fs
 unfoldable pub fields_part : Option (List Field) → Made
 fields_part fs = (field_entries [] (or_no_fields fs) >>= vector_made) >>= quoted
 
+abbrev pub type_in : Parent → Made
+type_in (parents.Named id) = list_of_two id type_word
+type_in (parents.Descriptors r c) = Ok r
+
 abbrev pub parent_type : Option Parent → Made
 parent_type None = Ok (boolean false)
-parent_type (Some (parents.Named id)) = list_of_two id type_word
-parent_type (Some (parents.Descriptors r c)) = Ok r
+parent_type (Some p) = type_in p
+
+abbrev pub uid_in : List ℕ → Uid → Made
+uid_in own uid.Generated = quoted (introduced own)
+uid_in own (uid.Given id) = quoted id
 
 abbrev pub uid_part : List ℕ → Option Uid → Made
 uid_part own None = Ok (boolean false)
-uid_part own (Some uid.Generated) = quoted (introduced own)
-uid_part own (Some (uid.Given id)) = quoted id
+uid_part own (Some u) = uid_in own u
 
 abbrev pub or_false : Option Bool → Bool
 or_false None = false
@@ -84,10 +90,13 @@ type_value own names cs =
 
 -- What makes records.
 
+abbrev pub constructor_in : Parent → Made
+constructor_in (parents.Named id) = list_of_two id constructor_word
+constructor_in (parents.Descriptors r c) = Ok c
+
 abbrev pub parent_constructor : Option Parent → Made
 parent_constructor None = Ok (boolean false)
-parent_constructor (Some (parents.Named id)) = list_of_two id constructor_word
-parent_constructor (Some (parents.Descriptors r c)) = Ok c
+parent_constructor (Some p) = constructor_in p
 
 abbrev pub protocol_part : Option Tree → Tree
 protocol_part None = boolean false

@@ -4,7 +4,7 @@ ghost use Rattle.std.specs.Prelude.{◌≡◌, [], IfOk};
 ghost use Rattle.sx_base.specs.Gives.{Gives};
 ghost use Rattle.sx_shapes.specs.Lists.{all_of};
 ghost use Rattle.sx_records.specs.declared.clause.RecordClause.TheVariants as record_clause;
-ghost use Rattle.sx_records.specs.Clauses.{numbered, labelled, keyword_of, fixed_field, immutable_field, mutable_field, field_by, field_in, field_of, fields_clause, parent_clause, parent_rtd_clause, protocol_clause, truth_of, only_truth, sealed_clause, opaque_clause, nongenerative_clause, clause_by, clause_in, clause_of, no_clauses, with_clause, next_clause, all_clauses};
+ghost use Rattle.sx_records.specs.Clauses.{numbered, labelled, keyword_of, fixed_field, immutable_field, mutable_field, field_by, field_in, field_of, fields_clause, parent_clause, parent_rtd_clause, protocol_clause, truth_in, truth_of, only_truth, sealed_clause, opaque_clause, nongenerative_clause, clause_by, clause_in, clause_of, no_clauses, with_clause, next_clause, all_clauses};
 
 use crate::clause::{Clauses, Field, Parent, RecordClause, Uid};
 use crate::names::{made_accessor, made_mutator};
@@ -140,13 +140,13 @@ fn field_by(
     alloc: Global,
     name: &Syn,
     operands: &[Syn],
-    keyword: Option<CoreForm>,
+    keyword: CoreForm,
 ) -> Result<Option<Field>, Memory>
     ensures { IfOk result (λ f. f ≡ field_by name.now operands.now keyword) }
 {
     match keyword {
-        Some(CoreForm::Immutable) => immutable_field(alloc, name, operands),
-        Some(CoreForm::Mutable) => mutable_field(alloc, name, operands),
+        CoreForm::Immutable => immutable_field(alloc, name, operands),
+        CoreForm::Mutable => mutable_field(alloc, name, operands),
         _ => Ok(None),
     }
 }
@@ -162,7 +162,9 @@ fn field_in(
     let [head, operands @ ..] = parts else {
         return Ok(None);
     };
-    let keyword = keyword_of(alloc, head, frames)?;
+    let Some(keyword) = keyword_of(alloc, head, frames)? else {
+        return Ok(None);
+    };
     field_by(alloc, name, operands, keyword)
 }
 
@@ -250,13 +252,24 @@ fn protocol_clause(operands: &[Syn]) -> Result<Option<RecordClause>, Memory>
     Ok(Some(RecordClause::Protocol(expression.share()?)))
 }
 
+fn truth_in(atom: &Atom) -> Option<bool>
+    ensures { result ≡ truth_in atom.now }
+{
+    match atom {
+        Atom::Bool(value) => Some(*value),
+        _ => None,
+    }
+}
+
 /// `#t` or `#f`.
 fn truth_of(alloc: Global, form: &Syn) -> Result<Option<bool>, Memory>
     ensures { IfOk result (λ b. b ≡ truth_of form.now) }
 {
     match form.open(alloc)? {
-        Opened::Atom(Atom::Bool(value)) => Ok(Some(value)),
-        _ => Ok(None),
+        Opened::Atom(atom) => Ok(truth_in(&atom)),
+        Opened::Symbol(_) => Ok(None),
+        Opened::Pair(_, _) => Ok(None),
+        Opened::Vector(_) => Ok(None),
     }
 }
 
@@ -310,19 +323,19 @@ fn clause_by(
     alloc: Global,
     name: &Syn,
     operands: &[Syn],
-    keyword: Option<CoreForm>,
+    keyword: CoreForm,
     frames: &Frames,
 ) -> Result<Option<RecordClause>, Memory>
     ensures { IfOk result (λ c. c ≡ clause_by frames.now name.now operands.now keyword) }
 {
     match keyword {
-        Some(CoreForm::Fields) => fields_clause(alloc, name, operands, frames),
-        Some(CoreForm::Parent) => parent_clause(alloc, operands),
-        Some(CoreForm::ParentRtd) => parent_rtd_clause(operands),
-        Some(CoreForm::Protocol) => protocol_clause(operands),
-        Some(CoreForm::Sealed) => sealed_clause(alloc, operands),
-        Some(CoreForm::Opaque) => opaque_clause(alloc, operands),
-        Some(CoreForm::Nongenerative) => nongenerative_clause(alloc, operands),
+        CoreForm::Fields => fields_clause(alloc, name, operands, frames),
+        CoreForm::Parent => parent_clause(alloc, operands),
+        CoreForm::ParentRtd => parent_rtd_clause(operands),
+        CoreForm::Protocol => protocol_clause(operands),
+        CoreForm::Sealed => sealed_clause(alloc, operands),
+        CoreForm::Opaque => opaque_clause(alloc, operands),
+        CoreForm::Nongenerative => nongenerative_clause(alloc, operands),
         _ => Ok(None),
     }
 }
@@ -338,7 +351,9 @@ fn clause_in(
     let [head, operands @ ..] = parts else {
         return Ok(None);
     };
-    let keyword = keyword_of(alloc, head, frames)?;
+    let Some(keyword) = keyword_of(alloc, head, frames)? else {
+        return Ok(None);
+    };
     clause_by(alloc, name, operands, keyword, frames)
 }
 

@@ -3,7 +3,7 @@
 ghost use Rattle.std.specs.Prelude.{◌≡◌, [], IfOk};
 ghost use Rattle.sx_base.specs.Gives.{BareGives};
 ghost use Rattle.sx_records.specs.Introduced.{list_of_two};
-ghost use Rattle.sx_records.specs.Definitions.{rtd, rcd, type_word, constructor_word, definition, definition_by, mutability, field_entry, field_entries, fields_part, parent_type, uid_part, or_false, type_value, parent_constructor, protocol_part, constructor_value, keyword_clause, keyword_body, keyword_value, keyword_definition, constructor_definition, predicate_definition, place_in, accessor_definition, mutator_definition, with_mutator, with_field, with_fields, first_definitions, definitions, or_no_fields};
+ghost use Rattle.sx_records.specs.Definitions.{rtd, rcd, type_word, constructor_word, definition, definition_by, mutability, field_entry, field_entries, fields_part, type_in, parent_type, uid_in, uid_part, or_false, type_value, constructor_in, parent_constructor, protocol_part, constructor_value, keyword_clause, keyword_body, keyword_value, keyword_definition, constructor_definition, predicate_definition, place_in, accessor_definition, mutator_definition, with_mutator, with_field, with_fields, first_definitions, definitions, or_no_fields};
 
 use crate::clause::{Clauses, Field, Parent, Uid};
 use crate::introduced::{
@@ -101,6 +101,22 @@ fn fields_part(alloc: Global, fields: &Option<Items<Field>>) -> Result<Syn, Bare
     quoted(alloc, vector)
 }
 
+fn type_in(alloc: Global, parent: &Parent) -> Result<Syn, BareStop>
+    ensures { BareGives (λ t. t) result (type_in parent.now) }
+{
+    match parent {
+        Parent::Named(id) => {
+            let id = id.share()?;
+            let word = type_word(alloc)?;
+            list_of_two(alloc, id, word)
+        }
+        Parent::Descriptors(rtd, _) => {
+            let rtd = rtd.share()?;
+            Ok(rtd)
+        }
+    }
+}
+
 fn parent_type(alloc: Global, parent: &Option<Parent>) -> Result<Syn, BareStop>
     ensures { BareGives (λ t. t) result (parent_type parent.now) }
 {
@@ -109,14 +125,21 @@ fn parent_type(alloc: Global, parent: &Option<Parent>) -> Result<Syn, BareStop>
             let none = boolean(alloc, false)?;
             Ok(none)
         }
-        Some(Parent::Named(id)) => {
-            let id = id.share()?;
-            let word = type_word(alloc)?;
-            list_of_two(alloc, id, word)
+        Some(parent) => type_in(alloc, parent),
+    }
+}
+
+fn uid_in(alloc: Global, own: &Symbol, uid: &Uid) -> Result<Syn, BareStop>
+    ensures { BareGives (λ t. t) result (uid_in own.now uid.now) }
+{
+    match uid {
+        Uid::Generated => {
+            let id = introduced_symbol(alloc, own)?;
+            quoted(alloc, id)
         }
-        Some(Parent::Descriptors(rtd, _)) => {
-            let rtd = rtd.share()?;
-            Ok(rtd)
+        Uid::Given(id) => {
+            let id = id.share()?;
+            quoted(alloc, id)
         }
     }
 }
@@ -129,14 +152,7 @@ fn uid_part(alloc: Global, own: &Symbol, uid: &Option<Uid>) -> Result<Syn, BareS
             let none = boolean(alloc, false)?;
             Ok(none)
         }
-        Some(Uid::Generated) => {
-            let id = introduced_symbol(alloc, own)?;
-            quoted(alloc, id)
-        }
-        Some(Uid::Given(id)) => {
-            let id = id.share()?;
-            quoted(alloc, id)
-        }
+        Some(uid) => uid_in(alloc, own, uid),
     }
 }
 
@@ -178,6 +194,22 @@ fn type_value(
     list_made(alloc, forms)
 }
 
+fn constructor_in(alloc: Global, parent: &Parent) -> Result<Syn, BareStop>
+    ensures { BareGives (λ t. t) result (constructor_in parent.now) }
+{
+    match parent {
+        Parent::Named(id) => {
+            let id = id.share()?;
+            let word = constructor_word(alloc)?;
+            list_of_two(alloc, id, word)
+        }
+        Parent::Descriptors(_, rcd) => {
+            let rcd = rcd.share()?;
+            Ok(rcd)
+        }
+    }
+}
+
 fn parent_constructor(alloc: Global, parent: &Option<Parent>) -> Result<Syn, BareStop>
     ensures { BareGives (λ t. t) result (parent_constructor parent.now) }
 {
@@ -186,15 +218,7 @@ fn parent_constructor(alloc: Global, parent: &Option<Parent>) -> Result<Syn, Bar
             let none = boolean(alloc, false)?;
             Ok(none)
         }
-        Some(Parent::Named(id)) => {
-            let id = id.share()?;
-            let word = constructor_word(alloc)?;
-            list_of_two(alloc, id, word)
-        }
-        Some(Parent::Descriptors(_, rcd)) => {
-            let rcd = rcd.share()?;
-            Ok(rcd)
-        }
+        Some(parent) => constructor_in(alloc, parent),
     }
 }
 
