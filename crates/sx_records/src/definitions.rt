@@ -156,12 +156,12 @@ fn uid_part(alloc: Global, own: &Symbol, uid: &Option<Uid>) -> Result<Syn, BareS
     }
 }
 
-fn or_false(value: Option<bool>) -> bool
-    ensures { result ≡ or_false value }
+fn or_false(value: &Option<bool>) -> bool
+    ensures { result ≡ or_false value.now }
 {
     match value {
         None => false,
-        Some(value) => value,
+        Some(value) => *value,
     }
 }
 
@@ -181,8 +181,8 @@ fn type_value(
     let uid = uid_part(alloc, own, &clauses.nongenerative)?;
     let fields = fields_part(alloc, &clauses.fields)?;
     let maker = introduced(alloc, "make-record-type-descriptor")?;
-    let sealed = boolean(alloc, or_false(clauses.sealed))?;
-    let opaque = boolean(alloc, or_false(clauses.opaque))?;
+    let sealed = boolean(alloc, or_false(&clauses.sealed))?;
+    let opaque = boolean(alloc, or_false(&clauses.opaque))?;
     let mut forms = Items::new(alloc);
     forms.push(maker)?;
     forms.push(name)?;
