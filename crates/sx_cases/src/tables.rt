@@ -43,6 +43,8 @@ pub mod prim_strings;
 pub mod prim_syntax;
 pub mod quasi;
 pub mod realistic;
+pub mod record_uses;
+pub mod records;
 pub mod rules;
 pub mod templates;
 pub mod transformer_faults;

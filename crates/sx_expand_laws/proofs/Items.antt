@@ -129,7 +129,6 @@ module _ (Q : Taken → Type 0) (P : Taken × Item → State → Type 0) (at : B
   by-target d t (standing.Primitive op) k = waits-so d t k
   by-target d t (standing.Core g) k = waits-so d t k
   by-target d t (standing.Keyword l) k = comes d (items.SetUse l) k
-  by-target d t standing.Unbuilt k = waits-so d t k
 
   by-set : (d : Taken) (t : Tree) (r : Result Shape Fault) → Q d → Gave P (set_item at depth d t r s)
   unfolding keep
@@ -162,7 +161,6 @@ module _ (Q : Taken → Type 0) (P : Taken × Item → State → Type 0) (at : B
   by-standing d t (standing.Primitive op) k = waits-so d t k
   by-standing d t (standing.Core g) k = by-core d t g k
   by-standing d t (standing.Keyword l) k = comes d (items.Use l) k
-  by-standing d t standing.Unbuilt k = tt
 
   by-leaf : (d : Taken) (t : Tree) (st : Standing) → Q d → Gave P (leaf_by at depth d t st s)
   by-leaf d t standing.Nothing k = waits-so d t k
@@ -171,7 +169,6 @@ module _ (Q : Taken → Type 0) (P : Taken × Item → State → Type 0) (at : B
   by-leaf d t (standing.Primitive op) k = waits-so d t k
   by-leaf d t (standing.Core g) k = waits-so d t k
   by-leaf d t (standing.Keyword l) k = comes d (items.Use l) k
-  by-leaf d t standing.Unbuilt k = tt
 
   by-list : (d : Taken) (t head : Tree) → Q d → Gave P (list_item at depth d t head s)
   unfolding list_item keep

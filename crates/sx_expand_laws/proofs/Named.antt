@@ -62,13 +62,12 @@ OfLabel l standing.PatternVariable = Unit {0}
 OfLabel l (standing.Primitive op) = Unit {0}
 OfLabel l (standing.Core f) = Unit {0}
 OfLabel l (standing.Keyword m) = Unit {0}
-OfLabel l standing.Unbuilt = Unit {0}
 
 label-kept : (s : State) (l : Label) → OfLabel l (label_standing s l)
 unfolding label_standing
 label-kept s l = by (same_library l.0.library library.Core)
   where
-    by_keyword : (b : Bool) → OfLabel l (if b then standing.Unbuilt else standing.Primitive (record { 0 = l.0.number }))
+    by_keyword : (b : Bool) → OfLabel l (if b then standing.Nothing else standing.Primitive (record { 0 = l.0.number }))
     by_keyword true = tt
     by_keyword false = tt
 
@@ -105,7 +104,6 @@ finishes level s l standing.PatternVariable p u is of same h = elim h [ ]
 finishes level s l (standing.Primitive o) p u is of same h = subst (λ q. Finishes s (Some l) (standing.Primitive o) q u) (sym h) (inr (o, (is, refl)), same)
 finishes level s l (standing.Core f) p u is of same h = elim h [ ]
 finishes level s l (standing.Keyword m) p u is of same h = subst (λ q. Finishes s (Some l) (standing.Keyword m) q u) (sym h) (refl, same)
-finishes level s l standing.Unbuilt p u is of same h = elim h [ ]
 
 reference-named : (place : Span) (level : ℕ) (id : Tree) (s : State) → Gave (Finishes s (stands s.frames id) (standing_of s id)) (reference place level id s)
 unfolding standing_of
@@ -181,7 +179,6 @@ target-label level s l m standing.PatternVariable of h = elim h [ ]
 target-label level s l m (standing.Primitive o) of h = elim h [ ]
 target-label level s l m (standing.Core f) of h = elim h [ ]
 target-label level s l m (standing.Keyword k) of h = elim h [ ]
-target-label level s l m standing.Unbuilt of h = elim h [ ]
 
 target-named : (place : Span) (level : ℕ) (t id : Tree) (s : State) → Gave (λ l u. stands s.frames id ≡ Some l) (target_by place level t id (standing_of s id) s)
 unfolding standing_of

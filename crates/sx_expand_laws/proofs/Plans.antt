@@ -127,7 +127,6 @@ module _ (P : Plan → State → Type 0) (place : Span) (level : ℕ) (s : State
   by-standing t head rest (standing.Primitive op) = by-application t head rest
   by-standing t head rest (standing.Core f) = by-keyword t head f
   by-standing t head rest (standing.Keyword l) = forms (plans.Use l) tt
-  by-standing t head rest standing.Unbuilt = tt
 
   by-list : (t head rest : Tree) → Gave P (list_plan place level t head rest s)
   unfolding list_plan
@@ -171,7 +170,6 @@ module _ (own : LibName) (place : Span) (level : ℕ) (s : State) (next : s.name
   assigned-later id value (standing.Primitive op) p u k = elim k [ ]
   assigned-later id value (standing.Core f) p u k = elim k [ ]
   assigned-later id value (standing.Keyword l) p u k = subst (Later own s) (sym k.1) (later-self own s next)
-  assigned-later id value standing.Unbuilt p u k = elim k [ ]
 
   -- at most an assignment is noted
   pub plan-later : (t : Tree) → Gave (λ p u. Later own s u) (plan_of place level t s)
