@@ -183,6 +183,7 @@ fn field_of(alloc: Global, name: &Syn, form: &Syn, frames: &Frames) -> Result<Op
     field_in(alloc, name, parts.as_slice(), frames)
 }
 
+#[tactic(auto, using(sx_shapes::proofs::Walks::all_on, sx_shapes::proofs::Walks::all_none, sx_shapes::proofs::Walks::all_done))]
 fn all_fields(
     alloc: Global,
     name: &Syn,
@@ -262,6 +263,7 @@ fn truth_in(atom: &Atom) -> Option<bool>
 }
 
 /// `#t` or `#f`.
+#[tactic(auto, using(crate::proofs::Opened::truth_by_atom, crate::proofs::Opened::no_truth_leaf, crate::proofs::Opened::no_truth_pair, crate::proofs::Opened::no_truth_vector))]
 fn truth_of(alloc: Global, form: &Syn) -> Result<Option<bool>, Memory>
     ensures { IfOk result (λ b. b ≡ truth_of form.now) }
 {
@@ -387,6 +389,7 @@ impl Clauses {
         }
     }
 
+    #[tactic(auto, unfolding(crate::specs::Clauses::with_clause))]
     fn with_fields(self, fields: Items<Field>) -> Option<Clauses>
         ensures { result ≡ with_clause self (record_clause.Fields fields) }
     {
@@ -398,6 +401,7 @@ impl Clauses {
         Some(all)
     }
 
+    #[tactic(auto, unfolding(crate::specs::Clauses::with_clause))]
     fn with_parent(self, parent: Parent) -> Option<Clauses>
         ensures { result ≡ with_clause self (record_clause.Parent parent) }
     {
@@ -409,6 +413,7 @@ impl Clauses {
         Some(all)
     }
 
+    #[tactic(auto, unfolding(crate::specs::Clauses::with_clause))]
     fn with_protocol(self, protocol: Syn) -> Option<Clauses>
         ensures { result ≡ with_clause self (record_clause.Protocol protocol) }
     {
@@ -420,6 +425,7 @@ impl Clauses {
         Some(all)
     }
 
+    #[tactic(auto, unfolding(crate::specs::Clauses::with_clause))]
     fn with_sealed(self, sealed: bool) -> Option<Clauses>
         ensures { result ≡ with_clause self (record_clause.Sealed sealed) }
     {
@@ -431,6 +437,7 @@ impl Clauses {
         Some(all)
     }
 
+    #[tactic(auto, unfolding(crate::specs::Clauses::with_clause))]
     fn with_opaque(self, opaque: bool) -> Option<Clauses>
         ensures { result ≡ with_clause self (record_clause.Opaque opaque) }
     {
@@ -442,6 +449,7 @@ impl Clauses {
         Some(all)
     }
 
+    #[tactic(auto, unfolding(crate::specs::Clauses::with_clause))]
     fn with_uid(self, uid: Uid) -> Option<Clauses>
         ensures { result ≡ with_clause self (record_clause.Nongenerative uid) }
     {
@@ -490,6 +498,7 @@ fn next_clause(
 }
 
 /// All clauses of the form that defines the record type with this name, from left to right.
+#[tactic(auto, using(crate::proofs::Walks::clauses_on, crate::proofs::Walks::clauses_stop, crate::proofs::Walks::clauses_done))]
 pub(crate) fn all_clauses(
     alloc: Global,
     name: &Syn,

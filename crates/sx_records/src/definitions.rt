@@ -71,6 +71,7 @@ fn field_entry(alloc: Global, field: &Field) -> Result<Syn, BareStop>
     list_of_two(alloc, word, id)
 }
 
+#[tactic(auto, using(crate::proofs::Walks::entries_on, crate::proofs::Walks::entries_stop, crate::proofs::Walks::entries_done))]
 fn field_entries(alloc: Global, fields: &[Field]) -> Result<Items<Syn>, BareStop>
     ensures { BareGives (λ ts. ts) result (field_entries [] fields.now) }
 {
@@ -403,6 +404,7 @@ fn push_field(
 }
 
 /// Adds the definitions of all fields.
+#[tactic(auto, using(crate::proofs::Walks::fields_on, crate::proofs::Walks::fields_stop, crate::proofs::Walks::fields_done))]
 fn push_fields(alloc: Global, fields: &[Field], forms: &mut Items<Syn>) -> Result<(), BareStop>
     ensures { BareGives (λ _. forms.new) result (with_fields 0 forms.old fields.now) }
 {
