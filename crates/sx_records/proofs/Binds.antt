@@ -1,10 +1,14 @@
 -- What the definitions of a record type bind.
-use Rattle.std.proofs.Common.{◌≡◌, ℕ, ◌+◌, Bool, true, false, List, [], ◌∷◌, ◌++◌, Option, None, Some, Ok, Err, refl, ap, sym, ◌∙◌, append_assoc, drop}
+use Rattle.std.proofs.Common.{◌≡◌, ℕ, ◌+◌, Bool, true, false, List, [], ◌∷◌, ◌++◌, Option, None, Some, Ok, Err, refl, ap, sym, ◌∙◌, subst, append_assoc, drop}
 use Rattle.std.specs.List.{flat_map}
 use Rattle.std.specs.Prelude.{Result, codes, if◌then◌else◌}
 use Rattle.sx_base.specs.Gives.{◌>>=◌}
 use Rattle.sx_base.specs.declared.fault.Bare.{Bare}
-use Rattle.sx_tree.specs.Measures.{within, fits}
+use Rattle.sx_base.specs.declared.name.FrameNo.{FrameNo}
+use Rattle.sx_base.specs.declared.name.Mark.{Mark}
+use Rattle.sx_tree.specs.Changes.{leave}
+use Rattle.sx_tree.specs.Leaves.{marks_of}
+use Rattle.sx_tree.specs.Measures.{within, fits, too_deep}
 use Rattle.sx_tree.specs.Tree.{Tree, nil, chain, list_of}
 use Rattle.sx_shapes.specs.Lists.{elements}
 use Rattle.sx_records.specs.Binders.{binder_of, binders, second_of, if_there, field_names, type_names}
@@ -27,7 +31,7 @@ within_is : (t u : Tree) → within t ≡ Ok u → t ≡ u
 unfolding within
 within_is t u h = go (fits t) refl h
   where
-    go : (b : Bool) → fits t ≡ b → (if b then Ok t else Err _) ≡ Ok u → t ≡ u
+    go : (b : Bool) → fits t ≡ b → (if b then Ok t else Err too_deep) ≡ Ok u → t ≡ u
     go true e k = cc
     go false e k = absurd (cc)
 
@@ -59,33 +63,44 @@ flat_joined [] ys = refl
 flat_joined (x ∷ xs) ys = ap (λ zs. binder_of x ++ zs) (flat_joined xs ys) ∙ sym (append_assoc (binder_of x) (flat_map binder_of xs) (flat_map binder_of ys))
 
 -- the definitions `more` of these names stand behind those that were there
-abbrev Adds : List Tree → List Tree → List Tree → Type 0
-Adds done names ts = (more : List Tree) × (ts ≡ done ++ more) × (flat_map binder_of more ≡ names)
+record Adds (done names ts : List Tree) : Type 0 where
+  more : List Tree
+  is : ts ≡ done ++ more
+  binds : flat_map binder_of more ≡ names
 
 one_more : (done : List Tree) (t id : Tree) → binder_of t ≡ id ∷ [] → Adds done (id ∷ []) (done ++ t ∷ [])
-one_more done t id e = (t ∷ [], refl, ap (λ xs. xs ++ []) e)
+one_more done t id e = record { more = t ∷ []; is = refl; binds = ap (λ xs. xs ++ []) e }
 
 none_more : (ts : List Tree) → ts ≡ ts ++ []
 none_more [] = refl
 none_more (t ∷ ts) = ap (λ us. t ∷ us) (none_more ts)
 
 and_more : (done mid ts names others : List Tree) → Adds done names mid → Adds mid others ts → Adds done (names ++ others) ts
-and_more done mid ts names others (xs, e, f) (ys, g, h) =
-    (xs ++ ys, g ∙ ap (λ zs. zs ++ ys) e ∙ append_assoc done xs ys, flat_joined xs ys ∙ ap (λ zs. zs ++ flat_map binder_of ys) f ∙ ap (λ zs. names ++ zs) h)
+and_more done mid ts names others a b = record {
+  more = a.more ++ b.more;
+  is = b.is ∙ ap (λ zs. zs ++ b.more) a.is ∙ append_assoc done a.more b.more;
+  binds = flat_joined a.more b.more ∙ ap (λ zs. zs ++ flat_map binder_of b.more) a.binds ∙ ap (λ zs. names ++ zs) b.binds;
+}
+
+abbrev mutator_made : ℕ → Made
+mutator_made k = list_of_three (introduced (codes "record-mutator")) rtd (place_in k)
+
+abbrev accessor_made : ℕ → Made
+accessor_made k = list_of_three (introduced (codes "record-accessor")) rtd (place_in k)
 
 mutator_adds : (k : ℕ) (done : List Tree) (put : Option Tree) (ts : List Tree) → with_mutator k done put ≡ Ok ts → Adds done (if_there put) ts
-mutator_adds k done None ts h = ([], (let e : done ≡ ts = cc in sym e ∙ none_more done), refl)
+mutator_adds k done None ts h = let e : done ≡ ts = cc in record { more = []; is = sym e ∙ none_more done; binds = refl }
 mutator_adds k done (Some put) ts h =
     from_ok (mutator_definition k put) (λ t. Ok (done ++ t ∷ [])) ts h
-    (λ t e g. let is : done ++ t ∷ [] ≡ ts = cc in subst (λ us. Adds done (put ∷ []) us) is (one_more done t put (by_binds put _ t e)))
+    (λ t e g. let is : done ++ t ∷ [] ≡ ts = cc in subst (λ us. Adds done (put ∷ []) us) is (one_more done t put (by_binds put (mutator_made k) t e)))
 
 field_adds : (k : ℕ) (done : List Tree) (f : Field) (ts : List Tree) → with_field k done f ≡ Ok ts → Adds done (field_names f) ts
 field_adds k done f ts h =
     from_ok (accessor_definition k f.accessor) (λ t. with_mutator k (done ++ t ∷ []) f.mutator) ts h
-    (λ t e g. and_more done (done ++ t ∷ []) ts (f.accessor ∷ []) (if_there f.mutator) (one_more done t f.accessor (by_binds f.accessor _ t e)) (mutator_adds k (done ++ t ∷ []) f.mutator ts g))
+    (λ t e g. and_more done (done ++ t ∷ []) ts (f.accessor ∷ []) (if_there f.mutator) (one_more done t f.accessor (by_binds f.accessor (accessor_made k) t e)) (mutator_adds k (done ++ t ∷ []) f.mutator ts g))
 
 fields_add : (k : ℕ) (done : List Tree) (fs : List Field) (ts : List Tree) → with_fields k done fs ≡ Ok ts → Adds done (flat_map field_names fs) ts
-fields_add k done [] ts h = ([], (let e : done ≡ ts = cc in sym e ∙ none_more done), refl)
+fields_add k done [] ts h = let e : done ≡ ts = cc in record { more = []; is = sym e ∙ none_more done; binds = refl }
 fields_add k done (f ∷ fs) ts h =
     from_ok (with_field k done f) (λ us. with_fields (k + 1) us fs) ts h
     (λ us e g. and_more done us ts (field_names f) (flat_map field_names fs) (field_adds k done f us e) (fields_add (k + 1) us fs ts g))
@@ -98,16 +113,19 @@ five_bind own names cs a b c d e ea eb ec ed ee =
     let fa : binder_of a ≡ rtd ∷ [] = by_binds rtd (type_value own names cs) a ea in
     let fb : binder_of b ≡ rcd ∷ [] = by_binds rcd (constructor_value cs) b eb in
     let fc : binder_of c ≡ names.name ∷ [] = keyword_binds names.name c ec in
-    let fd : binder_of d ≡ names.constructor ∷ [] = by_binds names.constructor _ d ed in
-    let fe : binder_of e ≡ names.predicate ∷ [] = by_binds names.predicate _ e ee in
+    let fd : binder_of d ≡ names.constructor ∷ [] = by_binds names.constructor (list_of_two (introduced (codes "record-constructor")) rcd) d ed in
+    let fe : binder_of e ≡ names.predicate ∷ [] = by_binds names.predicate (list_of_two (introduced (codes "record-predicate")) rtd) e ee in
     ap (λ xs. xs ++ (binder_of b ++ (binder_of c ++ (binder_of d ++ (binder_of e ++ []))))) fa
     ∙ ap (λ xs. rtd ∷ (xs ++ (binder_of c ++ (binder_of d ++ (binder_of e ++ []))))) fb
     ∙ ap (λ xs. rtd ∷ (rcd ∷ (xs ++ (binder_of d ++ (binder_of e ++ []))))) fc
     ∙ ap (λ xs. rtd ∷ (rcd ∷ (names.name ∷ (xs ++ (binder_of e ++ []))))) fd
     ∙ ap (λ xs. rtd ∷ (rcd ∷ (names.name ∷ (names.constructor ∷ (xs ++ []))))) fe
 
-abbrev Begins : RecordNames → List Tree → Type 0
-Begins names ts = (begin : Tree) × (more : List Tree) × (ts ≡ begin ∷ more) × (flat_map binder_of more ≡ rtd ∷ (rcd ∷ (names.name ∷ (names.constructor ∷ (names.predicate ∷ [])))))
+record Begins (names : RecordNames) (ts : List Tree) : Type 0 where
+  begin : Tree
+  more : List Tree
+  is : ts ≡ begin ∷ more
+  binds : flat_map binder_of more ≡ rtd ∷ (rcd ∷ (names.name ∷ (names.constructor ∷ (names.predicate ∷ []))))
 
 -- the first definitions, behind `begin`
 first_bind : (own : List ℕ) (names : RecordNames) (cs : Clauses) (ts : List Tree) → first_definitions own names cs ≡ Ok ts → Begins names ts
@@ -118,16 +136,16 @@ first_bind own names cs ts h =
     from_ok (keyword_definition names.name) _ ts h2 (λ c ec h3.
     from_ok (constructor_definition names.constructor) _ ts h3 (λ d ed h4.
     from_ok (predicate_definition names.predicate) _ ts h4 (λ e ee h5.
-    let is : introduced (codes "begin") ∷ (a ∷ (b ∷ (c ∷ (d ∷ (e ∷ []))))) ≡ ts = cc in
-    (introduced (codes "begin"), a ∷ (b ∷ (c ∷ (d ∷ (e ∷ [])))), sym is, five_bind own names cs a b c d e ea eb ec ed ee))))))
+    let same : introduced (codes "begin") ∷ (a ∷ (b ∷ (c ∷ (d ∷ (e ∷ []))))) ≡ ts = cc in
+    record { begin = introduced (codes "begin"); more = a ∷ (b ∷ (c ∷ (d ∷ (e ∷ [])))); is = sym same; binds = five_bind own names cs a b c d e ea eb ec ed ee })))))
 
 whole_binds : (names : RecordNames) (cs : Clauses) (first ts : List Tree) (t : Tree) → Begins names first → Adds first (flat_map field_names (or_no_fields cs.fields)) ts
     → elements t ≡ ts → binders t ≡ rtd ∷ (rcd ∷ type_names names cs)
-whole_binds names cs first ts t (begin, more, is, f) (others, e, g) h =
-    ap (λ us. flat_map binder_of (drop 1 us)) (h ∙ e ∙ ap (λ us. us ++ others) is)
-    ∙ flat_joined more others
-    ∙ ap (λ xs. xs ++ flat_map binder_of others) f
-    ∙ ap (λ xs. rtd ∷ (rcd ∷ (names.name ∷ (names.constructor ∷ (names.predicate ∷ xs))))) g
+whole_binds names cs first ts t a b h =
+    ap (λ us. flat_map binder_of (drop 1 us)) (h ∙ b.is ∙ ap (λ us. us ++ b.more) a.is)
+    ∙ flat_joined a.more b.more
+    ∙ ap (λ xs. xs ++ flat_map binder_of b.more) a.binds
+    ∙ ap (λ xs. rtd ∷ (rcd ∷ (names.name ∷ (names.constructor ∷ (names.predicate ∷ xs))))) b.binds
 
 pub record_binds : (own : List ℕ) (names : RecordNames) (cs : Clauses) (t : Tree) → definitions own names cs ≡ Ok t → binders t ≡ rtd ∷ (rcd ∷ type_names names cs)
 unfolding definitions
@@ -135,3 +153,8 @@ record_binds own names cs t h =
     from_ok (first_definitions own names cs >>= (λ ts. with_fields 0 ts (or_no_fields cs.fields))) list_made t h (λ ts e g.
     from_ok (first_definitions own names cs) (λ us. with_fields 0 us (or_no_fields cs.fields)) ts e (λ first f k.
     whole_binds names cs first ts t (first_bind own names cs first f) (fields_add 0 first (or_no_fields cs.fields) ts k) (made_has ts t g)))
+
+-- an identifier of the definitions alone has the mark of a use alone
+pub left_marks : (x : List ℕ) (m : Mark) (frame : Option FrameNo) → marks_of (leave m frame (plain x)) ≡ m ∷ []
+left_marks x m None = refl
+left_marks x m (Some f) = refl
