@@ -16,6 +16,7 @@ use Rattle.sx_standing.specs.declared.standing.Variable.{Variable}
 use Rattle.sx_heads.specs.Plan.{variable_at, refer, reference, target_variable, target_by, assign_to, assign_by, assign}
 use Rattle.sx_heads.specs.declared.plan.Plan.{Plan}
 use Rattle.sx_heads.specs.declared.plan.Plan.TheVariants as plans
+use Rattle.sx_heads.specs.declared.plan.KeywordUse.TheVariants as keyword_use
 use Rattle.sx_expand_laws.proofs.Acts.{Gave, gave-after, gave-if}
 
 -- an expression of this level may refer to the variable: to one of the library in scope, of this level, or to one of the top of another
@@ -29,7 +30,7 @@ RefersBy level s (standing.Variable v) p = (p ≡ plans.Done (variable v.label))
 RefersBy level s standing.PatternVariable p = ⊥
 RefersBy level s (standing.Primitive op) p = p ≡ plans.Done (primitive op)
 RefersBy level s (standing.Core f) p = ⊥
-RefersBy level s (standing.Keyword l) p = p ≡ plans.Use l
+RefersBy level s (standing.Keyword l) p = p ≡ plans.Use (keyword_use.Macro l)
 
 abbrev pub TargetBy : ℕ → State → Standing → Label → Type 0
 TargetBy level s standing.Nothing l = ⊥

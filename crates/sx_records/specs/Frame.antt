@@ -18,5 +18,6 @@ rows_for ns = map core_row ns
 abbrev pub introduced_numbers : List ℕ
 introduced_numbers = 0 ∷ 1 ∷ 4 ∷ 7 ∷ 8 ∷ 15 ∷ 216 ∷ 217 ∷ 282 ∷ 284 ∷ 285 ∷ 286 ∷ 287 ∷ 288 ∷ 290 ∷ 291 ∷ 293 ∷ 294 ∷ []
 
-abbrev pub record_frame : List FrameRow
+-- their rows, in this order
+unfoldable pub record_frame : List FrameRow
 record_frame = rows_for introduced_numbers

@@ -65,6 +65,7 @@ fn rows_for(alloc: Global, numbers: &[u16]) -> Result<Vec<FrameRow>, Memory>
 }
 
 /// The rows of the frame, which every expansion adopts, in the order of the names' numbers.
+#[tactic(auto, unfolding(crate::specs::Frame::record_frame))]
 pub fn record_frame(alloc: Global) -> Result<Vec<FrameRow>, Memory>
     ensures { IfOk result (λ rs. rs.items ≡ record_frame) }
 {
