@@ -39,7 +39,7 @@ use Rattle.sx_heads.specs.declared.plan.KeywordUse.{KeywordUse}
 use Rattle.sx_heads.specs.declared.plan.KeywordUse.TheVariants as keyword_use
 use Rattle.sx_expand.specs.Settle.{used_form, next_form}
 use Rattle.sx_shapes.specs.At.{place_of}
-use Rattle.sx_expand_laws.proofs.Acts.{Gave}
+use Rattle.sx_expand_laws.proofs.Acts.{Gave, gave-after}
 use Rattle.sx_expand_laws.proofs.Kept.{found-same, found-other}
 use Rattle.sx_expand_laws.proofs.Spent.{Known}
 

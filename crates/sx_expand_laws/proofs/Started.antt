@@ -157,7 +157,7 @@ imports-there records f (e ∷ es) h = (h.0, imports-there records f es h.1)
 -- the names of the implementation are there everywhere
 numbers-there : (records : List LibRecord) (ns : List ℕ) → Each (λ (r : FrameRow). IsThere records r.label.0.library) (map core_row ns)
 numbers-there records [] = tt
-numbers-there records (n ∷ ns) = (inr refl, numbers-there records ns)
+numbers-there records (n ∷ ns) = (inr (inl refl), numbers-there records ns)
 
 introduced-there : (records : List LibRecord) → Each (λ (r : FrameRow). IsThere records r.label.0.library) record_frame
 unfolding record_frame rows_for
