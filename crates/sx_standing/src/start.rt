@@ -131,7 +131,7 @@ struct Beginning {
     bindings: KnownBindings,
 }
 
-#[tactic(auto, using(crate::proofs::Adopted::adopted_append))]
+#[tactic(auto, using(crate::proofs::Adopted::adopted_thrice))]
 fn begin(
     alloc: Global,
     library: LibName,
