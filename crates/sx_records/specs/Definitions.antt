@@ -61,7 +61,7 @@ abbrev pub type_in : Parent → Made
 type_in (parents.Named id) = list_of_two id type_word
 type_in (parents.Descriptors r c) = Ok r
 
-abbrev pub parent_type : Option Parent → Made
+unfoldable pub parent_type : Option Parent → Made
 parent_type None = Ok (boolean false)
 parent_type (Some p) = type_in p
 
@@ -69,11 +69,11 @@ abbrev pub uid_in : List ℕ → Uid → Made
 uid_in own uid.Generated = quoted (introduced own)
 uid_in own (uid.Given id) = quoted id
 
-abbrev pub uid_part : List ℕ → Option Uid → Made
+unfoldable pub uid_part : List ℕ → Option Uid → Made
 uid_part own None = Ok (boolean false)
 uid_part own (Some u) = uid_in own u
 
-abbrev pub or_false : Option Bool → Bool
+unfoldable pub or_false : Option Bool → Bool
 or_false None = false
 or_false (Some b) = b
 
@@ -94,18 +94,19 @@ abbrev pub constructor_in : Parent → Made
 constructor_in (parents.Named id) = list_of_two id constructor_word
 constructor_in (parents.Descriptors r c) = Ok c
 
-abbrev pub parent_constructor : Option Parent → Made
+unfoldable pub parent_constructor : Option Parent → Made
 parent_constructor None = Ok (boolean false)
 parent_constructor (Some p) = constructor_in p
 
-abbrev pub protocol_part : Option Tree → Tree
+unfoldable pub protocol_part : Option Tree → Tree
 protocol_part None = boolean false
 protocol_part (Some e) = e
 
+abbrev pub constructor_made : Tree → Tree → Made
+constructor_made parent protocol = list_made (introduced (codes "make-record-constructor-descriptor") ∷ (rtd ∷ (parent ∷ (protocol ∷ []))))
+
 unfoldable pub constructor_value : Clauses → Made
-constructor_value cs =
-    parent_constructor cs.parent >>= (λ parent.
-    list_made (introduced (codes "make-record-constructor-descriptor") ∷ (rtd ∷ (parent ∷ (protocol_part cs.protocol ∷ [])))))
+constructor_value cs = parent_constructor cs.parent >>= (λ parent. constructor_made parent (protocol_part cs.protocol))
 
 -- The keyword, which gives the two descriptors where a form names the record type.
 
