@@ -146,11 +146,17 @@ predicate_definition id = definition_by id (list_of_two (introduced (codes "reco
 abbrev pub place_in : ℕ → Tree
 place_in k = atom None (atoms.Int (pos k))
 
+unfoldable pub accessor_value : ℕ → Made
+accessor_value k = list_of_three (introduced (codes "record-accessor")) rtd (place_in k)
+
 abbrev pub accessor_definition : ℕ → Tree → Made
-accessor_definition k id = definition_by id (list_of_three (introduced (codes "record-accessor")) rtd (place_in k))
+accessor_definition k id = definition_by id (accessor_value k)
+
+unfoldable pub mutator_value : ℕ → Made
+mutator_value k = list_of_three (introduced (codes "record-mutator")) rtd (place_in k)
 
 abbrev pub mutator_definition : ℕ → Tree → Made
-mutator_definition k id = definition_by id (list_of_three (introduced (codes "record-mutator")) rtd (place_in k))
+mutator_definition k id = definition_by id (mutator_value k)
 
 abbrev pub with_mutator : ℕ → List Tree → Option Tree → Row
 with_mutator k done None = Ok done

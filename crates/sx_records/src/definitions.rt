@@ -3,7 +3,7 @@
 ghost use Rattle.std.specs.Prelude.{◌≡◌, [], IfOk};
 ghost use Rattle.sx_base.specs.Gives.{BareGives};
 ghost use Rattle.sx_records.specs.Introduced.{list_of_two};
-ghost use Rattle.sx_records.specs.Definitions.{rtd, rcd, type_word, constructor_word, definition, definition_by, mutability, field_entry, field_entries, fields_part, type_in, parent_type, uid_in, uid_part, or_false, type_made, type_value, constructor_in, parent_constructor, protocol_part, constructor_made, constructor_value, keyword_clause, keyword_body, keyword_value, keyword_definition, constructor_definition, predicate_definition, place_in, accessor_definition, mutator_definition, with_mutator, with_field, with_fields, first_definitions, definitions, or_no_fields};
+ghost use Rattle.sx_records.specs.Definitions.{rtd, rcd, type_word, constructor_word, definition, definition_by, mutability, field_entry, field_entries, fields_part, type_in, parent_type, uid_in, uid_part, or_false, type_made, type_value, constructor_in, parent_constructor, protocol_part, constructor_made, constructor_value, keyword_clause, keyword_body, keyword_value, keyword_definition, constructor_definition, predicate_definition, place_in, accessor_value, accessor_definition, mutator_value, mutator_definition, with_mutator, with_field, with_fields, first_definitions, definitions, or_no_fields};
 
 use crate::clause::{Clauses, Field, Parent, Uid};
 use crate::introduced::{
@@ -376,23 +376,37 @@ fn place_in(alloc: Global, number: u64) -> Result<Syn, Memory>
     Syn::atom(alloc, Atom::Int(i128::from(number)))
 }
 
-fn accessor_definition(alloc: Global, number: u64, id: Syn) -> Result<Syn, BareStop>
-    ensures { BareGives (λ t. t) result (accessor_definition number id) }
+#[tactic(auto, unfolding(crate::specs::Definitions::accessor_value))]
+fn accessor_value(alloc: Global, number: u64) -> Result<Syn, BareStop>
+    ensures { BareGives (λ t. t) result (accessor_value number) }
 {
     let operator = introduced(alloc, "record-accessor")?;
     let rtd = rtd(alloc)?;
     let number = place_in(alloc, number)?;
-    let value = list_of_three(alloc, operator, rtd, number)?;
+    list_of_three(alloc, operator, rtd, number)
+}
+
+fn accessor_definition(alloc: Global, number: u64, id: Syn) -> Result<Syn, BareStop>
+    ensures { BareGives (λ t. t) result (accessor_definition number id) }
+{
+    let value = accessor_value(alloc, number)?;
     definition(alloc, id, value)
+}
+
+#[tactic(auto, unfolding(crate::specs::Definitions::mutator_value))]
+fn mutator_value(alloc: Global, number: u64) -> Result<Syn, BareStop>
+    ensures { BareGives (λ t. t) result (mutator_value number) }
+{
+    let operator = introduced(alloc, "record-mutator")?;
+    let rtd = rtd(alloc)?;
+    let number = place_in(alloc, number)?;
+    list_of_three(alloc, operator, rtd, number)
 }
 
 fn mutator_definition(alloc: Global, number: u64, id: Syn) -> Result<Syn, BareStop>
     ensures { BareGives (λ t. t) result (mutator_definition number id) }
 {
-    let operator = introduced(alloc, "record-mutator")?;
-    let rtd = rtd(alloc)?;
-    let number = place_in(alloc, number)?;
-    let value = list_of_three(alloc, operator, rtd, number)?;
+    let value = mutator_value(alloc, number)?;
     definition(alloc, id, value)
 }
 
