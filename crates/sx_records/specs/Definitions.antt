@@ -77,9 +77,13 @@ unfoldable pub or_false : Option Bool → Bool
 or_false None = false
 or_false (Some b) = b
 
+-- the procedure that makes record types
+unfoldable pub type_operator : Tree
+type_operator = introduced (codes "make-record-type-descriptor")
+
 abbrev pub type_made : Clauses → Tree → Tree → Tree → Tree → Made
 type_made cs name parent u fields =
-    list_made (introduced (codes "make-record-type-descriptor") ∷ (name ∷ (parent ∷ (u ∷ (boolean (or_false cs.sealed) ∷ (boolean (or_false cs.opaque) ∷ (fields ∷ [])))))))
+    list_made (type_operator ∷ (name ∷ (parent ∷ (u ∷ (boolean (or_false cs.sealed) ∷ (boolean (or_false cs.opaque) ∷ (fields ∷ [])))))))
 
 unfoldable pub type_value : List ℕ → RecordNames → Clauses → Made
 type_value own names cs =
@@ -102,8 +106,12 @@ unfoldable pub protocol_part : Option Tree → Tree
 protocol_part None = boolean false
 protocol_part (Some e) = e
 
+-- the procedure that makes descriptors of constructors
+unfoldable pub constructor_operator : Tree
+constructor_operator = introduced (codes "make-record-constructor-descriptor")
+
 abbrev pub constructor_made : Tree → Tree → Made
-constructor_made parent protocol = list_made (introduced (codes "make-record-constructor-descriptor") ∷ (rtd ∷ (parent ∷ (protocol ∷ []))))
+constructor_made parent protocol = list_made (constructor_operator ∷ (rtd ∷ (parent ∷ (protocol ∷ []))))
 
 unfoldable pub constructor_value : Clauses → Made
 constructor_value cs = parent_constructor cs.parent >>= (λ parent. constructor_made parent (protocol_part cs.protocol))
@@ -146,14 +154,20 @@ predicate_definition id = definition_by id (list_of_two (introduced (codes "reco
 abbrev pub place_in : ℕ → Tree
 place_in k = atom None (atoms.Int (pos k))
 
+unfoldable pub accessor_operator : Tree
+accessor_operator = introduced (codes "record-accessor")
+
 unfoldable pub accessor_value : ℕ → Made
-accessor_value k = list_of_three (introduced (codes "record-accessor")) rtd (place_in k)
+accessor_value k = list_of_three accessor_operator rtd (place_in k)
 
 abbrev pub accessor_definition : ℕ → Tree → Made
 accessor_definition k id = definition_by id (accessor_value k)
 
+unfoldable pub mutator_operator : Tree
+mutator_operator = introduced (codes "record-mutator")
+
 unfoldable pub mutator_value : ℕ → Made
-mutator_value k = list_of_three (introduced (codes "record-mutator")) rtd (place_in k)
+mutator_value k = list_of_three mutator_operator rtd (place_in k)
 
 abbrev pub mutator_definition : ℕ → Tree → Made
 mutator_definition k id = definition_by id (mutator_value k)

@@ -3,7 +3,7 @@
 ghost use Rattle.std.specs.Prelude.{◌≡◌, [], IfOk};
 ghost use Rattle.sx_base.specs.Gives.{BareGives};
 ghost use Rattle.sx_records.specs.Introduced.{list_of_two};
-ghost use Rattle.sx_records.specs.Definitions.{rtd, rcd, type_word, constructor_word, definition, definition_by, mutability, field_entry, field_entries, fields_part, type_in, parent_type, uid_in, uid_part, or_false, type_made, type_value, constructor_in, parent_constructor, protocol_part, constructor_made, constructor_value, keyword_clause, keyword_body, keyword_value, keyword_definition, constructor_definition, predicate_definition, place_in, accessor_value, accessor_definition, mutator_value, mutator_definition, with_mutator, with_field, with_fields, first_definitions, definitions, or_no_fields};
+ghost use Rattle.sx_records.specs.Definitions.{rtd, rcd, type_word, constructor_word, definition, definition_by, mutability, field_entry, field_entries, fields_part, type_in, parent_type, uid_in, uid_part, or_false, type_operator, type_made, type_value, constructor_in, parent_constructor, protocol_part, constructor_operator, constructor_made, constructor_value, keyword_clause, keyword_body, keyword_value, keyword_definition, constructor_definition, predicate_definition, place_in, accessor_operator, accessor_value, accessor_definition, mutator_operator, mutator_value, mutator_definition, with_mutator, with_field, with_fields, first_definitions, definitions, or_no_fields};
 
 use crate::clause::{Clauses, Field, Parent, Uid};
 use crate::introduced::{
@@ -169,6 +169,13 @@ fn or_false(value: &Option<bool>) -> bool
     }
 }
 
+#[tactic(auto, unfolding(crate::specs::Definitions::type_operator))]
+fn type_operator(alloc: Global) -> Result<Syn, Memory>
+    ensures { IfOk result (λ t. t ≡ type_operator) }
+{
+    introduced(alloc, "make-record-type-descriptor")
+}
+
 /// `(make-record-type-descriptor 'name parent uid sealed opaque '#(field ...))`.
 fn type_made(
     alloc: Global,
@@ -180,7 +187,7 @@ fn type_made(
 ) -> Result<Syn, BareStop>
     ensures { BareGives (λ t. t) result (type_made clauses.now name parent uid fields) }
 {
-    let maker = introduced(alloc, "make-record-type-descriptor")?;
+    let maker = type_operator(alloc)?;
     let sealed = boolean(alloc, or_false(&clauses.sealed))?;
     let opaque = boolean(alloc, or_false(&clauses.opaque))?;
     let mut forms = Items::new(alloc);
@@ -250,11 +257,18 @@ fn protocol_part(alloc: Global, protocol: &Option<Syn>) -> Result<Syn, Memory>
     }
 }
 
+#[tactic(auto, unfolding(crate::specs::Definitions::constructor_operator))]
+fn constructor_operator(alloc: Global) -> Result<Syn, Memory>
+    ensures { IfOk result (λ t. t ≡ constructor_operator) }
+{
+    introduced(alloc, "make-record-constructor-descriptor")
+}
+
 /// `(make-record-constructor-descriptor rtd parent protocol)`.
 fn constructor_made(alloc: Global, parent: Syn, protocol: Syn) -> Result<Syn, BareStop>
     ensures { BareGives (λ t. t) result (constructor_made parent protocol) }
 {
-    let maker = introduced(alloc, "make-record-constructor-descriptor")?;
+    let maker = constructor_operator(alloc)?;
     let rtd = rtd(alloc)?;
     let mut forms = Items::new(alloc);
     forms.push(maker)?;
@@ -376,11 +390,18 @@ fn place_in(alloc: Global, number: u64) -> Result<Syn, Memory>
     Syn::atom(alloc, Atom::Int(i128::from(number)))
 }
 
+#[tactic(auto, unfolding(crate::specs::Definitions::accessor_operator))]
+fn accessor_operator(alloc: Global) -> Result<Syn, Memory>
+    ensures { IfOk result (λ t. t ≡ accessor_operator) }
+{
+    introduced(alloc, "record-accessor")
+}
+
 #[tactic(auto, unfolding(crate::specs::Definitions::accessor_value))]
 fn accessor_value(alloc: Global, number: u64) -> Result<Syn, BareStop>
     ensures { BareGives (λ t. t) result (accessor_value number) }
 {
-    let operator = introduced(alloc, "record-accessor")?;
+    let operator = accessor_operator(alloc)?;
     let rtd = rtd(alloc)?;
     let number = place_in(alloc, number)?;
     list_of_three(alloc, operator, rtd, number)
@@ -393,11 +414,18 @@ fn accessor_definition(alloc: Global, number: u64, id: Syn) -> Result<Syn, BareS
     definition(alloc, id, value)
 }
 
+#[tactic(auto, unfolding(crate::specs::Definitions::mutator_operator))]
+fn mutator_operator(alloc: Global) -> Result<Syn, Memory>
+    ensures { IfOk result (λ t. t ≡ mutator_operator) }
+{
+    introduced(alloc, "record-mutator")
+}
+
 #[tactic(auto, unfolding(crate::specs::Definitions::mutator_value))]
 fn mutator_value(alloc: Global, number: u64) -> Result<Syn, BareStop>
     ensures { BareGives (λ t. t) result (mutator_value number) }
 {
-    let operator = introduced(alloc, "record-mutator")?;
+    let operator = mutator_operator(alloc)?;
     let rtd = rtd(alloc)?;
     let number = place_in(alloc, number)?;
     list_of_three(alloc, operator, rtd, number)
