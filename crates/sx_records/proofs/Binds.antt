@@ -3,7 +3,6 @@ use Rattle.std.proofs.Common.{◌≡◌, ℕ, ◌+◌, Bool, true, false, List, 
 use Rattle.std.specs.List.{flat_map}
 use Rattle.std.specs.Prelude.{Result, codes, if◌then◌else◌}
 use Rattle.sx_base.specs.Gives.{◌>>=◌}
-use Rattle.sx_base.specs.declared.fault.Bare.{Bare}
 use Rattle.sx_base.specs.declared.name.FrameNo.{FrameNo}
 use Rattle.sx_base.specs.declared.name.Mark.{Mark}
 use Rattle.sx_tree.specs.Changes.{leave}
@@ -13,7 +12,7 @@ use Rattle.sx_tree.specs.Tree.{Tree, nil, chain, list_of}
 use Rattle.sx_shapes.specs.Lists.{elements}
 use Rattle.sx_records.specs.Binders.{binder_of, binders, second_of, if_there, field_names, type_names}
 use Rattle.sx_records.specs.Introduced.{Made, introduced, plain, list_made, list_of_two, list_of_three}
-use Rattle.sx_records.specs.Definitions.{Row, rtd, rcd, definition, definition_by, type_value, constructor_value, keyword_value, keyword_definition, constructor_definition, predicate_definition, accessor_value, accessor_definition, mutator_value, mutator_definition, with_mutator, with_field, with_fields, first_definitions, definitions, or_no_fields}
+use Rattle.sx_records.specs.Definitions.{rtd, rcd, definition, definition_by, type_value, constructor_value, keyword_value, keyword_definition, constructor_definition, predicate_definition, accessor_value, accessor_definition, mutator_value, mutator_definition, with_mutator, with_field, with_fields, first_definitions, definitions, or_no_fields}
 use Rattle.sx_records.specs.declared.clause.Clauses.{Clauses}
 use Rattle.sx_records.specs.declared.clause.Field.{Field}
 use Rattle.sx_records.specs.declared.names.RecordNames.{RecordNames}
