@@ -12,6 +12,7 @@ use Rattle.sx_standing.specs.State.{State}
 use Rattle.sx_standing.specs.declared.standing.Standing.TheVariants as standing
 use Rattle.sx_heads.specs.Items.{kept_head}
 use Rattle.sx_heads.specs.Kept.{with_head}
+use Rattle.sx_heads.specs.declared.plan.KeywordUse.TheVariants as keyword_use
 use Rattle.sx_heads.specs.declared.taken.BodyAt.{BodyAt}
 use Rattle.sx_heads.specs.declared.taken.Taken.{Taken}
 use Rattle.sx_expand.specs.Expression.{inside}
@@ -27,7 +28,7 @@ IsUseOf s l (vector r d) = ⊥
 -- It expands to what that form expands to, which has the place of the use where it has none itself. One use less is left then.
 abbrev pub UsesAreReplaced : Type 0
 UsesAreReplaced = (records : List LibRecord) (room left : ℕ) (place : Span) (level depth : ℕ) (t : Tree) (l : Label) (s : State) → IsUseOf s l t → s.uses_left ≡ suc left → depth ≤ 600
-    → (inside records (suc room)).form place level depth t s ≡ after (next_form records left place t l None s) ((inside records (suc room)).form (place_of t place) level depth)
+    → (inside records (suc room)).form place level depth t s ≡ after (next_form records left place t (keyword_use.Macro l) None s) ((inside records (suc room)).form (place_of t place) level depth)
 
 -- the identifier of the keyword
 abbrev pub head_of : Tree → Tree
@@ -42,4 +43,4 @@ with_head_of s done t = record done { kept = with_head done.kept (kept_head s (h
 -- So it is in a body. There the form that comes has the body's frame, and what the keyword stood for is kept.
 abbrev pub BodyUsesAreReplaced : Type 0
 BodyUsesAreReplaced = (records : List LibRecord) (room left : ℕ) (at : BodyAt) (depth : ℕ) (done : Taken) (t : Tree) (l : Label) (s : State) → IsUseOf s l t → s.uses_left ≡ suc left → depth ≤ 600
-    → (inside records (suc room)).item at depth done t s ≡ after (next_form records left at.place t l (Some at.frame) s) ((inside records (suc room)).item (at_use at t) depth (with_head_of s done t))
+    → (inside records (suc room)).item at depth done t s ≡ after (next_form records left at.place t (keyword_use.Macro l) (Some at.frame) s) ((inside records (suc room)).item (at_use at t) depth (with_head_of s done t))

@@ -3,6 +3,7 @@
 ghost use Rattle.std.specs.Prelude.{◌≡◌, ◌++◌, [], IfOk, OnOk, map};
 ghost use Rattle.sx_frames.specs.Scope.{adopted};
 ghost use Rattle.sx_eval.specs.Codes as table;
+ghost use Rattle.sx_records.specs.Frame.{record_frame};
 ghost use Rattle.sx_standing.specs.Ready.{needed_records};
 ghost use Rattle.sx_standing.specs.Start.{second_name, first_frame, import_row, rows_of, bindings_of, started};
 
@@ -20,6 +21,7 @@ use sx_base::symbol::Symbol;
 use sx_core::code::Code;
 use sx_core::labels::Labels;
 use sx_known::known::KnownBindings;
+use sx_records::frame::record_frame;
 use sx_scope::scope::Frames;
 use sx_stage::stage::Stage;
 use sx_tree::frame_row::FrameRow;
@@ -91,6 +93,17 @@ fn adopt_imports(
     frames.adopt(rows.as_slice())
 }
 
+/// Adds the frame in which what record forms introduce stands for the names of the implementation.
+fn adopt_record_frame(alloc: Global, frames: &mut Frames) -> Result<(), Memory>
+    ensures { OnOk result (frames.new ≡ adopted frames.old record_frame) }
+{
+    let rows = record_frame(alloc)?;
+    if !frames.are_new(rows.as_slice()) {
+        return Err(Memory);
+    }
+    frames.adopt(rows.as_slice())
+}
+
 /// The library's frame.
 fn frame_of(library: &Rc<LibName>) -> Result<FrameNo, Memory>
     ensures { IfOk result (λ f. f ≡ first_frame library.now.value) }
@@ -118,7 +131,7 @@ struct Beginning {
     bindings: KnownBindings,
 }
 
-#[tactic(auto, using(crate::proofs::Adopted::adopted_append))]
+#[tactic(auto, using(crate::proofs::Adopted::adopted_thrice))]
 fn begin(
     alloc: Global,
     library: LibName,
@@ -128,7 +141,7 @@ fn begin(
 ) -> Result<Beginning, Memory>
     ensures library { IfOk result (λ b. b.library.value ≡ library) }
     ensures names { IfOk result (λ b. b.names ≡ second_name library) }
-    ensures frames { IfOk result (λ b. b.frames ≡ adopted [] (rows_of (needed_records needs.now earlier.now) ++ map (import_row (first_frame library)) imports.now)) }
+    ensures frames { IfOk result (λ b. b.frames ≡ adopted [] (rows_of (needed_records needs.now earlier.now) ++ (record_frame ++ map (import_row (first_frame library)) imports.now))) }
     ensures bindings { IfOk result (λ b. b.bindings ≡ bindings_of (needed_records needs.now earlier.now)) }
 {
     let library = Rc::new(alloc, library)?;
@@ -137,6 +150,7 @@ fn begin(
     let marks = marks_of(alloc, needs)?;
     let mut frames = earlier.frames(alloc, marks.clone()?)?;
     let bindings = earlier.bindings(alloc, marks)?;
+    adopt_record_frame(alloc, &mut frames)?;
     adopt_imports(alloc, &mut frames, &frame, imports)?;
     Ok(Beginning {
         library,
@@ -160,6 +174,7 @@ fn expansion_with(
       exports = [];
       assigned = [];
       uses_left = 1000000;
+      record_types = 0;
       index = 0;
       scope = [];
       cells = [];
@@ -184,6 +199,7 @@ fn expansion_with(
         exports: Labels::new(alloc),
         assigned: Labels::new(alloc),
         uses_left: MOST_USES,
+        record_types: 0,
         index: 0,
         scope: InScope::new(alloc),
     }
