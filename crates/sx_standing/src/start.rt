@@ -145,8 +145,24 @@ struct Beginning {
     bindings: KnownBindings,
 }
 
-/// What an expansion begins with, where what record forms introduce is in these rows.
+/// What the marked records bind, then what record forms introduce, and the imports.
 #[tactic(auto, using(crate::proofs::Adopted::adopted_append))]
+fn first_frames(
+    alloc: Global,
+    earlier: &ReadyRecords,
+    marks: Rc<Items<bool>>,
+    records: &[FrameRow],
+    frame: &FrameNo,
+    imports: &[(Symbol, Label)],
+) -> Result<Frames, Memory>
+    ensures { IfOk result (λ fs. fs ≡ adopted [] (rows_of (needed_records marks.value earlier.now) ++ (records.now ++ map (import_row frame.now) imports.now))) }
+{
+    let mut frames = earlier.frames(alloc, marks)?;
+    adopt_both(alloc, &mut frames, records, frame, imports)?;
+    Ok(frames)
+}
+
+/// What an expansion begins with, where what record forms introduce is in these rows.
 fn begin_over(
     alloc: Global,
     library: LibName,
@@ -164,9 +180,8 @@ fn begin_over(
     let names = names_of(&library)?;
     let frame = frame_of(&library)?;
     let marks = marks_of(alloc, needs)?;
-    let mut frames = earlier.frames(alloc, marks.clone()?)?;
-    let bindings = earlier.bindings(alloc, marks)?;
-    adopt_both(alloc, &mut frames, records, &frame, imports)?;
+    let bindings = earlier.bindings(alloc, marks.clone()?)?;
+    let frames = first_frames(alloc, earlier, marks, records, &frame, imports)?;
     Ok(Beginning {
         library,
         names,
