@@ -11,9 +11,6 @@ pub adopted_append : (fs : Scope) (xs ys : List FrameRow) → adopted fs (xs ++ 
 adopted_append fs [] ys = refl
 adopted_append fs (x ∷ xs) ys = adopted_append (with_row fs x.frame (row_in x)) xs ys
 
-pub adopted_thrice : (fs : Scope) (xs ys zs : List FrameRow) → adopted fs (xs ++ (ys ++ zs)) ≡ adopted (adopted (adopted fs xs) ys) zs
-adopted_thrice fs xs ys zs = adopted_append fs xs (ys ++ zs) ∙ adopted_append (adopted fs xs) ys zs
-
 -- the rows of a frame that is new
 pub imports-new : (f : FrameNo) (ns : List (List ℕ × Label)) (fs : Scope) → has_frame f fs ≡ false → are_new (map (import_row f) ns) fs ≡ true
 imports-new f [] fs h = refl

@@ -93,15 +93,29 @@ fn adopt_imports(
     frames.adopt(rows.as_slice())
 }
 
-/// Adds the frame in which what record forms introduce stands for the names of the implementation.
-fn adopt_record_frame(alloc: Global, frames: &mut Frames) -> Result<(), Memory>
-    ensures { OnOk result (frames.new ≡ adopted frames.old record_frame) }
+/// Adds rows of frames that are new; that one is there is refused as want of memory is.
+fn adopt_new(frames: &mut Frames, rows: &[FrameRow]) -> Result<(), Memory>
+    ensures { OnOk result (frames.new ≡ adopted frames.old rows.now) }
 {
-    let rows = record_frame(alloc)?;
-    if !frames.are_new(rows.as_slice()) {
+    if !frames.are_new(rows) {
         return Err(Memory);
     }
-    frames.adopt(rows.as_slice())
+    frames.adopt(rows)
+}
+
+/// Adds the frame of what record forms introduce, and then the imported names.
+#[tactic(auto, using(crate::proofs::Adopted::adopted_append))]
+fn adopt_both(
+    alloc: Global,
+    frames: &mut Frames,
+    records: &[FrameRow],
+    frame: &FrameNo,
+    imports: &[(Symbol, Label)],
+) -> Result<(), Memory>
+    ensures { OnOk result (frames.new ≡ adopted frames.old (records.now ++ map (import_row frame.now) imports.now)) }
+{
+    adopt_new(frames, records)?;
+    adopt_imports(alloc, frames, frame, imports)
 }
 
 /// The library's frame.
@@ -131,7 +145,51 @@ struct Beginning {
     bindings: KnownBindings,
 }
 
-#[tactic(auto, using(crate::proofs::Adopted::adopted_thrice))]
+/// What the marked records bind, then what record forms introduce, and the imports.
+#[tactic(auto, using(crate::proofs::Adopted::adopted_append))]
+fn first_frames(
+    alloc: Global,
+    earlier: &ReadyRecords,
+    marks: Rc<Items<bool>>,
+    records: &[FrameRow],
+    frame: &FrameNo,
+    imports: &[(Symbol, Label)],
+) -> Result<Frames, Memory>
+    ensures { IfOk result (λ fs. fs ≡ adopted [] (rows_of (needed_records marks.value earlier.now) ++ (records.now ++ map (import_row frame.now) imports.now))) }
+{
+    let mut frames = earlier.frames(alloc, marks)?;
+    adopt_both(alloc, &mut frames, records, frame, imports)?;
+    Ok(frames)
+}
+
+/// What an expansion begins with, where what record forms introduce is in these rows.
+fn begin_over(
+    alloc: Global,
+    library: LibName,
+    earlier: &ReadyRecords,
+    needs: &[bool],
+    imports: &[(Symbol, Label)],
+    records: &[FrameRow],
+) -> Result<Beginning, Memory>
+    ensures library { IfOk result (λ b. b.library.value ≡ library) }
+    ensures names { IfOk result (λ b. b.names ≡ second_name library) }
+    ensures frames { IfOk result (λ b. b.frames ≡ adopted [] (rows_of (needed_records needs.now earlier.now) ++ (records.now ++ map (import_row (first_frame library)) imports.now))) }
+    ensures bindings { IfOk result (λ b. b.bindings ≡ bindings_of (needed_records needs.now earlier.now)) }
+{
+    let library = Rc::new(alloc, library)?;
+    let names = names_of(&library)?;
+    let frame = frame_of(&library)?;
+    let marks = marks_of(alloc, needs)?;
+    let bindings = earlier.bindings(alloc, marks.clone()?)?;
+    let frames = first_frames(alloc, earlier, marks, records, &frame, imports)?;
+    Ok(Beginning {
+        library,
+        names,
+        frames,
+        bindings,
+    })
+}
+
 fn begin(
     alloc: Global,
     library: LibName,
@@ -144,20 +202,8 @@ fn begin(
     ensures frames { IfOk result (λ b. b.frames ≡ adopted [] (rows_of (needed_records needs.now earlier.now) ++ (record_frame ++ map (import_row (first_frame library)) imports.now))) }
     ensures bindings { IfOk result (λ b. b.bindings ≡ bindings_of (needed_records needs.now earlier.now)) }
 {
-    let library = Rc::new(alloc, library)?;
-    let names = names_of(&library)?;
-    let frame = frame_of(&library)?;
-    let marks = marks_of(alloc, needs)?;
-    let mut frames = earlier.frames(alloc, marks.clone()?)?;
-    let bindings = earlier.bindings(alloc, marks)?;
-    adopt_record_frame(alloc, &mut frames)?;
-    adopt_imports(alloc, &mut frames, &frame, imports)?;
-    Ok(Beginning {
-        library,
-        names,
-        frames,
-        bindings,
-    })
+    let records = record_frame(alloc)?;
+    begin_over(alloc, library, earlier, needs, imports, records.as_slice())
 }
 
 /// The state before the first form. It takes no memory.
