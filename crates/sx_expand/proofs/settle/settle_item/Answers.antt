@@ -21,6 +21,11 @@ returns-in_err-next g c =
     let p = err_from_is_err_and c.from_residual-in_err-next.result c.from_residual-in_err-next.ensures.1 in
     rw (p.1, p.2) (item_breaks (g.M.Transformers.records c.args.means.now) c.loop-at.at c.args.depth c.loop-at.taken c.loop-at.form c.loop-at.state _ c.loop-at.left c.item_step.new.taken c.in-Use.keyword c.item_step.new.state c.in_err-next.field-0.0 c.if-left-eq0.false (rw c.in-Use.is at c.in_ok-item.ensures) (rw c.in_ok-frame.ensures at c.in_err-next.ensures) c.loop-at.invariant)
 
+-- with a use of a record form, and of a keyword with a transformer
 pub loop-at-preserved : goal.loop-at-preserved
 loop-at-preserved g c =
+    rw c.in_ok-at-2.ensures (item_on (g.M.Transformers.records c.args.means.now) c.loop-at.at c.args.depth c.loop-at.taken c.loop-at.form c.loop-at.state _ c.loop-at.left c.item_step.new.taken c.in-Use.keyword c.item_step.new.state c.in_ok-next.next c.next_form.new.state c.if-left-eq0.false (rw c.in-Use.is at c.in_ok-item.ensures) (rw c.in_ok-frame.ensures at c.in_ok-next.ensures) c.loop-at.invariant)
+
+pub loop-at-preserved-in_ok-at-2 : goal.loop-at-preserved-in_ok-at-2
+loop-at-preserved-in_ok-at-2 g c =
     rw c.in_ok-at-2.ensures (item_on (g.M.Transformers.records c.args.means.now) c.loop-at.at c.args.depth c.loop-at.taken c.loop-at.form c.loop-at.state _ c.loop-at.left c.item_step.new.taken c.in-Use.keyword c.item_step.new.state c.in_ok-next.next c.next_form.new.state c.if-left-eq0.false (rw c.in-Use.is at c.in_ok-item.ensures) (rw c.in_ok-frame.ensures at c.in_ok-next.ensures) c.loop-at.invariant)
