@@ -28,8 +28,10 @@
 //! what they mean in `laws`. The crate knows symbols, marks and stamps alone; sx_scope asks it for leaves of trees.
 #![tactic(auto)]
 
+pub mod binders;
 pub mod frames;
 pub mod given;
+pub mod indexed;
 pub mod joined;
 pub mod kept;
 pub mod key;
