@@ -17,7 +17,7 @@ use Rattle.sx_base.specs.declared.name.Mark.{Mark}
 use Rattle.sx_tree.specs.SameMarks.{same_marks}
 use Rattle.sx_tree.specs.declared.frame_row.FrameRow.{FrameRow}
 use Rattle.sx_frames.specs.declared.binders.Binders.{Binders}
-use Rattle.sx_frames.specs.Binders.{Index, is_among, may_be, may_be_of, binders_at, may_bind, Covers, NamesAll, AllNoted, IsIndexed, OnlyBinders, OnlyOfLibrary}
+use Rattle.sx_frames.specs.Binders.{Index, is_among, may_be, AreAll, may_be_of, binders_at, may_bind, Covers, NamesAll, AllNoted, IsIndexed, OnlyBinders, OnlyOfLibrary}
 use Rattle.sx_frames.specs.Given.{Parts, flat, has_part, part_of, ArePlaced}
 use Rattle.sx_frames.specs.Rows.{Row, is_of, label_in, second_binder}
 use Rattle.sx_frames.specs.Scope.{Scope, same_frame, rows_at, label_at, with_row, bound, row_in, adopted}
@@ -47,6 +47,30 @@ is_among-less f g gs h = or_left (is_among f gs) (is_among f (g ∷ [])) (sym (i
 
 pub is_among-one : (f : FrameNo) → is_among f (f ∷ []) ≡ true
 is_among-one f = ap (λ b. b || false) (same_frame-self f)
+
+-- a frame pushed at the end, or not
+pub pushed-there : {X E : Type 0} (r : Result X E) (f g : FrameNo) (many : Bool) (gs hs : List FrameNo) → g ≡ f → OnOk r (hs ≡ gs ++ g ∷ []) → OnOk r (cond many true (is_among f hs) ≡ true)
+pushed-there (Ok x) f g true gs hs e h = refl
+pushed-there (Ok x) f g false gs hs e h = ap (is_among f) (h ∙ ap (λ y. gs ++ y ∷ []) e) ∙ is_among-new f gs
+pushed-there (Err x) f g many gs hs e h = tt
+
+pub pushed-kept : {X E : Type 0} (r : Result X E) (g : FrameNo) (many : Bool) (gs hs : List FrameNo) → OnOk r (hs ≡ gs ++ g ∷ []) → OnErr r (hs ≡ gs)
+    → (f : FrameNo) → cond many true (is_among f hs) ≡ false → cond many true (is_among f gs) ≡ false
+pushed-kept r g true gs hs h u f k = k
+pushed-kept (Ok x) g false gs hs h u f k = is_among-less f g gs (ap (is_among f) (sym h) ∙ k)
+pushed-kept (Err x) g false gs hs h u f k = ap (is_among f) (sym u) ∙ k
+
+-- the frames of a symbol that has few
+pub few-all : (b : Binders) (gs : List FrameNo) → false ≡ b.many → gs ≡ b.frames → AreAll b gs
+few-all b gs m is = record { each = λ f k. ap (λ x. cond x true (is_among f b.frames)) (sym m) ∙ ap (is_among f) (sym is) ∙ k }
+
+pub get-found : (o : Option (Bor (List FrameNo))) (s : List ℕ) (es all : Index) (b : Binders) → Some b ≡ lookup (pointwise nat_eq s) es → es ≡ all → IfSome o (λ gs. AreAll b gs.now) → IfSome o (λ gs. NamesAll all s gs.now)
+get-found None s es all b h view k = tt
+get-found (Some gs) s es all b h view k =
+    subst (λ (x : Index). NamesAll x s gs.now) view (record { each = λ f e. ap (may_be_of f) (sym h) ∙ k.each f e })
+
+pub get-none : (gs : List FrameNo) (s : List ℕ) (es all : Index) → None ≡ lookup (pointwise nat_eq s) es → es ≡ all → NamesAll all s gs
+get-none gs s es all h view = subst (λ (x : Index). NamesAll x s gs) view (record { each = λ f e. ap (may_be_of f) (sym h) })
 
 -- ---- the index
 
@@ -97,11 +121,15 @@ less-set_value s (e ∷ es) b c h less f x k = by (test s e.0) h k (λ h. less-s
     by true h k i = let is : e.1 ≡ b = cc in here (test x e.0) k is
     by false h k i = rest (test x e.0) k (i h)
 
-pub covers-set_value : (s : List ℕ) (es fs : Index) (b c : Binders) → lookup (test s) es ≡ Some b → fs ≡ set_value (test s) es c → ((f : FrameNo) → may_be f c ≡ false → may_be f b ≡ false) → Covers es fs
-covers-set_value s es fs b c h is less = record { each = λ f x k. less-set_value s es b c h less f x (ap (may_bind f x) (sym is) ∙ k) }
+pub covers-set_value : (s : List ℕ) (es all fs : Index) (b c : Binders) → Some b ≡ lookup (test s) es → es ≡ all → fs ≡ set_value (test s) es c
+    → ((f : FrameNo) → may_be f c ≡ false → may_be f b ≡ false) → Covers all fs
+covers-set_value s es all fs b c h view is less =
+    subst (λ (x : Index). Covers x fs) view (record { each = λ f x k. less-set_value s es b c (sym h) less f x (ap (may_bind f x) (sym is) ∙ k) })
 
-pub noted-set_value : (f : FrameNo) (s : List ℕ) (es fs : Index) (b c : Binders) → lookup (test s) es ≡ Some b → fs ≡ set_value (test s) es c → may_be f c ≡ true → may_bind f s fs ≡ true
-noted-set_value f s es fs b c h is k = ap (may_bind f s) is ∙ ap (may_be_of f) (lookup-set_value s es b c h) ∙ k
+pub noted-set_value : {X E : Type 0} (r : Result X E) (f : FrameNo) (s : List ℕ) (es fs : Index) (b c : Binders) → Some b ≡ lookup (test s) es → fs ≡ set_value (test s) es c
+    → OnOk r (may_be f c ≡ true) → OnOk r (may_bind f s fs ≡ true)
+noted-set_value (Ok x) f s es fs b c h is k = ap (may_bind f s) is ∙ ap (may_be_of f) (lookup-set_value s es b c (sym h)) ∙ k
+noted-set_value (Err e) f s es fs b c h is k = tt
 
 less-more : (s : List ℕ) (b : Binders) (es : Index) (f : FrameNo) (x : List ℕ) → may_bind f x (es ++ (s, b) ∷ []) ≡ false → may_bind f x es ≡ false
 less-more s b [] f x k = refl
@@ -112,8 +140,8 @@ less-more s b (e ∷ es) f x k = by (test x e.0) k (less-more s b es f x)
     by true k i = k
     by false k i = i k
 
-pub covers-more : (s : List ℕ) (b : Binders) (es fs : Index) → fs ≡ es ++ (s, b) ∷ [] → Covers es fs
-covers-more s b es fs is = record { each = λ f x k. less-more s b es f x (ap (may_bind f x) (sym is) ∙ k) }
+pub covers-more : (s : List ℕ) (b : Binders) (es all fs : Index) → es ≡ all → fs ≡ es ++ (s, b) ∷ [] → Covers all fs
+covers-more s b es all fs view is = subst (λ (x : Index). Covers x fs) view (record { each = λ f x k. less-more s b es f x (ap (may_bind f x) (sym is) ∙ k) })
 
 lookup-more : (s : List ℕ) (b : Binders) (es : Index) → lookup (test s) es ≡ None → lookup (test s) (es ++ (s, b) ∷ []) ≡ Some b
 lookup-more s b [] h = ap (λ t. cond {A = Option Binders} t (Some b) None) (test-self s)
@@ -124,8 +152,21 @@ lookup-more s b (e ∷ es) h = by (test s e.0) h (lookup-more s b es)
     by true h k = absurd (cc)
     by false h k = k h
 
-pub noted-more : (f : FrameNo) (s : List ℕ) (b : Binders) (es fs : Index) → lookup (test s) es ≡ None → fs ≡ es ++ (s, b) ∷ [] → may_be f b ≡ true → may_bind f s fs ≡ true
-noted-more f s b es fs h is k = ap (may_bind f s) is ∙ ap (may_be_of f) (lookup-more s b es h) ∙ k
+pub noted-more : (f : FrameNo) (s t : List ℕ) (b : Binders) (es fs : Index) → s ≡ t → lookup (test s) es ≡ None → fs ≡ es ++ (s, b) ∷ [] → may_be f b ≡ true → may_bind f t fs ≡ true
+noted-more f s t b es fs same h is k = ap (λ x. may_bind f x fs) (sym same) ∙ ap (may_bind f s) is ∙ ap (may_be_of f) (lookup-more s b es h) ∙ k
+
+-- the frames of rows, noted one after another: whatever covers what is noted so far and has the frames of the others has all
+pub record NotedBy (index : Index) (left all : List FrameRow) : Type 0 where
+  pub all_noted : (more : Index) → Covers index more → AllNoted left more → AllNoted all more
+
+pub noted_first : (index : Index) (all : List FrameRow) → NotedBy index all all
+noted_first index all = record { all_noted = λ more c h. h }
+
+pub noted_next : (index new : Index) (r : FrameRow) (left all : List FrameRow) → Covers index new → may_bind r.frame r.symbol new ≡ true → NotedBy index (r ∷ left) all → NotedBy new left all
+noted_next index new r left all c h n = record { all_noted = λ more d k. n.all_noted more (covers_trans index new more c d) (covered new more r.frame r.symbol d h, k) }
+
+pub noted_all : (index : Index) (all : List FrameRow) → NotedBy index [] all → AllNoted all index
+noted_all index all n = n.all_noted index (covers_refl index) tt
 
 -- ---- frames
 

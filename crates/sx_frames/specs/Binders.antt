@@ -26,6 +26,10 @@ is_among f gs = list_any (λ g. same_frame g f) gs
 abbrev pub may_be : FrameNo → Binders → Bool
 may_be f b = if b.many then true else is_among f b.frames
 
+-- each frame that may be one is one of these
+pub record AreAll (b : Binders) (gs : List FrameNo) : Type 0 where
+  pub each : (f : FrameNo) → is_among f gs ≡ false → may_be f b ≡ false
+
 abbrev pub binders_at : List ℕ → Index → Option Binders
 binders_at s index = lookup (pointwise nat_eq s) index
 

@@ -1,8 +1,8 @@
 //! Which frames bind a symbol.
 
-ghost use Rattle.std.specs.Prelude.{◌≡◌, ℕ, [], ◌∷◌, true, false, None, List, IfOk, IfSome, OnOk};
+ghost use Rattle.std.specs.Prelude.{◌≡◌, [], ◌∷◌, true, false, None, IfOk, IfSome, OnOk};
 ghost use Rattle.sx_base.specs.declared.name.FrameNo.{FrameNo};
-ghost use Rattle.sx_frames.specs.Binders.{is_among, may_be, binders_at, Covers, AllNoted, NamesAll, may_bind};
+ghost use Rattle.sx_frames.specs.Binders.{may_be, AreAll, binders_at, Covers, AllNoted, NamesAll, may_bind};
 
 use indexmap::IndexMap;
 use std::alloc::Global;
@@ -38,24 +38,40 @@ impl Binders {
         })
     }
 
+    /// Whether the frame may be one.
+    fn has(&self, frame: &FrameNo) -> bool
+        ensures { result ≡ may_be frame.now self.now }
+    {
+        if self.many {
+            return true;
+        }
+        self.frames.as_slice().contains(frame)
+    }
+
     /// Takes a frame more.
     fn add(&mut self, frame: &FrameNo) -> Result<(), Memory>
         ensures there { OnOk result (may_be frame.now self.new ≡ true) }
         ensures kept { (f : FrameNo) → may_be f self.new ≡ false → may_be f self.old ≡ false }
     {
-        if self.many {
+        if self.has(frame) {
             return Ok(());
         }
-        let frames = self.frames.as_slice();
-        if frames.contains(frame) {
-            return Ok(());
-        }
-        if frames.len() >= FEW {
+        if self.frames.as_slice().len() >= FEW {
             self.many = true;
             return Ok(());
         }
         let frame = frame.share()?;
         self.frames.push(frame)
+    }
+
+    /// All of them, where they are few.
+    fn few(&self) -> Option<&[FrameNo]>
+        ensures { IfSome result (λ gs. AreAll self.now gs.now) }
+    {
+        if self.many {
+            return None;
+        }
+        Some(self.frames.as_slice())
     }
 }
 
@@ -76,10 +92,6 @@ impl Model for BinderIndex {
     ghost coded = { index_code };
 
     ghost view = { λ a. a.rows.entries };
-
-    ghost use Rattle.std.specs.Prelude.{◌≡◌, []};
-
-    ghost invariant = { λ a. a.none ≡ [] };
 }
 
 impl BinderIndex {
@@ -99,8 +111,7 @@ impl BinderIndex {
         ensures { IfSome result (λ fs. NamesAll self.now symbol.now fs.now) }
     {
         match self.rows.get(symbol) {
-            Some(binders) if binders.many => None,
-            Some(binders) => Some(binders.frames.as_slice()),
+            Some(binders) => binders.few(),
             None => Some(self.none.as_slice()),
         }
     }
