@@ -1,6 +1,6 @@
 -- The index of binders stays whole while frames grow.
 use Rattle.std.specs.Prelude.{◌≡◌, ℕ, Bool, true, false, cond, ◌||◌, nat_eq, List, [], ◌∷◌, ◌++◌, Option, None, Some, is_some, IfSome, Result, Ok, Err, OnOk, OnErr, refl}
-use Rattle.std.proofs.Common.{sym, ◌∙◌, ap, subst, true≢false}
+use Rattle.std.proofs.Common.{suc, ◌+◌, ◌<◌, length, get_or, drop, sym, ◌∙◌, ap, subst, true≢false, add-one, drop-cons}
 use Rattle.std.proofs.lemmas.List.Folds.{list_any-append}
 use Rattle.std.specs.Borrow.{Bor}
 use Rattle.std.specs.Cmp.Lexicographic.{pointwise}
@@ -162,11 +162,17 @@ pub record NotedBy (index : Index) (left all : List FrameRow) : Type 0 where
 pub noted_first : (index : Index) (all : List FrameRow) → NotedBy index all all
 noted_first index all = record { all_noted = λ more c h. h }
 
-pub noted_next : (index new : Index) (r : FrameRow) (left all : List FrameRow) → Covers index new → may_bind r.frame r.symbol new ≡ true → NotedBy index (r ∷ left) all → NotedBy new left all
+noted_next : (index new : Index) (r : FrameRow) (left all : List FrameRow) → Covers index new → may_bind r.frame r.symbol new ≡ true → NotedBy index (r ∷ left) all → NotedBy new left all
 noted_next index new r left all c h n = record { all_noted = λ more d k. n.all_noted more (covers_trans index new more c d) (covered new more r.frame r.symbol d h, k) }
 
-pub noted_all : (index : Index) (all : List FrameRow) → NotedBy index [] all → AllNoted all index
-noted_all index all n = n.all_noted index (covers_refl index) tt
+pub noted_step : (index new : Index) (rows : List FrameRow) (i : ℕ) (r : FrameRow) → i < length rows → r ≡ get_or rows i r → Covers index new → may_bind r.frame r.symbol new ≡ true
+    → NotedBy index (drop i rows) rows → NotedBy new (drop (i + 1) rows) rows
+noted_step index new rows i r h e c there n =
+    let cons : drop i rows ≡ r ∷ drop (i + 1) rows = rw add-one (drop-cons rows i r h ∙ ap (λ x. x ∷ drop (suc i) rows) (sym e)) in
+    noted_next index new r (drop (i + 1) rows) rows c there (subst (λ xs. NotedBy index xs rows) cons n)
+
+pub noted_all : (index : Index) (left all : List FrameRow) → left ≡ [] → NotedBy index left all → AllNoted all index
+noted_all index left all is n = n.all_noted index (covers_refl index) (subst (λ xs. AllNoted xs index) (sym is) tt)
 
 -- ---- frames
 
