@@ -9,7 +9,7 @@ pub loop-row-preserved : goal.loop-row-preserved
 loop-row-preserved c =
     let l = c.loop-row in
     record {
-      noted = noted_step l.self c.add.new.self c.args.rows.now l.row-index c.loop-row-item.result c.loop-row-test.true c.loop-row-item.is c.add.ensures.kept c.in_ok-add.ensures.there l.invariant.noted;
+      noted = noted_step l.self c.add.new.self c.args.rows.now l.row-index c.row-item.result c.loop-row-test.true c.row-item.is c.add.ensures.kept c.in_ok-add.ensures.there l.invariant.noted;
       kept = covers_trans c.args.self.now l.self c.add.new.self l.invariant.kept c.add.ensures.kept;
     }
 
