@@ -1,11 +1,13 @@
 -- The index of binders stays whole while frames grow.
-use Rattle.std.specs.Prelude.{◌≡◌, ℕ, Bool, true, false, cond, ◌||◌, nat_eq, List, [], ◌∷◌, ◌++◌, Option, None, Some, is_some, IfSome, Result, Ok, Err, OnOk, OnErr, refl}
+use Rattle.std.specs.Prelude.{◌≡◌, ℕ, Bool, true, false, cond, ◌&&◌, ◌||◌, nat_eq, List, [], ◌∷◌, ◌++◌, Option, None, Some, is_some, IfSome, Result, Ok, Err, OnOk, OnErr, refl}
 use Rattle.std.proofs.Common.{suc, ◌+◌, ◌<◌, length, get_or, drop, sym, ◌∙◌, ap, subst, true≢false, add-one, drop-cons}
 use Rattle.std.proofs.lemmas.List.Folds.{list_any-append}
 use Rattle.std.specs.Borrow.{Bor}
 use Rattle.std.specs.Cmp.Lexicographic.{pointwise}
 use Rattle.std.specs.List.{list_any}
 use Rattle.std.specs.Map.{lookup, set_value}
+use Rattle.indexmap.specs.IndexMap.{IndexMap, insert_entry}
+use Rattle.indexmap.proofs.CallerLemmas.{insert_entry-new}
 use Rattle.sx_base.specs.Gives.{BareGives}
 use Rattle.sx_base.specs.Same.{same_library, same_library_decides, texts_decides}
 use Rattle.sx_base.specs.declared.fault.Bare.{Bare}
@@ -155,6 +157,13 @@ lookup-more s b (e ∷ es) h = by (test s e.0) h (lookup-more s b es)
 pub noted-more : (f : FrameNo) (s t : List ℕ) (b : Binders) (es fs : Index) → s ≡ t → lookup (test s) es ≡ None → fs ≡ es ++ (s, b) ∷ [] → may_be f b ≡ true → may_bind f t fs ≡ true
 noted-more f s t b es fs same h is k = ap (λ x. may_bind f x fs) (sym same) ∙ ap (may_bind f s) is ∙ ap (may_be_of f) (lookup-more s b es h) ∙ k
 
+-- a symbol that wasn't there comes last
+pub first_entry : {S : Type 0} (m : IndexMap (List ℕ) Binders S) (s t : List ℕ) (b : Binders) (all fs : Index) → s ≡ t → m.entries ≡ all → binders_at t all ≡ None
+    → fs ≡ insert_entry (pointwise nat_eq) m.entries s b → (lookup (test s) m.entries ≡ None) × (fs ≡ m.entries ++ (s, b) ∷ [])
+first_entry m s t b all fs same view none made =
+    let absent : lookup (test s) m.entries ≡ None = (λ i. lookup (test (same i)) (view i)) ∙ none in
+    (absent, made ∙ insert_entry-new (pointwise nat_eq) m s b absent)
+
 -- the frames of rows, noted one after another: whatever covers what is noted so far and has the frames of the others has all
 pub record NotedBy (index : Index) (left all : List FrameRow) : Type 0 where
   pub all_noted : (more : Index) → Covers index more → AllNoted left more → AllNoted all more
@@ -180,7 +189,7 @@ pub indexed-covers : (a b : Index) (fs : Scope) → Covers a b → IsIndexed a f
 indexed-covers a b fs c h = record { none = λ f s ms k. h.none f s ms (c.each f s k) }
 
 label_in-more : (rs : List Row) (r : Row) (s : List ℕ) (ms : List Mark) → label_in rs s ms ≡ None → pointwise nat_eq s r.symbol ≡ false → label_in (rs ++ r ∷ []) s ms ≡ None
-label_in-more [] r s ms h k = ap (λ b. cond {A = Option Label} (cond b (same_marks ms r.marks) false) (Some r.label) None) k
+label_in-more [] r s ms h k = ap (λ b. cond {A = Option Label} (b && same_marks ms r.marks) (Some r.label) None) k
 label_in-more (x ∷ xs) r s ms h k = by (is_of s ms x) h (λ h. label_in-more xs r s ms h k)
   where
     by : (t : Bool) → cond t (Some x.label) (label_in xs s ms) ≡ None → (label_in xs s ms ≡ None → label_in (xs ++ r ∷ []) s ms ≡ None) → cond t (Some x.label) (label_in (xs ++ r ∷ []) s ms) ≡ None
