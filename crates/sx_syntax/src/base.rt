@@ -127,10 +127,14 @@ pub struct LeafStamps {
 }
 
 impl Model for LeafStamps {
+    ghost use Rattle.std.specs.Coded.{coded_list};
     ghost use Rattle.std.specs.Prelude.{List};
     ghost use Rattle.sx_tree.specs.declared.stamp.Stamp.{Stamp};
+    ghost use Rattle.sx_syntax.specs.Base.{stamp_code};
 
     ghost Value = { List Stamp };
+
+    ghost coded = { coded_list stamp_code };
 
     ghost view = { λ a. a.stamps };
 }

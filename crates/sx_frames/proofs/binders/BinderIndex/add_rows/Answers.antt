@@ -1,4 +1,5 @@
-use Rattle.std.proofs.Common.{drop, drop_of_length-le, le_of_eq, arith}
+use Rattle.std.proofs.Common.{drop, arith}
+use Rattle.std.proofs.lemmas.List.{drop_all}
 use Rattle.sx_frames.proofs.BinderLemmas.{noted_first, noted_step, noted_all, covers_refl, covers_trans}
 use Rattle.sx_frames.proofs.binders.BinderIndex.add_rows.Goals as goal
 
@@ -17,4 +18,4 @@ pub returns-in_err-add-clause-kept : goal.returns-in_err-add-clause-kept
 returns-in_err-add-clause-kept c = covers_trans c.args.self.now c.loop-row.self c.add.new.self c.loop-row.invariant.kept c.add.ensures.kept
 
 pub returns-clause-there : goal.returns-clause-there
-returns-clause-there c = noted_all c.loop-row.self (drop c.loop-row.row-index c.args.rows.now) c.args.rows.now (drop_of_length-le c.args.rows.now c.loop-row.row-index (omega arith)) c.loop-row.invariant.noted
+returns-clause-there c = noted_all c.loop-row.self (drop c.loop-row.row-index c.args.rows.now) c.args.rows.now (drop_all c.loop-row.row-index c.args.rows.now (omega arith)) c.loop-row.invariant.noted
