@@ -1,0 +1,7 @@
+use Rattle.std.proofs.Common.{sym}
+use Rattle.sx_frames.specs.Binders.{IsIndexed}
+use Rattle.sx_frames.proofs.BinderLemmas.{indexed-empty}
+use Rattle.sx_frames.proofs.indexed.IndexedFrames.new.Goals as goal
+
+pub invariant_of-result : goal.invariant_of-result
+invariant_of-result c = rw (c.new-index.ensures, c.new-frames.ensures) indexed-empty
