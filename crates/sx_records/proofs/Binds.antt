@@ -3,7 +3,6 @@ use Rattle.std.proofs.Common.{◌≡◌, ℕ, ◌+◌, Bool, true, false, List, 
 use Rattle.std.specs.List.{flat_map}
 use Rattle.std.specs.Prelude.{Result, codes, if◌then◌else◌}
 use Rattle.sx_base.specs.Gives.{◌>>=◌}
-use Rattle.sx_base.specs.declared.fault.Bare.{Bare}
 use Rattle.sx_base.specs.declared.name.FrameNo.{FrameNo}
 use Rattle.sx_base.specs.declared.name.Mark.{Mark}
 use Rattle.sx_tree.specs.Changes.{leave}
@@ -13,7 +12,7 @@ use Rattle.sx_tree.specs.Tree.{Tree, nil, chain, list_of}
 use Rattle.sx_shapes.specs.Lists.{elements}
 use Rattle.sx_records.specs.Binders.{binder_of, binders, second_of, if_there, field_names, type_names}
 use Rattle.sx_records.specs.Introduced.{Made, introduced, plain, list_made, list_of_two, list_of_three}
-use Rattle.sx_records.specs.Definitions.{Row, rtd, rcd, definition, definition_by, type_value, constructor_value, keyword_value, keyword_definition, constructor_definition, predicate_definition, place_in, accessor_definition, mutator_definition, with_mutator, with_field, with_fields, first_definitions, definitions, or_no_fields}
+use Rattle.sx_records.specs.Definitions.{rtd, rcd, definition, definition_by, type_value, constructor_value, keyword_value, keyword_definition, constructor_definition, predicate_definition, accessor_value, accessor_definition, mutator_value, mutator_definition, with_mutator, with_field, with_fields, first_definitions, definitions, or_no_fields}
 use Rattle.sx_records.specs.declared.clause.Clauses.{Clauses}
 use Rattle.sx_records.specs.declared.clause.Field.{Field}
 use Rattle.sx_records.specs.declared.names.RecordNames.{RecordNames}
@@ -82,22 +81,16 @@ and_more done mid ts names others a b = record {
   binds = flat_joined a.more b.more ∙ ap (λ zs. zs ++ flat_map binder_of b.more) a.binds ∙ ap (λ zs. names ++ zs) b.binds;
 }
 
-abbrev mutator_made : ℕ → Made
-mutator_made k = list_of_three (introduced (codes "record-mutator")) rtd (place_in k)
-
-abbrev accessor_made : ℕ → Made
-accessor_made k = list_of_three (introduced (codes "record-accessor")) rtd (place_in k)
-
 mutator_adds : (k : ℕ) (done : List Tree) (put : Option Tree) (ts : List Tree) → with_mutator k done put ≡ Ok ts → Adds done (if_there put) ts
 mutator_adds k done None ts h = let e : done ≡ ts = cc in record { more = []; is = sym e ∙ none_more done; binds = refl }
 mutator_adds k done (Some put) ts h =
     from_ok (mutator_definition k put) (λ t. Ok (done ++ t ∷ [])) ts h
-    (λ t e g. let is : done ++ t ∷ [] ≡ ts = cc in subst (λ us. Adds done (put ∷ []) us) is (one_more done t put (by_binds put (mutator_made k) t e)))
+    (λ t e g. let is : done ++ t ∷ [] ≡ ts = cc in subst (λ us. Adds done (put ∷ []) us) is (one_more done t put (by_binds put (mutator_value k) t e)))
 
 field_adds : (k : ℕ) (done : List Tree) (f : Field) (ts : List Tree) → with_field k done f ≡ Ok ts → Adds done (field_names f) ts
 field_adds k done f ts h =
     from_ok (accessor_definition k f.accessor) (λ t. with_mutator k (done ++ t ∷ []) f.mutator) ts h
-    (λ t e g. and_more done (done ++ t ∷ []) ts (f.accessor ∷ []) (if_there f.mutator) (one_more done t f.accessor (by_binds f.accessor (accessor_made k) t e)) (mutator_adds k (done ++ t ∷ []) f.mutator ts g))
+    (λ t e g. and_more done (done ++ t ∷ []) ts (f.accessor ∷ []) (if_there f.mutator) (one_more done t f.accessor (by_binds f.accessor (accessor_value k) t e)) (mutator_adds k (done ++ t ∷ []) f.mutator ts g))
 
 fields_add : (k : ℕ) (done : List Tree) (fs : List Field) (ts : List Tree) → with_fields k done fs ≡ Ok ts → Adds done (flat_map field_names fs) ts
 fields_add k done [] ts h = let e : done ≡ ts = cc in record { more = []; is = sym e ∙ none_more done; binds = refl }

@@ -20,11 +20,9 @@ use Rattle.sx_shapes.specs.Lists.{is_leaf, proper_elements, if_some, all_of}
 use Rattle.sx_records.specs.Names.{made_accessor, made_mutator}
 use Rattle.sx_records.specs.declared.clause.Clauses.{Clauses}
 use Rattle.sx_records.specs.declared.clause.Field.{Field}
-use Rattle.sx_records.specs.declared.clause.Parent.{Parent}
 use Rattle.sx_records.specs.declared.clause.Parent.TheVariants as parents
 use Rattle.sx_records.specs.declared.clause.RecordClause.{RecordClause}
 use Rattle.sx_records.specs.declared.clause.RecordClause.TheVariants as clause
-use Rattle.sx_records.specs.declared.clause.Uid.{Uid}
 use Rattle.sx_records.specs.declared.clause.Uid.TheVariants as uid
 
 -- What identifiers stand for.

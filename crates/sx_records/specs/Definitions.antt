@@ -1,5 +1,5 @@
 -- The definitions that `define-record-type` stands for (libraries report 6.2), by the procedures of the procedural layer (6.3).
-use Rattle.std.specs.Prelude.{ℕ, ◌+◌, pos, Bool, true, false, List, [], ◌∷◌, ◌++◌, codes, Option, None, Some, Ok, Err, Result}
+use Rattle.std.specs.Prelude.{ℕ, ◌+◌, pos, Bool, false, List, [], ◌∷◌, ◌++◌, codes, Option, None, Some, Ok, Result}
 use Rattle.sx_base.specs.Gives.{◌>>=◌}
 use Rattle.sx_base.specs.declared.atom.Atom.TheVariants as atoms
 use Rattle.sx_base.specs.declared.fault.Bare.{Bare}
@@ -61,7 +61,7 @@ abbrev pub type_in : Parent → Made
 type_in (parents.Named id) = list_of_two id type_word
 type_in (parents.Descriptors r c) = Ok r
 
-abbrev pub parent_type : Option Parent → Made
+unfoldable pub parent_type : Option Parent → Made
 parent_type None = Ok (boolean false)
 parent_type (Some p) = type_in p
 
@@ -69,17 +69,21 @@ abbrev pub uid_in : List ℕ → Uid → Made
 uid_in own uid.Generated = quoted (introduced own)
 uid_in own (uid.Given id) = quoted id
 
-abbrev pub uid_part : List ℕ → Option Uid → Made
+unfoldable pub uid_part : List ℕ → Option Uid → Made
 uid_part own None = Ok (boolean false)
 uid_part own (Some u) = uid_in own u
 
-abbrev pub or_false : Option Bool → Bool
+unfoldable pub or_false : Option Bool → Bool
 or_false None = false
 or_false (Some b) = b
 
+-- the procedure that makes record types
+unfoldable pub type_operator : Tree
+type_operator = introduced (codes "make-record-type-descriptor")
+
 abbrev pub type_made : Clauses → Tree → Tree → Tree → Tree → Made
 type_made cs name parent u fields =
-    list_made (introduced (codes "make-record-type-descriptor") ∷ (name ∷ (parent ∷ (u ∷ (boolean (or_false cs.sealed) ∷ (boolean (or_false cs.opaque) ∷ (fields ∷ [])))))))
+    list_made (type_operator ∷ (name ∷ (parent ∷ (u ∷ (boolean (or_false cs.sealed) ∷ (boolean (or_false cs.opaque) ∷ (fields ∷ [])))))))
 
 unfoldable pub type_value : List ℕ → RecordNames → Clauses → Made
 type_value own names cs =
@@ -94,18 +98,23 @@ abbrev pub constructor_in : Parent → Made
 constructor_in (parents.Named id) = list_of_two id constructor_word
 constructor_in (parents.Descriptors r c) = Ok c
 
-abbrev pub parent_constructor : Option Parent → Made
+unfoldable pub parent_constructor : Option Parent → Made
 parent_constructor None = Ok (boolean false)
 parent_constructor (Some p) = constructor_in p
 
-abbrev pub protocol_part : Option Tree → Tree
+unfoldable pub protocol_part : Option Tree → Tree
 protocol_part None = boolean false
 protocol_part (Some e) = e
 
+-- the procedure that makes descriptors of constructors
+unfoldable pub constructor_operator : Tree
+constructor_operator = introduced (codes "make-record-constructor-descriptor")
+
+abbrev pub constructor_made : Tree → Tree → Made
+constructor_made parent protocol = list_made (constructor_operator ∷ (rtd ∷ (parent ∷ (protocol ∷ []))))
+
 unfoldable pub constructor_value : Clauses → Made
-constructor_value cs =
-    parent_constructor cs.parent >>= (λ parent.
-    list_made (introduced (codes "make-record-constructor-descriptor") ∷ (rtd ∷ (parent ∷ (protocol_part cs.protocol ∷ [])))))
+constructor_value cs = parent_constructor cs.parent >>= (λ parent. constructor_made parent (protocol_part cs.protocol))
 
 -- The keyword, which gives the two descriptors where a form names the record type.
 
@@ -145,11 +154,23 @@ predicate_definition id = definition_by id (list_of_two (introduced (codes "reco
 abbrev pub place_in : ℕ → Tree
 place_in k = atom None (atoms.Int (pos k))
 
+unfoldable pub accessor_operator : Tree
+accessor_operator = introduced (codes "record-accessor")
+
+unfoldable pub accessor_value : ℕ → Made
+accessor_value k = list_of_three accessor_operator rtd (place_in k)
+
 abbrev pub accessor_definition : ℕ → Tree → Made
-accessor_definition k id = definition_by id (list_of_three (introduced (codes "record-accessor")) rtd (place_in k))
+accessor_definition k id = definition_by id (accessor_value k)
+
+unfoldable pub mutator_operator : Tree
+mutator_operator = introduced (codes "record-mutator")
+
+unfoldable pub mutator_value : ℕ → Made
+mutator_value k = list_of_three mutator_operator rtd (place_in k)
 
 abbrev pub mutator_definition : ℕ → Tree → Made
-mutator_definition k id = definition_by id (list_of_three (introduced (codes "record-mutator")) rtd (place_in k))
+mutator_definition k id = definition_by id (mutator_value k)
 
 abbrev pub with_mutator : ℕ → List Tree → Option Tree → Row
 with_mutator k done None = Ok done

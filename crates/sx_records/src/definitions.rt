@@ -3,7 +3,7 @@
 ghost use Rattle.std.specs.Prelude.{◌≡◌, [], IfOk};
 ghost use Rattle.sx_base.specs.Gives.{BareGives};
 ghost use Rattle.sx_records.specs.Introduced.{list_of_two};
-ghost use Rattle.sx_records.specs.Definitions.{rtd, rcd, type_word, constructor_word, definition, definition_by, mutability, field_entry, field_entries, fields_part, type_in, parent_type, uid_in, uid_part, or_false, type_value, constructor_in, parent_constructor, protocol_part, constructor_value, keyword_clause, keyword_body, keyword_value, keyword_definition, constructor_definition, predicate_definition, place_in, accessor_definition, mutator_definition, with_mutator, with_field, with_fields, first_definitions, definitions, or_no_fields};
+ghost use Rattle.sx_records.specs.Definitions.{rtd, rcd, type_word, constructor_word, definition, definition_by, mutability, field_entry, field_entries, fields_part, type_in, parent_type, uid_in, uid_part, or_false, type_operator, type_made, type_value, constructor_in, parent_constructor, protocol_part, constructor_operator, constructor_made, constructor_value, keyword_clause, keyword_body, keyword_value, keyword_definition, constructor_definition, predicate_definition, place_in, accessor_operator, accessor_value, accessor_definition, mutator_operator, mutator_value, mutator_definition, with_mutator, with_field, with_fields, first_definitions, definitions, or_no_fields};
 
 use crate::clause::{Clauses, Field, Parent, Uid};
 use crate::introduced::{
@@ -118,6 +118,7 @@ fn type_in(alloc: Global, parent: &Parent) -> Result<Syn, BareStop>
     }
 }
 
+#[tactic(auto, unfolding(crate::specs::Definitions::parent_type))]
 fn parent_type(alloc: Global, parent: &Option<Parent>) -> Result<Syn, BareStop>
     ensures { BareGives (λ t. t) result (parent_type parent.now) }
 {
@@ -145,6 +146,7 @@ fn uid_in(alloc: Global, own: &Symbol, uid: &Uid) -> Result<Syn, BareStop>
     }
 }
 
+#[tactic(auto, unfolding(crate::specs::Definitions::uid_part))]
 fn uid_part(alloc: Global, own: &Symbol, uid: &Option<Uid>) -> Result<Syn, BareStop>
     ensures { BareGives (λ t. t) result (uid_part own.now uid.now) }
 {
@@ -157,6 +159,7 @@ fn uid_part(alloc: Global, own: &Symbol, uid: &Option<Uid>) -> Result<Syn, BareS
     }
 }
 
+#[tactic(auto, unfolding(crate::specs::Definitions::or_false))]
 fn or_false(value: &Option<bool>) -> bool
     ensures { result ≡ or_false value.now }
 {
@@ -166,7 +169,38 @@ fn or_false(value: &Option<bool>) -> bool
     }
 }
 
+#[tactic(auto, unfolding(crate::specs::Definitions::type_operator))]
+fn type_operator(alloc: Global) -> Result<Syn, Memory>
+    ensures { IfOk result (λ t. t ≡ type_operator) }
+{
+    introduced(alloc, "make-record-type-descriptor")
+}
+
 /// `(make-record-type-descriptor 'name parent uid sealed opaque '#(field ...))`.
+fn type_made(
+    alloc: Global,
+    clauses: &Clauses,
+    name: Syn,
+    parent: Syn,
+    uid: Syn,
+    fields: Syn,
+) -> Result<Syn, BareStop>
+    ensures { BareGives (λ t. t) result (type_made clauses.now name parent uid fields) }
+{
+    let maker = type_operator(alloc)?;
+    let sealed = boolean(alloc, or_false(&clauses.sealed))?;
+    let opaque = boolean(alloc, or_false(&clauses.opaque))?;
+    let mut forms = Items::new(alloc);
+    forms.push(maker)?;
+    forms.push(name)?;
+    forms.push(parent)?;
+    forms.push(uid)?;
+    forms.push(sealed)?;
+    forms.push(opaque)?;
+    forms.push(fields)?;
+    list_made(alloc, forms)
+}
+
 #[tactic(auto, unfolding(crate::specs::Definitions::type_value))]
 fn type_value(
     alloc: Global,
@@ -181,18 +215,7 @@ fn type_value(
     let parent = parent_type(alloc, &clauses.parent)?;
     let uid = uid_part(alloc, own, &clauses.nongenerative)?;
     let fields = fields_part(alloc, &clauses.fields)?;
-    let maker = introduced(alloc, "make-record-type-descriptor")?;
-    let sealed = boolean(alloc, or_false(&clauses.sealed))?;
-    let opaque = boolean(alloc, or_false(&clauses.opaque))?;
-    let mut forms = Items::new(alloc);
-    forms.push(maker)?;
-    forms.push(name)?;
-    forms.push(parent)?;
-    forms.push(uid)?;
-    forms.push(sealed)?;
-    forms.push(opaque)?;
-    forms.push(fields)?;
-    list_made(alloc, forms)
+    type_made(alloc, clauses, name, parent, uid, fields)
 }
 
 fn constructor_in(alloc: Global, parent: &Parent) -> Result<Syn, BareStop>
@@ -211,6 +234,7 @@ fn constructor_in(alloc: Global, parent: &Parent) -> Result<Syn, BareStop>
     }
 }
 
+#[tactic(auto, unfolding(crate::specs::Definitions::parent_constructor))]
 fn parent_constructor(alloc: Global, parent: &Option<Parent>) -> Result<Syn, BareStop>
     ensures { BareGives (λ t. t) result (parent_constructor parent.now) }
 {
@@ -223,6 +247,7 @@ fn parent_constructor(alloc: Global, parent: &Option<Parent>) -> Result<Syn, Bar
     }
 }
 
+#[tactic(auto, unfolding(crate::specs::Definitions::protocol_part))]
 fn protocol_part(alloc: Global, protocol: &Option<Syn>) -> Result<Syn, Memory>
     ensures { IfOk result (λ t. t ≡ protocol_part protocol.now) }
 {
@@ -232,21 +257,35 @@ fn protocol_part(alloc: Global, protocol: &Option<Syn>) -> Result<Syn, Memory>
     }
 }
 
-/// `(make-record-constructor-descriptor rtd parent protocol)`.
-#[tactic(auto, unfolding(crate::specs::Definitions::constructor_value))]
-fn constructor_value(alloc: Global, clauses: &Clauses) -> Result<Syn, BareStop>
-    ensures { BareGives (λ t. t) result (constructor_value clauses.now) }
+#[tactic(auto, unfolding(crate::specs::Definitions::constructor_operator))]
+fn constructor_operator(alloc: Global) -> Result<Syn, Memory>
+    ensures { IfOk result (λ t. t ≡ constructor_operator) }
 {
-    let parent = parent_constructor(alloc, &clauses.parent)?;
-    let maker = introduced(alloc, "make-record-constructor-descriptor")?;
+    introduced(alloc, "make-record-constructor-descriptor")
+}
+
+/// `(make-record-constructor-descriptor rtd parent protocol)`.
+fn constructor_made(alloc: Global, parent: Syn, protocol: Syn) -> Result<Syn, BareStop>
+    ensures { BareGives (λ t. t) result (constructor_made parent protocol) }
+{
+    let maker = constructor_operator(alloc)?;
     let rtd = rtd(alloc)?;
-    let protocol = protocol_part(alloc, &clauses.protocol)?;
     let mut forms = Items::new(alloc);
     forms.push(maker)?;
     forms.push(rtd)?;
     forms.push(parent)?;
     forms.push(protocol)?;
     list_made(alloc, forms)
+}
+
+/// The descriptor of what makes records.
+#[tactic(auto, unfolding(crate::specs::Definitions::constructor_value))]
+fn constructor_value(alloc: Global, clauses: &Clauses) -> Result<Syn, BareStop>
+    ensures { BareGives (λ t. t) result (constructor_value clauses.now) }
+{
+    let parent = parent_constructor(alloc, &clauses.parent)?;
+    let protocol = protocol_part(alloc, &clauses.protocol)?;
+    constructor_made(alloc, parent, protocol)
 }
 
 /// `((_ word) (syntax value))`.
@@ -351,23 +390,51 @@ fn place_in(alloc: Global, number: u64) -> Result<Syn, Memory>
     Syn::atom(alloc, Atom::Int(i128::from(number)))
 }
 
+#[tactic(auto, unfolding(crate::specs::Definitions::accessor_operator))]
+fn accessor_operator(alloc: Global) -> Result<Syn, Memory>
+    ensures { IfOk result (λ t. t ≡ accessor_operator) }
+{
+    introduced(alloc, "record-accessor")
+}
+
+#[tactic(auto, unfolding(crate::specs::Definitions::accessor_value))]
+fn accessor_value(alloc: Global, number: u64) -> Result<Syn, BareStop>
+    ensures { BareGives (λ t. t) result (accessor_value number) }
+{
+    let operator = accessor_operator(alloc)?;
+    let rtd = rtd(alloc)?;
+    let number = place_in(alloc, number)?;
+    list_of_three(alloc, operator, rtd, number)
+}
+
 fn accessor_definition(alloc: Global, number: u64, id: Syn) -> Result<Syn, BareStop>
     ensures { BareGives (λ t. t) result (accessor_definition number id) }
 {
-    let operator = introduced(alloc, "record-accessor")?;
+    let value = accessor_value(alloc, number)?;
+    definition(alloc, id, value)
+}
+
+#[tactic(auto, unfolding(crate::specs::Definitions::mutator_operator))]
+fn mutator_operator(alloc: Global) -> Result<Syn, Memory>
+    ensures { IfOk result (λ t. t ≡ mutator_operator) }
+{
+    introduced(alloc, "record-mutator")
+}
+
+#[tactic(auto, unfolding(crate::specs::Definitions::mutator_value))]
+fn mutator_value(alloc: Global, number: u64) -> Result<Syn, BareStop>
+    ensures { BareGives (λ t. t) result (mutator_value number) }
+{
+    let operator = mutator_operator(alloc)?;
     let rtd = rtd(alloc)?;
     let number = place_in(alloc, number)?;
-    let value = list_of_three(alloc, operator, rtd, number)?;
-    definition(alloc, id, value)
+    list_of_three(alloc, operator, rtd, number)
 }
 
 fn mutator_definition(alloc: Global, number: u64, id: Syn) -> Result<Syn, BareStop>
     ensures { BareGives (λ t. t) result (mutator_definition number id) }
 {
-    let operator = introduced(alloc, "record-mutator")?;
-    let rtd = rtd(alloc)?;
-    let number = place_in(alloc, number)?;
-    let value = list_of_three(alloc, operator, rtd, number)?;
+    let value = mutator_value(alloc, number)?;
     definition(alloc, id, value)
 }
 
