@@ -4,5 +4,5 @@ use Rattle.sx_syntax.proofs.base.LeafStamps.among.Goals as goal
 
 pub loop-held-preserved : goal.loop-held-preserved
 loop-held-preserved c =
-    filter_step (is_for c.args.library.now c.args.frames.now) c.in-Some.held.now c.loop-held.left c.in-Some.below.now c.loop-held.stamps.items c.push_for.new.stamps.items c.args.self.now
+    filter_step (is_for c.args.library.now c.args.frames.now) c.in-Some.held.now c.loop-held.left.now c.in-Some.below.now c.loop-held.stamps.items c.push_for.new.stamps.items c.args.self.now
     c.in-Some.ensures.some c.in_ok-push_for.ensures c.loop-held.invariant
