@@ -68,11 +68,7 @@ fn part<'a>(given: &'a Given, own: &'a IndexedFrames, library: &Rc<LibName>) -> 
 }
 
 /// The frames among which a frame is.
-fn part_of_frame<'a>(
-    given: &'a Given,
-    own: &'a IndexedFrames,
-    frame: &FrameNo,
-) -> &'a FrameMap
+fn part_of_frame<'a>(given: &'a Given, own: &'a IndexedFrames, frame: &FrameNo) -> &'a FrameMap
     ensures { result.now ≡ part_of (parts_given given.now) own.now frame.now.0.library }
 {
     part(given, own, &frame.0.library)

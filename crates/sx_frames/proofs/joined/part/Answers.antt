@@ -1,7 +1,6 @@
 use Rattle.std.proofs.Common.{Option, sym, ap, ◌∙◌}
 use Rattle.sx_frames.specs.Given.{Parts, part_of}
 use Rattle.sx_frames.specs.Needed.{parts_given}
-use Rattle.sx_frames.specs.Scope.{Scope}
 use Rattle.sx_frames.proofs.GivenLemmas.{part_of-lookup, or_own}
 use Rattle.sx_frames.proofs.joined.part.Goals as goal
 

@@ -9,5 +9,5 @@ returns-then-not-is_for c =
 
 pub returns : goal.returns
 returns c =
-    filter_in (is_for c.args.library.now c.args.frames.now) c.args.held.now c.in_ok-stamp.stamp c.args.stamps.now.items c.push.new.stamps.items
+    filter_in (is_for c.args.library.now c.args.frames.now) c.args.held.now c.in_ok-stamp.stamp c.args.stamps.now.items c.push.new.self.items
     (sym c.is_for.ensures ∙ c.if-not-is_for.false) c.in_ok-stamp.ensures c.in_ok-push.ensures.items

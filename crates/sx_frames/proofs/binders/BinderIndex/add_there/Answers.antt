@@ -1,4 +1,3 @@
-use Rattle.std.proofs.Common.{sym}
 use Rattle.sx_frames.proofs.BinderLemmas.{noted-set_value, covers-set_value}
 use Rattle.sx_frames.proofs.binders.BinderIndex.add_there.Goals as goal
 

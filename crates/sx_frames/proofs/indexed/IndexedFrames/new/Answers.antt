@@ -1,5 +1,3 @@
-use Rattle.std.proofs.Common.{sym}
-use Rattle.sx_frames.specs.Binders.{IsIndexed}
 use Rattle.sx_frames.proofs.BinderLemmas.{indexed-empty}
 use Rattle.sx_frames.proofs.indexed.IndexedFrames.new.Goals as goal
 

@@ -1,8 +1,5 @@
-use Rattle.std.proofs.Common.{sym, ap, subst, ◌++◌}
-use Rattle.sx_frames.specs.Binders.{OnlyOfLibrary}
-use Rattle.sx_frames.specs.Given.{flat}
+use Rattle.std.proofs.Common.{sym}
 use Rattle.sx_frames.specs.Needed.{parts_given}
-use Rattle.sx_frames.specs.Scope.{Scope}
 use Rattle.sx_frames.proofs.BinderLemmas.{some-own}
 use Rattle.sx_frames.proofs.joined.JoinedFrames.binders.Goals as goal
 
