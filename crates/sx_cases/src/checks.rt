@@ -84,6 +84,8 @@ use crate::tables::reading::DATA;
 use crate::tables::reading::MISPLACED;
 use crate::tables::reading::NESTING;
 use crate::tables::realistic::REALISTIC;
+use crate::tables::record_uses::{RECORD_MACROS, RECORD_PLACES};
+use crate::tables::records::{BAD_RECORDS, RECORD_CLAUSES, RECORD_NAMES, RECORDS};
 use crate::tables::rules::RULES;
 use crate::tables::same::SAME;
 use crate::tables::shapes::HEADLESS;
@@ -335,6 +337,16 @@ const DERIVED_FORMS: [&str; 12] = [
     ALIASES,
 ];
 
+// Record types.
+const RECORD_TYPES: [&str; 6] = [
+    RECORDS,
+    RECORD_NAMES,
+    BAD_RECORDS,
+    RECORD_CLAUSES,
+    RECORD_PLACES,
+    RECORD_MACROS,
+];
+
 // Uses, transformers, patterns and templates at fault.
 const FAULTS: [&str; 5] = [
     POSITIONS,
@@ -411,6 +423,11 @@ fn macros_expand(rt: HostRuntime) -> Result<(), Fail> {
 #[test]
 fn macros_are_bound_where_they_should_be(rt: HostRuntime) -> Result<(), Fail> {
     check(rt.alloc(), &SCOPES)
+}
+
+#[test]
+fn record_types_stand_for_their_definitions(rt: HostRuntime) -> Result<(), Fail> {
+    check(rt.alloc(), &RECORD_TYPES)
 }
 
 #[test]

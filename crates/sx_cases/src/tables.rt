@@ -56,6 +56,8 @@ pub mod quasi_plans;
 pub mod read_values;
 pub mod reading;
 pub mod realistic;
+pub mod record_uses;
+pub mod records;
 pub mod rules;
 pub mod same;
 pub mod shapes;

@@ -6,13 +6,13 @@ use Rattle.sx_base.specs.declared.fault.Fault.{Fault}
 use Rattle.sx_base.specs.declared.fault.FaultKind.TheVariants as kind
 use Rattle.sx_base.specs.declared.fault.Stop.{Stop}
 use Rattle.sx_base.specs.declared.fault.Stop.TheVariants as stops
-use Rattle.sx_base.specs.declared.name.Label.{Label}
 use Rattle.sx_base.specs.declared.span.Span.{Span}
 use Rattle.sx_tree.specs.Tree.{Tree}
 use Rattle.sx_core.specs.declared.record.LibRecord.{LibRecord}
 use Rattle.sx_shapes.specs.At.{fault_at, place_of}
 use Rattle.sx_standing.specs.State.{State, Does}
 use Rattle.sx_heads.specs.declared.item.Item.{Item}
+use Rattle.sx_heads.specs.declared.plan.KeywordUse.{KeywordUse}
 use Rattle.sx_heads.specs.declared.plan.Plan.{Plan}
 use Rattle.sx_heads.specs.declared.taken.BodyAt.{BodyAt}
 use Rattle.sx_heads.specs.declared.taken.Taken.{Taken}
@@ -29,7 +29,7 @@ faulted (stops.Fault g) f total h e = e ∙ ap (λ x. Err x) h
 
 module _ (rs : List LibRecord) (place : Span) (level : ℕ) (t : Tree) (s : State) (total : Result (Settled × State) Fault) where
   -- what a use gives, where so many are left
-  abbrev onward : ℕ → Label → Does Settled
+  abbrev onward : ℕ → KeywordUse → Does Settled
   onward zero = λ l. too_many t place
   onward (suc left) = λ l u. after (next_form rs left place t l None u) (settle_to rs left (place_of t place) level)
 
@@ -49,17 +49,17 @@ module _ (rs : List LibRecord) (place : Span) (level : ℕ) (t : Tree) (s : Stat
   settle_ends left p new h so_far = sym so_far ∙ settle_here left ∙ ap (λ r. after r (settled_by (onward left) place t)) h
 
   -- a use: what it gives comes in place of the form
-  used_here : (left : ℕ) (l : Label) (new : State) → step rs place level t s ≡ Ok (steps.Use l, new) → settle_to rs left place level t s ≡ onward left l new
+  used_here : (left : ℕ) (l : KeywordUse) (new : State) → step rs place level t s ≡ Ok (steps.Use l, new) → settle_to rs left place level t s ≡ onward left l new
   used_here left l new h = settle_here left ∙ ap (λ r. after r (settled_by (onward left) place t)) h
 
   -- a use, where none is left
-  pub settle_spent : (left : ℕ) (l : Label) (new : State) (stop : Stop) → left ≡ 0 → step rs place level t s ≡ Ok (steps.Use l, new)
+  pub settle_spent : (left : ℕ) (l : KeywordUse) (new : State) (stop : Stop) → left ≡ 0 → step rs place level t s ≡ Ok (steps.Use l, new)
       → StopsWith stop (fault_at kind.TooManyExpansions t place []) → settle_to rs left place level t s ≡ total → Stops stop total
   settle_spent zero l new stop none h e so_far = faulted stop (fault_at kind.TooManyExpansions t place []) total e (sym so_far ∙ used_here zero l new h)
   settle_spent (suc left) l new stop none h e so_far = absurd (omega (arith, none))
 
   -- a use, where more are left
-  pub settle_on : (left : ℕ) (l : Label) (new : State) (u : Tree) (last : State) → (left ≡ 0 → ⊥) → step rs place level t s ≡ Ok (steps.Use l, new)
+  pub settle_on : (left : ℕ) (l : KeywordUse) (new : State) (u : Tree) (last : State) → (left ≡ 0 → ⊥) → step rs place level t s ≡ Ok (steps.Use l, new)
       → next_form rs (left - 1) place t l None new ≡ Ok (u, last) → settle_to rs left place level t s ≡ total → settle_to rs (left - 1) (place_of t place) level u last ≡ total
   settle_on zero l new u last some h next so_far = absurd (some refl)
   settle_on (suc left) l new u last some h next so_far =
@@ -67,7 +67,7 @@ module _ (rs : List LibRecord) (place : Span) (level : ℕ) (t : Tree) (s : Stat
       let given : next_form rs left place t l None new ≡ Ok (u, last) = sym (ap (λ n. next_form rs n place t l None new) e) ∙ next in
       ap (λ n. settle_to rs n (place_of t place) level u last) e ∙ sym (used_here (suc left) l new h ∙ ap (λ r. after r (settle_to rs left (place_of t place) level)) given) ∙ so_far
 
-  pub settle_breaks : (left : ℕ) (l : Label) (new : State) (stop : Stop) → (left ≡ 0 → ⊥) → step rs place level t s ≡ Ok (steps.Use l, new)
+  pub settle_breaks : (left : ℕ) (l : KeywordUse) (new : State) (stop : Stop) → (left ≡ 0 → ⊥) → step rs place level t s ≡ Ok (steps.Use l, new)
       → Stops stop (next_form rs (left - 1) place t l None new) → settle_to rs left place level t s ≡ total → Stops stop total
   settle_breaks zero l new stop some h next so_far = absurd (some refl)
   settle_breaks (suc left) l new stops.Memory some h next so_far = tt
@@ -78,7 +78,7 @@ module _ (rs : List LibRecord) (place : Span) (level : ℕ) (t : Tree) (s : Stat
 
 module _ (rs : List LibRecord) (at : BodyAt) (depth : ℕ) (done : Taken) (t : Tree) (s : State) (total : Result ((Taken × SettledItem) × State) Fault) where
   -- what a use gives, where so many are left
-  abbrev item_onward : ℕ → Taken → Label → Does (Taken × SettledItem)
+  abbrev item_onward : ℕ → Taken → KeywordUse → Does (Taken × SettledItem)
   item_onward zero = λ taken l. too_many t at.place
   item_onward (suc left) = λ taken l u. after (next_form rs left at.place t l (Some at.frame) u) (settle_item_to rs left (at_use at t) depth taken)
 
@@ -98,18 +98,18 @@ module _ (rs : List LibRecord) (at : BodyAt) (depth : ℕ) (done : Taken) (t : T
   item_ends left taken i new h so_far = sym so_far ∙ item_here left ∙ ap (λ r. after r (item_by (item_onward left) at t)) h
 
   -- a use: what it gives comes in place of the form
-  item_used : (left : ℕ) (taken : Taken) (l : Label) (new : State) → item_step rs at depth done t s ≡ Ok ((taken, item_steps.Use l), new)
+  item_used : (left : ℕ) (taken : Taken) (l : KeywordUse) (new : State) → item_step rs at depth done t s ≡ Ok ((taken, item_steps.Use l), new)
       → settle_item_to rs left at depth done t s ≡ item_onward left taken l new
   item_used left taken l new h = item_here left ∙ ap (λ r. after r (item_by (item_onward left) at t)) h
 
   -- a use, where none is left
-  pub item_spent : (left : ℕ) (taken : Taken) (l : Label) (new : State) (stop : Stop) → left ≡ 0 → item_step rs at depth done t s ≡ Ok ((taken, item_steps.Use l), new)
+  pub item_spent : (left : ℕ) (taken : Taken) (l : KeywordUse) (new : State) (stop : Stop) → left ≡ 0 → item_step rs at depth done t s ≡ Ok ((taken, item_steps.Use l), new)
       → StopsWith stop (fault_at kind.TooManyExpansions t at.place []) → settle_item_to rs left at depth done t s ≡ total → Stops stop total
   item_spent zero taken l new stop none h e so_far = faulted stop (fault_at kind.TooManyExpansions t at.place []) total e (sym so_far ∙ item_used zero taken l new h)
   item_spent (suc left) taken l new stop none h e so_far = absurd (omega (arith, none))
 
   -- a use, where more are left
-  pub item_on : (left : ℕ) (taken : Taken) (l : Label) (new : State) (u : Tree) (last : State) → (left ≡ 0 → ⊥)
+  pub item_on : (left : ℕ) (taken : Taken) (l : KeywordUse) (new : State) (u : Tree) (last : State) → (left ≡ 0 → ⊥)
       → item_step rs at depth done t s ≡ Ok ((taken, item_steps.Use l), new) → next_form rs (left - 1) at.place t l (Some at.frame) new ≡ Ok (u, last)
       → settle_item_to rs left at depth done t s ≡ total → settle_item_to rs (left - 1) (at_use at t) depth taken u last ≡ total
   item_on zero taken l new u last some h next so_far = absurd (some refl)
@@ -118,7 +118,7 @@ module _ (rs : List LibRecord) (at : BodyAt) (depth : ℕ) (done : Taken) (t : T
       let given : next_form rs left at.place t l (Some at.frame) new ≡ Ok (u, last) = sym (ap (λ n. next_form rs n at.place t l (Some at.frame) new) e) ∙ next in
       ap (λ n. settle_item_to rs n (at_use at t) depth taken u last) e ∙ sym (item_used (suc left) taken l new h ∙ ap (λ r. after r (settle_item_to rs left (at_use at t) depth taken)) given) ∙ so_far
 
-  pub item_breaks : (left : ℕ) (taken : Taken) (l : Label) (new : State) (stop : Stop) → (left ≡ 0 → ⊥)
+  pub item_breaks : (left : ℕ) (taken : Taken) (l : KeywordUse) (new : State) (stop : Stop) → (left ≡ 0 → ⊥)
       → item_step rs at depth done t s ≡ Ok ((taken, item_steps.Use l), new) → Stops stop (next_form rs (left - 1) at.place t l (Some at.frame) new)
       → settle_item_to rs left at depth done t s ≡ total → Stops stop total
   item_breaks zero taken l new stop some h next so_far = absurd (some refl)

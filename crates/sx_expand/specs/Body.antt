@@ -43,7 +43,7 @@ perform_item go at depth done t (items.Forms forms) s = splice go at (deeper dep
 perform_item go at depth done t (items.Keyword b) s = after (define_syntax go at (deeper depth) done t b s) (λ _. give done)
 perform_item go at depth done t (items.Keywords recursive bs forms) s =
     after (with_keywords go at.place at.level (deeper depth) recursive bs forms s) (splice go at (deeper depth) done)
-perform_item go at depth done t (items.Use l) s = fault_form kind.BadForm t at.place s
+perform_item go at depth done t (items.Use k) s = fault_form kind.BadForm t at.place s
 perform_item go at depth done t (items.SetUse l) s = fault_form kind.BadForm t at.place s
 
 abbrev pub perform_settled : Inside → ℕ → Taken × SettledItem → Does Taken

@@ -137,7 +137,7 @@ perform go place level depth t (plans.Letrec star bs forms) = letrec_form go pla
 perform go place level depth t (plans.Matching subject literals cs span) = syntax_case go place level (deeper depth) subject literals cs span
 perform go place level depth t (plans.Keywords recursive bs forms) = keywords_form go place level (deeper depth) recursive bs forms
 perform go place level depth t (plans.Quasi which template) = quasi_form go place level (deeper depth) t which template
-perform go place level depth t (plans.Use l) = fault_form kind.BadForm t place
+perform go place level depth t (plans.Use k) = fault_form kind.BadForm t place
 perform go place level depth t (plans.SetUse l id) = fault_form kind.BadForm t place
 
 abbrev pub perform_settled : Inside → ℕ → ℕ → Settled → Does PlainCore

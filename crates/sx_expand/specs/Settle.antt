@@ -9,11 +9,14 @@ use Rattle.sx_tree.specs.Tree.{Tree}
 use Rattle.sx_core.specs.declared.record.LibRecord.{LibRecord}
 use Rattle.sx_shapes.specs.At.{place_of}
 use Rattle.sx_standing.specs.State.{State, Does, fault_form, fault_word}
+use Rattle.sx_standing.specs.RecordUses.{use_record}
 use Rattle.sx_standing.specs.Uses.{use_keyword, asks_variable}
 use Rattle.sx_heads.specs.Items.{alone, wait, item_plan}
 use Rattle.sx_heads.specs.Plan.{plan_of}
 use Rattle.sx_heads.specs.declared.item.Item.{Item}
 use Rattle.sx_heads.specs.declared.item.Item.TheVariants as items
+use Rattle.sx_heads.specs.declared.plan.KeywordUse.{KeywordUse}
+use Rattle.sx_heads.specs.declared.plan.KeywordUse.TheVariants as keyword_use
 use Rattle.sx_heads.specs.declared.plan.Plan.{Plan}
 use Rattle.sx_heads.specs.declared.plan.Plan.TheVariants as plans
 use Rattle.sx_heads.specs.declared.taken.BodyAt.{BodyAt}
@@ -25,9 +28,14 @@ use Rattle.sx_expand.specs.declared.settle.ItemStep.{ItemStep}
 use Rattle.sx_expand.specs.declared.settle.ItemStep.TheVariants as item_steps
 use Rattle.sx_expand.specs.declared.settle.SettledItem.{SettledItem}
 
+-- the form that a use gives, of a keyword with a transformer or of a record form
+abbrev pub used_form : List LibRecord → Span → Tree → KeywordUse → Option FrameNo → Does Tree
+used_form rs place t (keyword_use.Macro l) frame = use_keyword rs place t l frame
+used_form rs place t (keyword_use.Record f) frame = use_record place t f frame
+
 -- the form that a use gives, after which so many uses are left; what comes of it has the place of the use
-unfoldable pub next_form : List LibRecord → ℕ → Span → Tree → Label → Option FrameNo → Does Tree
-next_form rs left place t l frame s = use_keyword rs (place_of t place) t l frame (record s { uses_left = left })
+unfoldable pub next_form : List LibRecord → ℕ → Span → Tree → KeywordUse → Option FrameNo → Does Tree
+next_form rs left place t k frame s = used_form rs (place_of t place) t k frame (record s { uses_left = left })
 
 abbrev pub too_many : {A : Type 0} → Tree → Span → Does A
 too_many t place = fault_form kind.TooManyExpansions t place
@@ -36,26 +44,26 @@ too_many t place = fault_form kind.TooManyExpansions t place
 
 -- an assignment to a keyword is a use of a variable transformer
 abbrev pub set_step : Span → Tree → Label → Tree → Bool → Does Step
-set_step place t l id true = give (steps.Use l)
+set_step place t l id true = give (steps.Use (keyword_use.Macro l))
 set_step place t l id false = fault_word kind.KeywordMisuse id t place
 
 abbrev pub step_of : List LibRecord → Span → Tree → Plan → Does Step
-step_of rs place t (plans.Use l) s = give (steps.Use l) s
+step_of rs place t (plans.Use k) s = give (steps.Use k) s
 step_of rs place t (plans.SetUse l id) s = after (asks_variable rs (place_of t place) l s) (set_step place t l id)
 step_of rs place t p s = give (steps.Plan p) s
 
 unfoldable pub step : List LibRecord → Span → ℕ → Tree → Does Step
 step rs place level t s = after (plan_of place level t s) (step_of rs place t)
 
-abbrev pub settled_by : (Label → Does Settled) → Span → Tree → Step → Does Settled
+abbrev pub settled_by : (KeywordUse → Does Settled) → Span → Tree → Step → Does Settled
 settled_by onward place t (steps.Plan p) = give (record { place = place; form = t; plan = p })
-settled_by onward place t (steps.Use l) = onward l
+settled_by onward place t (steps.Use k) = onward k
 
 -- what is to be done with the form that comes of uses, where so many are left
 unfoldable pub settle_to : List LibRecord → ℕ → Span → ℕ → Tree → Does Settled
-settle_to rs zero place level t s = after (step rs place level t s) (settled_by (λ l. too_many t place) place t)
+settle_to rs zero place level t s = after (step rs place level t s) (settled_by (λ k. too_many t place) place t)
 settle_to rs (suc left) place level t s =
-    after (step rs place level t s) (settled_by (λ l s'. after (next_form rs left place t l None s') (settle_to rs left (place_of t place) level)) place t)
+    after (step rs place level t s) (settled_by (λ k s'. after (next_form rs left place t k None s') (settle_to rs left (place_of t place) level)) place t)
 
 abbrev pub settle : List LibRecord → Span → ℕ → Tree → Does Settled
 settle rs place level t s = settle_to rs s.uses_left place level t s
@@ -69,27 +77,27 @@ abbrev pub item_done : Item → Taken → Does (Taken × ItemStep)
 item_done i done = give (done, item_steps.Item i)
 
 abbrev pub set_item_step : BodyAt → ℕ → Taken → Tree → Label → Bool → Does (Taken × ItemStep)
-set_item_step at depth done t l true s = Ok ((done, item_steps.Use l), s)
+set_item_step at depth done t l true s = Ok ((done, item_steps.Use (keyword_use.Macro l)), s)
 set_item_step at depth done t l false s = after (wait at depth done t s) (item_done items.Nothing)
 
 abbrev pub item_step_of : List LibRecord → BodyAt → ℕ → Tree → Taken → Item → Does (Taken × ItemStep)
-item_step_of rs at depth t done (items.Use l) s = give (done, item_steps.Use l) s
+item_step_of rs at depth t done (items.Use k) s = give (done, item_steps.Use k) s
 item_step_of rs at depth t done (items.SetUse l) s = after (asks_variable rs (place_of t at.place) l s) (set_item_step at depth done t l)
 item_step_of rs at depth t done i s = item_done i done s
 
 unfoldable pub item_step : List LibRecord → BodyAt → ℕ → Taken → Tree → Does (Taken × ItemStep)
 item_step rs at depth done t s = after (item_plan at depth done t s) (λ p. item_step_of rs at depth t p.0 p.1)
 
-abbrev pub item_by : (Taken → Label → Does (Taken × SettledItem)) → BodyAt → Tree → Taken × ItemStep → Does (Taken × SettledItem)
+abbrev pub item_by : (Taken → KeywordUse → Does (Taken × SettledItem)) → BodyAt → Tree → Taken × ItemStep → Does (Taken × SettledItem)
 item_by onward at t (done, item_steps.Item i) = give (done, record { at = at; form = t; item = i })
-item_by onward at t (done, item_steps.Use l) = onward done l
+item_by onward at t (done, item_steps.Use k) = onward done k
 
 -- what is to be done with the form of a body that comes of uses, where so many are left
 unfoldable pub settle_item_to : List LibRecord → ℕ → BodyAt → ℕ → Taken → Tree → Does (Taken × SettledItem)
-settle_item_to rs zero at depth done t s = after (item_step rs at depth done t s) (item_by (λ done l. too_many t at.place) at t)
+settle_item_to rs zero at depth done t s = after (item_step rs at depth done t s) (item_by (λ done k. too_many t at.place) at t)
 settle_item_to rs (suc left) at depth done t s =
     after (item_step rs at depth done t s)
-    (item_by (λ taken l s'. after (next_form rs left at.place t l (Some at.frame) s') (settle_item_to rs left (at_use at t) depth taken)) at t)
+    (item_by (λ taken k s'. after (next_form rs left at.place t k (Some at.frame) s') (settle_item_to rs left (at_use at t) depth taken)) at t)
 
 abbrev pub settle_item : List LibRecord → BodyAt → ℕ → Taken → Tree → Does (Taken × SettledItem)
 settle_item rs at depth done t s = settle_item_to rs s.uses_left at depth done t s

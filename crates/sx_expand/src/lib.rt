@@ -12,8 +12,7 @@
 //! The promise: each call gives exactly the core code that the definition gives, or its fault at its
 //! place, and leaves exactly the state that the definition leaves; only want of memory is free.
 //!
-//! Here stand the core forms, and uses of keywords that programs and libraries define. A form of another kind is
-//! `NotBuilt`, in the order of expansion.
+//! Here stand the core forms, and uses of keywords: those that programs and libraries define, and the forms of records.
 #![tactic(auto)]
 
 pub mod body;

@@ -2,7 +2,7 @@
 
 ghost use Rattle.std.specs.Prelude.{◌≡◌, IfOk};
 ghost use Rattle.sx_base.specs.Act.{GivesAfter};
-ghost use Rattle.sx_expand.specs.Settle.{next_form, set_step, step_of, step, settle, at_use, set_item_step, item_step_of, item_step, settle_item};
+ghost use Rattle.sx_expand.specs.Settle.{used_form, next_form, set_step, step_of, step, settle, at_use, set_item_step, item_step_of, item_step, settle_item};
 
 use crate::transformers::Transformers;
 use std::sync::ledger::Ledger;
@@ -12,7 +12,7 @@ use sx_base::name::{FrameNo, Label};
 use sx_base::span::Span;
 use sx_heads::item::Item;
 use sx_heads::items::{item_plan, wait};
-use sx_heads::plan::{Plan, plan_of};
+use sx_heads::plan::{KeywordUse, Plan, plan_of};
 use sx_heads::taken::{BodyAt, Taken};
 use sx_shapes::at::place_of;
 use sx_standing::expansion::Expansion;
@@ -23,7 +23,7 @@ use sx_syntax::syn::Syn;
 #[derive(Drop)]
 pub enum Step {
     Plan(Plan),
-    Use(Label),
+    Use(KeywordUse),
 }
 
 /// A form that is no use, which stands at a place unless it has a span, and its plan.
@@ -38,7 +38,7 @@ pub struct Settled {
 #[derive(Drop)]
 pub enum ItemStep {
     Item(Item),
-    Use(Label),
+    Use(KeywordUse),
 }
 
 /// A form of a body that is no use, where it stands, and its item.
@@ -49,23 +49,41 @@ pub struct SettledItem {
     pub item: Item,
 }
 
+/// The form that a use gives, of a keyword with a transformer or of a record form.
+fn used_form<M: Transformers, N: Ledger, L: Ledger>(
+    state: &mut Expansion,
+    form: &Syn,
+    keyword: &KeywordUse,
+    frame: Option<FrameNo>,
+    place: &Span,
+    means: &M,
+    counts: &mut Counts<N, L>,
+) -> Result<Syn, Stop>
+    ensures { GivesAfter (λ t. t) result state.new (used_form (M.records means.now) place.now form.now keyword.now frame state.old) }
+{
+    match keyword {
+        KeywordUse::Macro(label) => means.use_keyword(state, form, place, label, frame, counts),
+        KeywordUse::Record(which) => state.use_record(form, *which, frame, place, counts.nodes),
+    }
+}
+
 /// The form that a use gives, after which so many uses are left.
 #[tactic(auto, unfolding(crate::specs::Settle::next_form))]
 fn next_form<M: Transformers, N: Ledger, L: Ledger>(
     state: &mut Expansion,
     left: u32,
     form: &Syn,
-    label: &Label,
+    keyword: &KeywordUse,
     frame: Option<FrameNo>,
     place: &Span,
     means: &M,
     counts: &mut Counts<N, L>,
 ) -> Result<Syn, Stop>
-    ensures { GivesAfter (λ t. t) result state.new (next_form (M.records means.now) left place.now form.now label.now frame state.old) }
+    ensures { GivesAfter (λ t. t) result state.new (next_form (M.records means.now) left place.now form.now keyword.now frame state.old) }
 {
     state.leave_uses(left);
     let at = place_of(form, place)?;
-    means.use_keyword(state, form, &at, label, frame, counts)
+    used_form(state, form, keyword, frame, &at, means, counts)
 }
 
 fn set_step(
@@ -79,7 +97,7 @@ fn set_step(
     ensures { GivesAfter (λ x. x) result state.new (set_step place.now form.now label id.now is_use state.old) }
 {
     if is_use {
-        return Ok(Step::Use(label));
+        return Ok(Step::Use(KeywordUse::Macro(label)));
     }
     Err(state.fault_word(FaultKind::KeywordMisuse, id, form, place))
 }
@@ -95,7 +113,7 @@ fn step_of<M: Transformers, N: Ledger, L: Ledger>(
     ensures { GivesAfter (λ x. x) result state.new (step_of (M.records means.now) place.now form.now plan state.old) }
 {
     match plan {
-        Plan::Use(label) => Ok(Step::Use(label)),
+        Plan::Use(keyword) => Ok(Step::Use(keyword)),
         Plan::SetUse(label, id) => {
             let at = place_of(form, place)?;
             let is_use = means.asks_variable(state, &at, &label, counts)?;
@@ -136,15 +154,15 @@ pub(crate) fn settle<M: Transformers, N: Ledger, L: Ledger>(
     let mut form = form.share()?;
     let mut place = place.share()?;
     loop {
-        let label = match next_step(state, &form, &place, level, means, counts)? {
+        let keyword = match next_step(state, &form, &place, level, means, counts)? {
             Step::Plan(plan) => return Ok(Settled { place, form, plan }),
-            Step::Use(label) => label,
+            Step::Use(keyword) => keyword,
         };
         if left == 0 {
             return Err(state.fault_form(FaultKind::TooManyExpansions, &form, &place));
         }
         left -= 1;
-        let next = next_form(state, left, &form, &label, None, &place, means, counts)?;
+        let next = next_form(state, left, &form, &keyword, None, &place, means, counts)?;
         place = place_of(&form, &place)?;
         form = next;
     }
@@ -194,7 +212,7 @@ fn set_item_step(
     ensures { GivesAfter (λ x. (taken.new, x)) result state.new (set_item_step at.now depth taken.old form.now label is_use state.old) }
 {
     if is_use {
-        return Ok(ItemStep::Use(label));
+        return Ok(ItemStep::Use(KeywordUse::Macro(label)));
     }
     wait(state, at, depth, taken, form)?;
     Ok(ItemStep::Item(Item::Nothing))
@@ -213,7 +231,7 @@ fn item_step_of<M: Transformers, N: Ledger, L: Ledger>(
     ensures { GivesAfter (λ x. (taken.new, x)) result state.new (item_step_of (M.records means.now) at.now depth form.now taken.old item state.old) }
 {
     match item {
-        Item::Use(label) => Ok(ItemStep::Use(label)),
+        Item::Use(keyword) => Ok(ItemStep::Use(keyword)),
         Item::SetUse(label) => {
             let place = place_of(form, &at.place)?;
             let is_use = means.asks_variable(state, &place, &label, counts)?;
@@ -255,9 +273,9 @@ pub(crate) fn settle_item<M: Transformers, N: Ledger, L: Ledger>(
     let mut form = form.share()?;
     let mut at = share_at(at)?;
     loop {
-        let label = match item_step(state, &at, depth, taken, &form, means, counts)? {
+        let keyword = match item_step(state, &at, depth, taken, &form, means, counts)? {
             ItemStep::Item(item) => return Ok(SettledItem { at, form, item }),
-            ItemStep::Use(label) => label,
+            ItemStep::Use(keyword) => keyword,
         };
         if left == 0 {
             return Err(state.fault_form(FaultKind::TooManyExpansions, &form, &at.place));
@@ -268,7 +286,7 @@ pub(crate) fn settle_item<M: Transformers, N: Ledger, L: Ledger>(
             state,
             left,
             &form,
-            &label,
+            &keyword,
             Some(frame),
             &at.place,
             means,

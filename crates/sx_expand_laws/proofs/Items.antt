@@ -31,6 +31,7 @@ use Rattle.sx_heads.specs.Kept.{with_head}
 use Rattle.sx_heads.specs.Plan.{is_letrec_syntax}
 use Rattle.sx_heads.specs.declared.item.Item.{Item}
 use Rattle.sx_heads.specs.declared.item.Item.TheVariants as items
+use Rattle.sx_heads.specs.declared.plan.KeywordUse.TheVariants as keyword_use
 use Rattle.sx_heads.specs.declared.taken.BodyAt.{BodyAt}
 use Rattle.sx_heads.specs.declared.taken.Taken.{Taken}
 use Rattle.sx_heads.specs.declared.taken.Waiting.{Waiting}
@@ -129,7 +130,6 @@ module _ (Q : Taken → Type 0) (P : Taken × Item → State → Type 0) (at : B
   by-target d t (standing.Primitive op) k = waits-so d t k
   by-target d t (standing.Core g) k = waits-so d t k
   by-target d t (standing.Keyword l) k = comes d (items.SetUse l) k
-  by-target d t standing.Unbuilt k = waits-so d t k
 
   by-set : (d : Taken) (t : Tree) (r : Result Shape Fault) → Q d → Gave P (set_item at depth d t r s)
   unfolding keep
@@ -147,8 +147,8 @@ module _ (Q : Taken → Type 0) (P : Taken × Item → State → Type 0) (at : B
   by-role d t g role.Sequence k = by-shape (shape g t at.place) (begin_item at d t) (λ x. by-begin d t x k)
   by-role d t g role.Definition k = by-shape (shape g t at.place) (λ x. alone (define_item at depth d t x)) (λ x. defines d t x k)
   by-role d t g role.Keywords k = by-shape (shape g t at.place) (keywords_item at d t g) (λ x. by-keywords d t g x k)
-  by-role d t g role.Record k = tt
-  by-role d t g role.RecordValue k = tt
+  by-role d t g role.Record k = comes d (items.Use (keyword_use.Record g)) k
+  by-role d t g role.RecordValue k = comes d (items.Use (keyword_use.Record g)) k
   by-role d t g role.Auxiliary k = waits-so d t k
 
   by-core : (d : Taken) (t : Tree) (g : CoreForm) → Q d → Gave P (core_item at depth d t g s)
@@ -161,8 +161,7 @@ module _ (Q : Taken → Type 0) (P : Taken × Item → State → Type 0) (at : B
   by-standing d t standing.PatternVariable k = waits-so d t k
   by-standing d t (standing.Primitive op) k = waits-so d t k
   by-standing d t (standing.Core g) k = by-core d t g k
-  by-standing d t (standing.Keyword l) k = comes d (items.Use l) k
-  by-standing d t standing.Unbuilt k = tt
+  by-standing d t (standing.Keyword l) k = comes d (items.Use (keyword_use.Macro l)) k
 
   by-leaf : (d : Taken) (t : Tree) (st : Standing) → Q d → Gave P (leaf_by at depth d t st s)
   by-leaf d t standing.Nothing k = waits-so d t k
@@ -170,8 +169,7 @@ module _ (Q : Taken → Type 0) (P : Taken × Item → State → Type 0) (at : B
   by-leaf d t standing.PatternVariable k = waits-so d t k
   by-leaf d t (standing.Primitive op) k = waits-so d t k
   by-leaf d t (standing.Core g) k = waits-so d t k
-  by-leaf d t (standing.Keyword l) k = comes d (items.Use l) k
-  by-leaf d t standing.Unbuilt k = tt
+  by-leaf d t (standing.Keyword l) k = comes d (items.Use (keyword_use.Macro l)) k
 
   by-list : (d : Taken) (t head : Tree) → Q d → Gave P (list_item at depth d t head s)
   unfolding list_item keep

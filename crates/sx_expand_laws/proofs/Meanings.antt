@@ -49,7 +49,6 @@ Fits level ls s standing.PatternVariable = Unit {0}
 Fits level ls s (standing.Primitive op) = op.0 < 301
 Fits level ls s (standing.Core f) = Unit {0}
 Fits level ls s (standing.Keyword l) = Unit {0}
-Fits level ls s standing.Unbuilt = Unit {0}
 
 -- what a plan has itself
 abbrev pub Planned : LibName → Bindings → Depths → List Label → ℕ → Plan → Type 0
@@ -93,7 +92,7 @@ module _ (own : LibName) (given : List Label) (vs : Depths) (level : ℕ) (ls : 
   numbered-fits : (l : Label) → Fits level ls s (numbered_as l)
   numbered-fits l = by (nat_lt l.0.number 301) refl
     where
-      by_keyword : l.0.number < 301 → (b : Bool) → Fits level ls s (if b then standing.Unbuilt else standing.Primitive (record { 0 = l.0.number }))
+      by_keyword : l.0.number < 301 → (b : Bool) → Fits level ls s (if b then standing.Nothing else standing.Primitive (record { 0 = l.0.number }))
       by_keyword lt true = tt
       by_keyword lt false = lt
 
@@ -156,7 +155,6 @@ module _ (own : LibName) (given : List Label) (vs : Depths) (level : ℕ) (ls : 
   planned-standing (standing.Primitive op) p h k = subst (λ q. P q s) (sym k) (good-primitive own s.bindings vs ls s.names.number s.names.number op (omega arith) h)
   planned-standing (standing.Core f) p h k = elim k [ ]
   planned-standing (standing.Keyword l) p h k = subst (λ q. P q s) (sym k) tt
-  planned-standing standing.Unbuilt p h k = elim k [ ]
 
   -- noting an assignment changes no binding
   assigned-standing : (somewhere : Span) (id value : Tree) (st : Standing) (p : Plan) (u : State) → Fits level ls s st → AssignsBy somewhere level s id value st p u → P p u
@@ -166,7 +164,6 @@ module _ (own : LibName) (given : List Label) (vs : Depths) (level : ℕ) (ls : 
   assigned-standing somewhere id value (standing.Primitive op) p u h k = elim k [ ]
   assigned-standing somewhere id value (standing.Core f) p u h k = elim k [ ]
   assigned-standing somewhere id value (standing.Keyword m) p u h k = subst (λ q. P q u) (sym k.0) tt
-  assigned-standing somewhere id value standing.Unbuilt p u h k = elim k [ ]
 
   -- the template of a form suits the pattern variables in scope
   pub template-suits : (place : Span) (t : Tree) (x : PlainTemplate) (u : State) → IsTemplate place level t s x u → Suits vs 0 x × Each (Among ls) (template_labels x)

@@ -36,6 +36,8 @@ use Rattle.sx_standing.specs.State.{State, Does, fresh, fault_form}
 use Rattle.sx_standing.specs.declared.standing.Standing.TheVariants as standing
 use Rattle.sx_standing.specs.declared.standing.Standing.{Standing}
 use Rattle.sx_heads.specs.Plan.{reference, target_by, plan_of}
+use Rattle.sx_heads.specs.declared.plan.KeywordUse.{KeywordUse}
+use Rattle.sx_heads.specs.declared.plan.KeywordUse.TheVariants as keyword_use
 use Rattle.sx_heads.specs.declared.plan.Plan.TheVariants as plans
 use Rattle.sx_heads.specs.declared.plan.Plan.{Plan}
 use Rattle.sx_expand.specs.Expression.{perform, perform_settled, form_at, inside}
@@ -62,13 +64,12 @@ OfLabel l standing.PatternVariable = Unit {0}
 OfLabel l (standing.Primitive op) = Unit {0}
 OfLabel l (standing.Core f) = Unit {0}
 OfLabel l (standing.Keyword m) = Unit {0}
-OfLabel l standing.Unbuilt = Unit {0}
 
 label-kept : (s : State) (l : Label) → OfLabel l (label_standing s l)
 unfolding label_standing
 label-kept s l = by (same_library l.0.library library.Core)
   where
-    by_keyword : (b : Bool) → OfLabel l (if b then standing.Unbuilt else standing.Primitive (record { 0 = l.0.number }))
+    by_keyword : (b : Bool) → OfLabel l (if b then standing.Nothing else standing.Primitive (record { 0 = l.0.number }))
     by_keyword true = tt
     by_keyword false = tt
 
@@ -92,10 +93,15 @@ label-kept s l = by (same_library l.0.library library.Core)
     by true = by_number (nat_lt l.0.number 301)
     by false = bound (bound_to s.bindings l)
 
+-- a use of the keyword that is stood for
+abbrev UseOf : Standing → KeywordUse → Type 0
+UseOf st (keyword_use.Macro l) = st ≡ standing.Keyword l
+UseOf st (keyword_use.Record f) = ⊥
+
 -- a reference to what the leaf stands for, or a use
 abbrev Finishes : State → Option Label → Standing → Plan → State → Type 0
 Finishes s o st (plans.Done c) u = RefersTo s o c × (u ≡ s)
-Finishes s o st (plans.Use l) u = (st ≡ standing.Keyword l) × (u ≡ s)
+Finishes s o st (plans.Use k) u = UseOf st k × (u ≡ s)
 Finishes s o st _ u = ⊥
 
 finishes : (level : ℕ) (s : State) (l : Label) (st : Standing) (p : Plan) (u : State) → label_standing s l ≡ st → OfLabel l st → u ≡ s → RefersBy level s st p → Finishes s (Some l) st p u
@@ -105,7 +111,6 @@ finishes level s l standing.PatternVariable p u is of same h = elim h [ ]
 finishes level s l (standing.Primitive o) p u is of same h = subst (λ q. Finishes s (Some l) (standing.Primitive o) q u) (sym h) (inr (o, (is, refl)), same)
 finishes level s l (standing.Core f) p u is of same h = elim h [ ]
 finishes level s l (standing.Keyword m) p u is of same h = subst (λ q. Finishes s (Some l) (standing.Keyword m) q u) (sym h) (refl, same)
-finishes level s l standing.Unbuilt p u is of same h = elim h [ ]
 
 reference-named : (place : Span) (level : ℕ) (id : Tree) (s : State) → Gave (Finishes s (stands s.frames id) (standing_of s id)) (reference place level id s)
 unfolding standing_of
@@ -127,9 +132,13 @@ module _ (rs : List LibRecord) (place : Span) (level : ℕ) (t : Tree) (s : Stat
   IsStep (steps.Plan p) u = (c : PlainCore) × ((p ≡ plans.Done c) × (RefersTo s (stands s.frames t) c × (u ≡ s)))
   IsStep (steps.Use l) u = IsUse s t
 
+  use-named : (k : KeywordUse) → UseOf (standing_of s t) k → IsUse s t
+  use-named (keyword_use.Macro l) h = (l, h)
+  use-named (keyword_use.Record f) h = elim h [ ]
+
   step-named : (p : Plan) (u : State) → Finishes s (stands s.frames t) (standing_of s t) p u → Gave IsStep (step_of rs place t p u)
   step-named (plans.Done c) u h = (c, (refl, h))
-  step-named (plans.Use l) u h = (l, h.0)
+  step-named (plans.Use k) u h = use-named k h.0
   step-named _ u h = elim h [ ]
 
   -- whatever comes of a use
@@ -137,7 +146,7 @@ module _ (rs : List LibRecord) (place : Span) (level : ℕ) (t : Tree) (s : Stat
   any P (Ok p) h = h p.0 p.1
   any P (Err e) h = tt
 
-  settled-named : (onward : Label → Does Settled) (x : Step) (u : State) → IsStep x u → Gave IsSettled (settled_by onward place t x u)
+  settled-named : (onward : KeywordUse → Does Settled) (x : Step) (u : State) → IsStep x u → Gave IsSettled (settled_by onward place t x u)
   settled-named onward (steps.Plan p) u h = inl h
   settled-named onward (steps.Use l) u h = any IsSettled (onward l u) (λ a v. inr h)
 
@@ -181,7 +190,6 @@ target-label level s l m standing.PatternVariable of h = elim h [ ]
 target-label level s l m (standing.Primitive o) of h = elim h [ ]
 target-label level s l m (standing.Core f) of h = elim h [ ]
 target-label level s l m (standing.Keyword k) of h = elim h [ ]
-target-label level s l m standing.Unbuilt of h = elim h [ ]
 
 target-named : (place : Span) (level : ℕ) (t id : Tree) (s : State) → Gave (λ l u. stands s.frames id ≡ Some l) (target_by place level t id (standing_of s id) s)
 unfolding standing_of

@@ -29,6 +29,7 @@ use Rattle.sx_template.specs.Compile as templates
 use Rattle.sx_heads.specs.Plan.{done, reference, constant, assign, keywords_plan, is_letrec_syntax, operand_plan, call_of, application, in_sequence, is_star, shape_plan, with_shape, by_role, keyword_plan, by_head, list_plan, plan_of}
 use Rattle.sx_heads.specs.declared.plan.Plan.{Plan}
 use Rattle.sx_heads.specs.declared.plan.Plan.TheVariants as plans
+use Rattle.sx_heads.specs.declared.plan.KeywordUse.TheVariants as keyword_use
 use Rattle.sx_expand_laws.specs.States.{Later}
 use Rattle.sx_expand_laws.proofs.Acts.{Gave, gave-after, gave-less, gave-if}
 use Rattle.sx_expand_laws.proofs.Grows.{grows-same}
@@ -113,7 +114,7 @@ module _ (P : Plan → State → Type 0) (place : Span) (level : ℕ) (s : State
   by-role t head f role.Definition = by-shaped t f (shape f t place)
   by-role t head f role.Keywords = by-shaped t f (shape f t place)
   by-role t head f role.Record = tt
-  by-role t head f role.RecordValue = tt
+  by-role t head f role.RecordValue = forms (plans.Use (keyword_use.Record f)) tt
   by-role t head f role.Auxiliary = tt
 
   by-keyword : (t head : Tree) (f : CoreForm) → Gave P (keyword_plan place level t head f s)
@@ -126,8 +127,7 @@ module _ (P : Plan → State → Type 0) (place : Span) (level : ℕ) (s : State
   by-standing t head rest standing.PatternVariable = by-application t head rest
   by-standing t head rest (standing.Primitive op) = by-application t head rest
   by-standing t head rest (standing.Core f) = by-keyword t head f
-  by-standing t head rest (standing.Keyword l) = forms (plans.Use l) tt
-  by-standing t head rest standing.Unbuilt = tt
+  by-standing t head rest (standing.Keyword l) = forms (plans.Use (keyword_use.Macro l)) tt
 
   by-list : (t head rest : Tree) → Gave P (list_plan place level t head rest s)
   unfolding list_plan
@@ -171,7 +171,6 @@ module _ (own : LibName) (place : Span) (level : ℕ) (s : State) (next : s.name
   assigned-later id value (standing.Primitive op) p u k = elim k [ ]
   assigned-later id value (standing.Core f) p u k = elim k [ ]
   assigned-later id value (standing.Keyword l) p u k = subst (Later own s) (sym k.1) (later-self own s next)
-  assigned-later id value standing.Unbuilt p u k = elim k [ ]
 
   -- at most an assignment is noted
   pub plan-later : (t : Tree) → Gave (λ p u. Later own s u) (plan_of place level t s)

@@ -16,6 +16,7 @@ use Rattle.sx_standing.specs.declared.standing.Variable.{Variable}
 use Rattle.sx_heads.specs.Plan.{variable_at, refer, reference, target_variable, target_by, assign_to, assign_by, assign}
 use Rattle.sx_heads.specs.declared.plan.Plan.{Plan}
 use Rattle.sx_heads.specs.declared.plan.Plan.TheVariants as plans
+use Rattle.sx_heads.specs.declared.plan.KeywordUse.TheVariants as keyword_use
 use Rattle.sx_expand_laws.proofs.Acts.{Gave, gave-after, gave-if}
 
 -- an expression of this level may refer to the variable: to one of the library in scope, of this level, or to one of the top of another
@@ -29,8 +30,7 @@ RefersBy level s (standing.Variable v) p = (p ≡ plans.Done (variable v.label))
 RefersBy level s standing.PatternVariable p = ⊥
 RefersBy level s (standing.Primitive op) p = p ≡ plans.Done (primitive op)
 RefersBy level s (standing.Core f) p = ⊥
-RefersBy level s (standing.Keyword l) p = p ≡ plans.Use l
-RefersBy level s standing.Unbuilt p = ⊥
+RefersBy level s (standing.Keyword l) p = p ≡ plans.Use (keyword_use.Macro l)
 
 abbrev pub TargetBy : ℕ → State → Standing → Label → Type 0
 TargetBy level s standing.Nothing l = ⊥
@@ -39,7 +39,6 @@ TargetBy level s standing.PatternVariable l = ⊥
 TargetBy level s (standing.Primitive op) l = ⊥
 TargetBy level s (standing.Core f) l = ⊥
 TargetBy level s (standing.Keyword m) l = ⊥
-TargetBy level s standing.Unbuilt l = ⊥
 
 abbrev pub marked : Label → State → State
 marked l s = record s { assigned = with_label s.assigned l }
@@ -68,7 +67,6 @@ module _ (place : Span) (level : ℕ) (s : State) where
   refer-is id (standing.Primitive op) = (refl, refl)
   refer-is id (standing.Core f) = tt
   refer-is id (standing.Keyword l) = (refl, refl)
-  refer-is id standing.Unbuilt = tt
 
   pub reference-is : (id : Tree) → Gave (Refers (standing_of s id)) (reference place level id s)
   unfolding reference
@@ -91,7 +89,6 @@ module _ (place : Span) (level : ℕ) (s : State) where
   target_by-is t id (standing.Primitive op) = tt
   target_by-is t id (standing.Core f) = tt
   target_by-is t id (standing.Keyword l) = tt
-  target_by-is t id standing.Unbuilt = tt
 
   -- the plan of an assignment
   abbrev pub AssignsBy : Tree → Tree → Standing → Plan → State → Type 0
@@ -101,7 +98,6 @@ module _ (place : Span) (level : ℕ) (s : State) where
   AssignsBy id value (standing.Primitive op) p t = ⊥
   AssignsBy id value (standing.Core f) p t = ⊥
   AssignsBy id value (standing.Keyword l) p t = (p ≡ plans.SetUse l id) × (t ≡ s)
-  AssignsBy id value standing.Unbuilt p t = ⊥
 
   assign_by-is : (t id value : Tree) (st : Standing) → Gave (AssignsBy id value st) (assign_by place level t id value st s)
   assign_by-is t id value standing.Nothing = tt
@@ -112,7 +108,6 @@ module _ (place : Span) (level : ℕ) (s : State) where
   assign_by-is t id value (standing.Primitive op) = tt
   assign_by-is t id value (standing.Core f) = tt
   assign_by-is t id value (standing.Keyword l) = (refl, refl)
-  assign_by-is t id value standing.Unbuilt = tt
 
   pub assign-is : (t id value : Tree) → Gave (AssignsBy id value (standing_of s id)) (assign place level t id value s)
   unfolding assign

@@ -58,7 +58,6 @@ module _ (own : LibName) (given : List Label) (go : Inside) (spares : Spares own
     refers-away (standing.Primitive op) p k = subst (W s) (sym k) (record { labels = tt; codes = (tt, tt) })
     refers-away (standing.Core f) p k = elim k [ ]
     refers-away (standing.Keyword l) p k = subst (W s) (sym k) tt
-    refers-away standing.Unbuilt p k = elim k [ ]
 
     assigns-away : (id value : Tree) (st : Standing) (p : Plan) (u : State) → AssignsBy place level s id value st p u → P p u
     assigns-away id value standing.Nothing p u k = elim k [ ]
@@ -67,7 +66,6 @@ module _ (own : LibName) (given : List Label) (go : Inside) (spares : Spares own
     assigns-away id value (standing.Primitive op) p u k = elim k [ ]
     assigns-away id value (standing.Core f) p u k = elim k [ ]
     assigns-away id value (standing.Keyword l) p u k = (ap (λ (x : State). x.keywords) k.1, subst (W u) (sym k.0) tt)
-    assigns-away id value standing.Unbuilt p u k = elim k [ ]
 
     forms-away : (p : Plan) → IsOfForms p → W s p
     forms-away (plans.Done c) h = elim h [ ]

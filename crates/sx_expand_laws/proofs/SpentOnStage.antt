@@ -1,5 +1,5 @@
 -- What a stage says of keywords while they are used: no expression comes to be kept but that of the keyword that is finished.
-use Rattle.std.proofs.Common.{◌≡◌, ℕ, Bool, true, false, List, [], ◌∷◌, length, Option, None, Some, Result, Ok, Err, refl, sym, ◌∙◌, ap, inl, inr, if◌then◌else◌}
+use Rattle.std.proofs.Common.{◌≡◌, ℕ, Bool, true, false, List, [], ◌∷◌, length, ◌+◌, Option, None, Some, Result, Ok, Err, refl, sym, ◌∙◌, ap, inl, inr, if◌then◌else◌}
 use Rattle.std.specs.Prelude.{◌⊎◌}
 use Rattle.indexmap.specs.IndexMap.{insert_entry}
 use Rattle.sx_base.specs.Act.{after, give}
@@ -15,6 +15,7 @@ use Rattle.sx_tree.specs.Tree.{Tree}
 use Rattle.sx_core.specs.Bindings.{bound_to}
 use Rattle.sx_core.specs.Core.{PlainCore}
 use Rattle.sx_core.specs.Labels.{same_label}
+use Rattle.sx_core.specs.declared.core_form.CoreForm.{CoreForm}
 use Rattle.sx_core.specs.declared.record.LibRecord.{LibRecord}
 use Rattle.sx_core_laws.proofs.Decisions.{label_decides}
 use Rattle.sx_value.specs.ToSyntax.{Reading, to_syntax}
@@ -28,12 +29,17 @@ use Rattle.sx_stage.specs.Transformers.{is_transformer, transformer_only, transf
 use Rattle.sx_stage.specs.Uses.{procedure_in, call_procedure, tree_at, read_answer, transform, cut, transform_and_cut, transform_marked, used}
 use Rattle.sx_stage.specs.declared.keyword.Keyword.{Keyword}
 use Rattle.sx_stage.specs.declared.keyword.Keyword.TheVariants as keyword
-use Rattle.sx_standing.specs.State.{State, stage_of, staged}
+use Rattle.sx_standing.specs.State.{State, fresh, stage_of, staged}
 use Rattle.sx_standing.specs.Uses as standing
+use Rattle.sx_records.specs.Forms.{record_forms}
+use Rattle.sx_records.specs.Names.{record_uid}
+use Rattle.sx_standing.specs.RecordUses.{at_state, defines_type, count_record_type, record_tree, record_marked, use_record}
 use Rattle.sx_standing.specs.Uses.{use_keyword, asks_variable, macro_expression}
-use Rattle.sx_expand.specs.Settle.{next_form}
+use Rattle.sx_heads.specs.declared.plan.KeywordUse.{KeywordUse}
+use Rattle.sx_heads.specs.declared.plan.KeywordUse.TheVariants as keyword_use
+use Rattle.sx_expand.specs.Settle.{used_form, next_form}
 use Rattle.sx_shapes.specs.At.{place_of}
-use Rattle.sx_expand_laws.proofs.Acts.{Gave}
+use Rattle.sx_expand_laws.proofs.Acts.{Gave, gave-after}
 use Rattle.sx_expand_laws.proofs.Kept.{found-same, found-other}
 use Rattle.sx_expand_laws.proofs.Spent.{Known}
 
@@ -189,9 +195,37 @@ pub use-told : (rs : List LibRecord) (place : Span) (t : Tree) (l : Label) (fram
 unfolding use_keyword
 use-told rs place t l frame s = on-stage s (used place rs t l (macro_expression (bound_to s.bindings l)) frame (stage_of s)) (used-told place rs t l (macro_expression (bound_to s.bindings l)) frame (stage_of s))
 
-pub next-told : (rs : List LibRecord) (left : ℕ) (place : Span) (t : Tree) (l : Label) (frame : Option FrameNo) (s : State) → Gave (λ a u. Tells s.keywords u.keywords) (next_form rs left place t l frame s)
+tree-kept : (place : Span) (t : Tree) (f : CoreForm) (count : ℕ) (s : State) → Gave (λ a u. Tells s.keywords u.keywords) (record_tree place t f count s)
+unfolding record_tree
+tree-kept place t f count s = by (record_forms s.frames t f place (record_uid s.library t count))
+  where
+    by : (r : Result Tree Fault) → Gave (λ a u. Tells s.keywords u.keywords) (at_state s r)
+    by (Ok u) = λ k c e. e
+    by (Err e) = tt
+
+marked-kept : (place : Span) (t : Tree) (f : CoreForm) (frame : Option FrameNo) (m : Mark) (s : State) → Gave (λ a u. Tells s.keywords u.keywords) (record_marked place t f frame m s)
+unfolding record_marked count_record_type
+marked-kept place t f frame m s = by (defines_type f)
+  where
+    by : (b : Bool) → Gave (λ a u. Tells s.keywords u.keywords) (after (record_tree place (enter m t) f s.record_types (if b then record s { record_types = s.record_types + 1 } else s)) (λ u. give (leave m frame u)))
+    by true = gave-after (λ a u. Tells s.keywords u.keywords) (λ a u. Tells s.keywords u.keywords) (record_tree place (enter m t) f s.record_types (record s { record_types = s.record_types + 1 })) (λ u. give (leave m frame u))
+        (tree-kept place (enter m t) f s.record_types (record s { record_types = s.record_types + 1 })) (λ a u k. k)
+    by false = gave-after (λ a u. Tells s.keywords u.keywords) (λ a u. Tells s.keywords u.keywords) (record_tree place (enter m t) f s.record_types s) (λ u. give (leave m frame u))
+        (tree-kept place (enter m t) f s.record_types s) (λ a u k. k)
+
+record-kept : (place : Span) (t : Tree) (f : CoreForm) (frame : Option FrameNo) (s : State) → Gave (λ a u. Tells s.keywords u.keywords) (use_record place t f frame s)
+unfolding use_record fresh
+record-kept place t f frame s =
+    let m : Mark = record { 0 = s.names } in
+    marked-kept place t f frame m (record s { names = record { library = s.names.library; number = s.names.number + 1 } })
+
+form-told : (rs : List LibRecord) (place : Span) (t : Tree) (k : KeywordUse) (frame : Option FrameNo) (s : State) → Gave (λ a u. Tells s.keywords u.keywords) (used_form rs place t k frame s)
+form-told rs place t (keyword_use.Macro l) frame s = use-told rs place t l frame s
+form-told rs place t (keyword_use.Record f) frame s = record-kept place t f frame s
+
+pub next-told : (rs : List LibRecord) (left : ℕ) (place : Span) (t : Tree) (k : KeywordUse) (frame : Option FrameNo) (s : State) → Gave (λ a u. Tells s.keywords u.keywords) (next_form rs left place t k frame s)
 unfolding next_form
-next-told rs left place t l frame s = use-told rs (place_of t place) t l frame (record s { uses_left = left })
+next-told rs left place t k frame s = form-told rs (place_of t place) t k frame (record s { uses_left = left })
 
 pub variable-told : (rs : List LibRecord) (place : Span) (l : Label) (s : State) → Gave (λ a u. Tells s.keywords u.keywords) (asks_variable rs place l s)
 unfolding asks_variable

@@ -20,6 +20,7 @@ use Rattle.sx_core_laws.specs.Words.{Each, Among}
 use Rattle.sx_core_laws.specs.Records.{defined}
 use Rattle.sx_core_laws.specs.Follows.{IsOwn, IsRecorded, names_of, bound_labels, top_label, tops}
 use Rattle.sx_eval.specs.Codes.{Codes}
+use Rattle.sx_records.specs.Frame.{core_row, rows_for, introduced_numbers, record_frame}
 use Rattle.sx_standing.specs.Start.{bindings_of, rows_of, first_frame, import_row, started}
 use Rattle.sx_expand_laws.specs.Ready.{IsReady}
 use Rattle.sx_expand_laws.specs.Serves.{IsThere, IsLabelThere, AllServe}
@@ -153,11 +154,22 @@ imports-there : (records : List LibRecord) (f : FrameNo) (es : List (List ℕ ×
 imports-there records f [] h = tt
 imports-there records f (e ∷ es) h = (h.0, imports-there records f es h.1)
 
+-- the names of the implementation are there everywhere
+numbers-there : (records : List LibRecord) (ns : List ℕ) → Each (λ (r : FrameRow). IsThere records r.label.0.library) (map core_row ns)
+numbers-there records [] = tt
+numbers-there records (n ∷ ns) = (inr (inl refl), numbers-there records ns)
+
+introduced-there : (records : List LibRecord) → Each (λ (r : FrameRow). IsThere records r.label.0.library) record_frame
+unfolding record_frame rows_for
+introduced-there records = numbers-there records introduced_numbers
+
 pub started-there : (own : LibName) (records : List LibRecord) (imports : List (List ℕ × Label)) (codes : Codes) → AllServe [] records → Each (λ (e : List ℕ × Label). IsThere records e.1.0.library) imports
     → (f : FrameNo) → Each (λ (r : Row). IsThere records r.label.0.library) (rows_at f (started own records imports codes).frames)
 unfolding started
 started-there own records imports codes h there f =
-    let rows = rows_of records ++ map (import_row (first_frame own)) imports in
+    let imported = map (import_row (first_frame own)) imports in
+    let rows = rows_of records ++ (record_frame ++ imported) in
     subst (Each (λ (r : Row). IsThere records r.label.0.library)) (sym (rows_at-adopted [] f rows))
-    (rows-hold (λ l. IsThere records l.0.library) f rows (each-append (λ (r : FrameRow). IsThere records r.label.0.library) (rows_of records) (map (import_row (first_frame own)) imports)
-    (rows-there records [] records h (λ k a. elim a [ ]) (λ k a. a)) (imports-there records (first_frame own) imports there)))
+    (rows-hold (λ l. IsThere records l.0.library) f rows (each-append (λ (r : FrameRow). IsThere records r.label.0.library) (rows_of records) (record_frame ++ imported)
+    (rows-there records [] records h (λ k a. elim a [ ]) (λ k a. a))
+    (each-append (λ (r : FrameRow). IsThere records r.label.0.library) record_frame imported (introduced-there records) (imports-there records (first_frame own) imports there))))

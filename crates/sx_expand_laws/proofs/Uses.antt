@@ -1,15 +1,19 @@
 -- How states change where keywords are used and defined, and where patterns are compiled.
-use Rattle.std.proofs.Common.{◌≡◌, ℕ, List, [], Option, Result, Ok, Err, refl, sym, ◌∙◌, ap, arith, inl}
+use Rattle.std.proofs.Common.{◌≡◌, ℕ, ◌+◌, Bool, true, false, List, [], Option, Result, Ok, Err, refl, sym, ◌∙◌, ap, arith, inl, if◌then◌else◌}
+use Rattle.sx_base.specs.Act.{after, give}
 use Rattle.sx_base.specs.Named.{Named}
 use Rattle.sx_base.specs.declared.fault.Fault.{Fault}
 use Rattle.sx_base.specs.declared.library.LibName.{LibName}
 use Rattle.sx_base.specs.declared.name.FrameNo.{FrameNo}
 use Rattle.sx_base.specs.declared.name.Label.{Label}
+use Rattle.sx_base.specs.declared.name.Mark.{Mark}
 use Rattle.sx_base.specs.declared.span.Span.{Span}
+use Rattle.sx_tree.specs.Changes.{enter, leave}
 use Rattle.sx_tree.specs.Tree.{Tree}
 use Rattle.sx_frames.specs.Scope.{rows_at}
 use Rattle.sx_core.specs.Bindings.{bound_to}
 use Rattle.sx_core.specs.Core.{PlainCore}
+use Rattle.sx_core.specs.declared.core_form.CoreForm.{CoreForm}
 use Rattle.sx_core.specs.declared.record.LibRecord.{LibRecord}
 use Rattle.sx_pattern.specs.Compile as patterns
 use Rattle.sx_pattern.specs.declared.compile.Compiled.{Compiled}
@@ -20,16 +24,22 @@ use Rattle.sx_stage.specs.Transformers as stage
 use Rattle.sx_stage.specs.Uses.{used}
 use Rattle.sx_standing.specs.InScope.{apart, restoring}
 use Rattle.sx_standing.specs.Patterns.{pattern_of, check_literals}
-use Rattle.sx_standing.specs.State.{State, Does, stage_of, with_stage, staged}
+use Rattle.sx_records.specs.Forms.{record_forms}
+use Rattle.sx_records.specs.Names.{record_uid}
+use Rattle.sx_standing.specs.RecordUses.{at_state, defines_type, count_record_type, record_tree, record_marked, use_record}
+use Rattle.sx_standing.specs.State.{State, Does, stage_of, with_stage, staged, fresh}
 use Rattle.sx_standing.specs.Uses.{use_keyword, asks_variable, macro_expression, finish_keyword}
-use Rattle.sx_expand.specs.Settle.{next_form}
+use Rattle.sx_heads.specs.declared.plan.KeywordUse.{KeywordUse}
+use Rattle.sx_heads.specs.declared.plan.KeywordUse.TheVariants as keyword_use
+use Rattle.sx_expand.specs.Settle.{used_form, next_form}
 use Rattle.sx_expand_laws.specs.Stages.{StageLater, EndsLater, EndsKept}
 use Rattle.sx_expand_laws.specs.States.{IsKept, IndicesApart, Later}
 use Rattle.sx_expand_laws.proofs.Acts.{Gave, gave-after, gave-less}
 use Rattle.sx_expand_laws.proofs.Compiled.{Compiles, GaveBy, compiles}
 use Rattle.sx_expand_laws.proofs.Grows.{grows-same}
-use Rattle.sx_expand_laws.proofs.Later.{keeps-same, later-then}
-use Rattle.sx_expand_laws.proofs.Moved.{Names, Moved}
+use Rattle.sx_expand_laws.proofs.Later.{keeps-same, later-self, later-then}
+use Rattle.sx_expand_laws.proofs.Moved.{Names, Moved, moved-after, moved-counted}
+use Rattle.sx_expand_laws.proofs.Naming.{counted}
 use Rattle.sx_expand_laws.proofs.Stage.{stage-grows}
 
 module _ (own : LibName) where
@@ -74,11 +84,47 @@ module _ (own : LibName) where
   pub left-later : (left : ℕ) (s : State) → Names own s → Later own s (record s { uses_left = left })
   left-later left s n = record { here = refl; next = n; up = omega arith; same = λ f o. refl; grows = grows-same own s (record s { uses_left = left }) refl refl refl (omega arith); scope = refl; tops = λ l v o b. b; keeps = keeps-same own s (record s { uses_left = left }) refl refl }
 
-  pub next-later : (rs : List LibRecord) (left : ℕ) (place : Span) (t : Tree) (l : Label) (frame : Option FrameNo) (s : State) → Names own s → Gave (Moved own s) (next_form rs left place t l frame s)
+  -- with more uses of `define-record-type`
+  counted-later : (count : ℕ) (s : State) → Names own s → Later own s (record s { record_types = count })
+  counted-later count s n = record { here = refl; next = n; up = omega arith; same = λ f o. refl; grows = grows-same own s (record s { record_types = count }) refl refl refl (omega arith); scope = refl; tops = λ l v o b. b; keeps = keeps-same own s (record s { record_types = count }) refl refl }
+
+  count-later : (f : CoreForm) (s : State) → Names own s → Gave (Moved own s) (count_record_type f s)
+  unfolding count_record_type
+  count-later f s n = by (defines_type f)
+    where
+      by : (b : Bool) → Later own s (if b then record s { record_types = s.record_types + 1 } else s)
+      by true = counted-later (s.record_types + 1) s n
+      by false = later-self own s n
+
+  tree-later : (place : Span) (t : Tree) (f : CoreForm) (count : ℕ) (s : State) → Names own s → Gave (Moved own s) (record_tree place t f count s)
+  unfolding record_tree
+  tree-later place t f count s n = by (record_forms s.frames t f place (record_uid s.library t count))
+    where
+      by : (r : Result Tree Fault) → Gave (Moved own s) (at_state s r)
+      by (Ok u) = later-self own s n
+      by (Err e) = tt
+
+  marked-later : (place : Span) (t : Tree) (f : CoreForm) (frame : Option FrameNo) (m : Mark) (s : State) → Names own s → Gave (Moved own s) (record_marked place t f frame m s)
+  unfolding record_marked
+  marked-later place t f frame m s n =
+      moved-after own s (count_record_type f s) (λ c s'. after (record_tree place (enter m t) f c s') (λ u. give (leave m frame u))) (count-later f s n)
+      (λ c u k. moved-after own u (record_tree place (enter m t) f c u) (λ v. give (leave m frame v)) (tree-later place (enter m t) f c u k) (λ v w j. later-self own w j))
+
+  record-later : (place : Span) (t : Tree) (f : CoreForm) (frame : Option FrameNo) (s : State) → Names own s → Gave (Moved own s) (use_record place t f frame s)
+  unfolding use_record fresh
+  record-later place t f frame s n =
+      let m : Mark = record { 0 = s.names } in
+      moved-counted own s (record_marked place t f frame m (counted s)) n (marked-later place t f frame m (counted s) n)
+
+  form-later : (rs : List LibRecord) (place : Span) (t : Tree) (k : KeywordUse) (frame : Option FrameNo) (s : State) → Names own s → Gave (Moved own s) (used_form rs place t k frame s)
+  form-later rs place t (keyword_use.Macro l) frame s n = use-later rs place t l frame s n
+  form-later rs place t (keyword_use.Record f) frame s n = record-later place t f frame s n
+
+  pub next-later : (rs : List LibRecord) (left : ℕ) (place : Span) (t : Tree) (k : KeywordUse) (frame : Option FrameNo) (s : State) → Names own s → Gave (Moved own s) (next_form rs left place t k frame s)
   unfolding next_form
-  next-later rs left place t l frame s n =
+  next-later rs left place t k frame s n =
       let u : State = record s { uses_left = left } in
-      gave-less (Moved own u) (Moved own s) (use_keyword rs (place_of t place) t l frame u) (use-later rs (place_of t place) t l frame u n) (λ x v h. later-then own s u v (left-later left s n) h)
+      gave-less (Moved own u) (Moved own s) (used_form rs (place_of t place) t k frame u) (form-later rs (place_of t place) t k frame u n) (λ x v h. later-then own s u v (left-later left s n) h)
 
   -- Patterns.
 

@@ -4,7 +4,7 @@ ghost use Rattle.sx_expand_laws.specs.Good.{RecordsAreGood};
 ghost use Rattle.sx_expand_laws.specs.InScope.{ScopeStays};
 ghost use Rattle.sx_expand_laws.specs.Keywords.{KeywordsAreGood};
 ghost use Rattle.sx_expand_laws.specs.Serving.{FollowersServe, RecordsServe};
-ghost use Rattle.sx_expand_laws.specs.Uses.{UsesAreReplaced, BodyUsesAreReplaced};
+ghost use Rattle.sx_expand_laws.specs.Uses.{UsesAreReplaced, BodyUsesAreReplaced, RecordFormsAreReplaced, BodyRecordFormsAreReplaced};
 ghost use Rattle.sx_expand_laws.specs.Named.{ReferencesNameBinders, AssignmentsNameBinders, BindersAreFound, BindersStay};
 
 /// Every record that expansion gives is closed, bound once and well made.
@@ -36,10 +36,13 @@ pub fn references_name_binders()
     ensures stay { BindersStay }
 {}
 
-/// A use of a keyword expands to what the form expands to that its transformer gives, and in a body it is taken as that form.
+/// A use of a keyword expands to what the form expands to that its transformer gives, and in a body it is taken as that form. So is
+/// a use of a record form, with the definitions or the expression that it stands for.
 pub fn uses_are_replaced()
     ensures expressions { UsesAreReplaced }
     ensures bodies { BodyUsesAreReplaced }
+    ensures records { RecordFormsAreReplaced }
+    ensures records_in_bodies { BodyRecordFormsAreReplaced }
 {}
 
 /// What comes into scope in an expression is out of scope after it.

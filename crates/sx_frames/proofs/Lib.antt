@@ -6,6 +6,7 @@ pub mod GivenLemmas
 pub mod NeededLemmas
 pub mod GrowLemmas
 pub mod FrameLaws
+pub mod BinderLemmas
 pub mod ApartLaws
 pub mod RenamingLaws
 pub mod ListedLaws

@@ -9,7 +9,7 @@ use Rattle.sx_base.specs.declared.library.LibName.{LibName}
 use Rattle.sx_frames.specs.Scope.{Scope}
 use Rattle.sx_frames.specs.Given.{AreOf, AreElsewhere, Part, Parts, flat, has_part, ArePlaced}
 use Rattle.sx_frames.specs.Needed.{parts_in, AreLibraries, if_mark, needed_parts, AreApart}
-use Rattle.sx_frames.proofs.GivenLemmas.{other_library, is_key, not_first, elsewhere-of, elsewhere-append, has_part-lookup, apart-of, flat-more, no_part}
+use Rattle.sx_frames.proofs.GivenLemmas.{other_library, is_key, not_first, elsewhere-of, elsewhere-append, apart-of, flat-more, no_part}
 
 abbrev pub Entries : Type 0
 Entries = List (Rc LibName Global × Rc Scope Global)

@@ -1,5 +1,6 @@
 pub mod Rows
 pub mod Scope
+pub mod Binders
 pub mod Given
 pub mod Needed
 pub mod Listed

@@ -1,14 +1,16 @@
 //! The frames of a library behind those of the libraries that it needs.
 
 ghost use Rattle.std.specs.Option.{option_copied};
-ghost use Rattle.std.specs.Prelude.{◌≡◌, ◌∷◌, ◌++◌, [], length, true, false, IfOk, OnOk, OnErr};
+ghost use Rattle.std.specs.Prelude.{◌≡◌, ◌∷◌, ◌++◌, [], length, true, false, IfOk, IfSome, OnOk, OnErr};
 ghost use Rattle.sx_base.specs.Gives.{BareGives};
+ghost use Rattle.sx_frames.specs.Binders.{OnlyOfLibrary};
 ghost use Rattle.sx_frames.specs.Given.{are_own, flat, has_part, part_of};
 ghost use Rattle.sx_frames.specs.Needed.{needed_parts, parts_given, AreApart};
 ghost use Rattle.sx_frames.specs.Listed.{rows_in};
 ghost use Rattle.sx_frames.specs.Scope.{has_frame, rows_at, label_at, label_by, bound, adopted, are_new};
 
 use crate::frames::FrameMap;
+use crate::indexed::IndexedFrames;
 use crate::key::Key;
 use crate::needed::NeededFrames;
 use crate::shared::SharedFrames;
@@ -33,7 +35,7 @@ type Given = Option<NeededFrames>;
 pub struct JoinedFrames {
     alloc: Global,
     given: Given,
-    own: FrameMap,
+    own: IndexedFrames,
 }
 
 impl Model for JoinedFrames {
@@ -52,20 +54,21 @@ impl Model for JoinedFrames {
 }
 
 /// The frames among which those of a library are.
-fn part<'a>(given: &'a Given, own: &'a FrameMap, library: &Rc<LibName>) -> &'a FrameMap
+fn part<'a>(given: &'a Given, own: &'a IndexedFrames, library: &Rc<LibName>) -> &'a FrameMap
     ensures { result.now ≡ part_of (parts_given given.now) own.now library.now.value }
 {
+    let frames = own.frames();
     let Some(given) = given else {
-        return own;
+        return frames;
     };
     match given.get(library) {
         Some(part) => part,
-        None => own,
+        None => frames,
     }
 }
 
 /// The frames among which a frame is.
-fn part_of_frame<'a>(given: &'a Given, own: &'a FrameMap, frame: &FrameNo) -> &'a FrameMap
+fn part_of_frame<'a>(given: &'a Given, own: &'a IndexedFrames, frame: &FrameNo) -> &'a FrameMap
     ensures { result.now ≡ part_of (parts_given given.now) own.now frame.now.0.library }
 {
     part(given, own, &frame.0.library)
@@ -108,7 +111,7 @@ impl JoinedFrames {
         JoinedFrames {
             alloc,
             given: None,
-            own: FrameMap::new(alloc),
+            own: IndexedFrames::new(alloc),
         }
     }
 
@@ -120,7 +123,7 @@ impl JoinedFrames {
         JoinedFrames {
             alloc,
             given: Some(NeededFrames::new(shared, needs)),
-            own: FrameMap::new(alloc),
+            own: IndexedFrames::new(alloc),
         }
     }
 
@@ -193,6 +196,17 @@ impl JoinedFrames {
             }
         }
         Ok(None)
+    }
+
+    /// Frames of which each of the library that has a row of the symbol is one, where they are few and the
+    /// library wasn't given. It takes no memory.
+    pub fn binders(&self, symbol: &Symbol, library: &Rc<LibName>) -> Option<&[FrameNo]>
+        ensures { IfSome result (λ gs. OnlyOfLibrary self.now symbol.now library.now.value gs.now) }
+    {
+        if is_given(&self.given, library) {
+            return None;
+        }
+        self.own.binders(symbol)
     }
 
     /// Whether no row is of a frame that is there. It takes no memory.

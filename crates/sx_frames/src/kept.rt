@@ -3,6 +3,7 @@
 ghost use Rattle.std.specs.Option.{option_copied};
 ghost use Rattle.std.specs.Prelude.{◌≡◌, ◌∷◌, ◌++◌, [], true, false, IfOk, IfSome, OnOk, OnErr};
 ghost use Rattle.sx_base.specs.Gives.{BareGives};
+ghost use Rattle.sx_frames.specs.Binders.{OnlyOfLibrary};
 ghost use Rattle.sx_frames.specs.Listed.{rows_in};
 ghost use Rattle.sx_frames.specs.Right.{sizes_before, same_sizes};
 ghost use Rattle.sx_frames.specs.Given.{flat};
@@ -185,6 +186,14 @@ impl KeptFrames {
         ensures { IfOk result (λ rs. rs.items ≡ rows_in library.now.value self.now) }
     {
         self.frames.rows(library)
+    }
+
+    /// Frames of which each of the library that has a row of the symbol is one, where they are few and the
+    /// library wasn't given. It takes no memory.
+    pub fn binders(&self, symbol: &Symbol, library: &Rc<LibName>) -> Option<&[FrameNo]>
+        ensures { IfSome result (λ gs. OnlyOfLibrary self.now symbol.now library.now.value gs.now) }
+    {
+        self.frames.binders(symbol, library)
     }
 
     /// The label that the first stamp gives for which its frame has the symbol and the marks at

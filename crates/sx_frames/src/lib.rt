@@ -16,7 +16,8 @@
 //!
 //! The promise: every call gives exactly what its definition over plain lists of rows gives, and after
 //! a refusal nothing has changed. Rows lie in tables that are indexed by symbol and marks, so a stamp
-//! costs two look-ups, whatever the size of its frame. `kept` also remembers answers, each with the
+//! costs two look-ups, whatever the size of its frame. `binders` tells which frames bind a symbol, where they are
+//! few (`indexed`), so that other stamps cost none. `kept` also remembers answers, each with the
 //! sizes of the frames that gave nothing before it was found; since frames only grow, an answer whose
 //! sizes are still those is the answer of now. The frames of a library that is complete lie in a table that is
 //! made once (`given`), and those of all such libraries in one table of the run (`shared`). Who needs some of
@@ -28,8 +29,10 @@
 //! what they mean in `laws`. The crate knows symbols, marks and stamps alone; sx_scope asks it for leaves of trees.
 #![tactic(auto)]
 
+pub mod binders;
 pub mod frames;
 pub mod given;
+pub mod indexed;
 pub mod joined;
 pub mod kept;
 pub mod key;

@@ -26,6 +26,7 @@ use Rattle.sx_standing.specs.declared.standing.Role.{Role}
 use Rattle.sx_standing.specs.declared.standing.Role.TheVariants as role
 use Rattle.sx_heads.specs.declared.item.Item.{Item}
 use Rattle.sx_heads.specs.declared.item.Item.TheVariants as items
+use Rattle.sx_heads.specs.declared.plan.KeywordUse.TheVariants as keyword_use
 use Rattle.sx_heads.specs.declared.taken.BodyAt.{BodyAt}
 use Rattle.sx_heads.specs.declared.taken.BodyKind.{BodyKind}
 use Rattle.sx_heads.specs.declared.taken.BodyKind.TheVariants as body_kind
@@ -152,8 +153,8 @@ item_by at depth done t f role.Assignment = set_item at depth done t (shape f t 
 item_by at depth done t f role.Sequence = with_shape (shape f t at.place) (begin_item at done t)
 item_by at depth done t f role.Definition = with_shape (shape f t at.place) (λ x. alone (define_item at depth done t x))
 item_by at depth done t f role.Keywords = with_shape (shape f t at.place) (keywords_item at done t f)
-item_by at depth done t f role.Record = fault_form kind.NotBuilt t at.place
-item_by at depth done t f role.RecordValue = fault_form kind.NotBuilt t at.place
+item_by at depth done t f role.Record = give (done, items.Use (keyword_use.Record f))
+item_by at depth done t f role.RecordValue = give (done, items.Use (keyword_use.Record f))
 item_by at depth done t f role.Auxiliary = alone (wait at depth done t)
 
 unfoldable pub core_item : BodyAt → ℕ → Taken → Tree → CoreForm → Taking
@@ -165,8 +166,7 @@ headed_item at depth done t (standing.Variable v) = alone (wait at depth done t)
 headed_item at depth done t standing.PatternVariable = alone (wait at depth done t)
 headed_item at depth done t (standing.Primitive op) = alone (wait at depth done t)
 headed_item at depth done t (standing.Core f) = core_item at depth done t f
-headed_item at depth done t (standing.Keyword l) = give (done, items.Use l)
-headed_item at depth done t standing.Unbuilt = fault_form kind.NotBuilt t at.place
+headed_item at depth done t (standing.Keyword l) = give (done, items.Use (keyword_use.Macro l))
 
 unfoldable pub list_item : BodyAt → ℕ → Taken → Tree → Tree → Taking
 list_item at depth done t head s =
@@ -179,8 +179,7 @@ leaf_by at depth done t (standing.Variable v) = alone (wait at depth done t)
 leaf_by at depth done t standing.PatternVariable = alone (wait at depth done t)
 leaf_by at depth done t (standing.Primitive op) = alone (wait at depth done t)
 leaf_by at depth done t (standing.Core f) = alone (wait at depth done t)
-leaf_by at depth done t (standing.Keyword l) = give (done, items.Use l)
-leaf_by at depth done t standing.Unbuilt = fault_form kind.NotBuilt t at.place
+leaf_by at depth done t (standing.Keyword l) = give (done, items.Use (keyword_use.Macro l))
 
 unfoldable pub leaf_item : BodyAt → ℕ → Taken → Tree → Taking
 leaf_item at depth done t s = after (keep done t s) (λ kept s'. leaf_by at depth kept t (standing_of s' t) s')

@@ -28,6 +28,7 @@ use Rattle.sx_standing.specs.declared.standing.Standing.TheVariants as standing
 use Rattle.sx_standing.specs.declared.standing.Variable.{Variable}
 use Rattle.sx_standing.specs.declared.standing.Role.{Role}
 use Rattle.sx_standing.specs.declared.standing.Role.TheVariants as role
+use Rattle.sx_heads.specs.declared.plan.KeywordUse.TheVariants as keyword_use
 use Rattle.sx_heads.specs.declared.plan.Plan.{Plan}
 use Rattle.sx_heads.specs.declared.plan.Plan.TheVariants as plans
 
@@ -50,8 +51,7 @@ refer place level id (standing.Variable v) = variable_at place level id v
 refer place level id standing.PatternVariable = fault_word kind.KeywordMisuse id id place
 refer place level id (standing.Primitive op) = done (primitive op)
 refer place level id (standing.Core f) = fault_word kind.KeywordMisuse id id place
-refer place level id (standing.Keyword l) = give (plans.Use l)
-refer place level id standing.Unbuilt = fault_form kind.NotBuilt id place
+refer place level id (standing.Keyword l) = give (plans.Use (keyword_use.Macro l))
 
 unfoldable pub reference : Span → ℕ → Tree → Does Plan
 reference place level id s = refer place level id (standing_of s id) s
@@ -77,7 +77,6 @@ target_by place level t id standing.PatternVariable = fault_word kind.KeywordMis
 target_by place level t id (standing.Primitive op) = fault_word kind.AssignedImport id t place
 target_by place level t id (standing.Core f) = fault_word kind.KeywordMisuse id t place
 target_by place level t id (standing.Keyword l) = fault_word kind.KeywordMisuse id t place
-target_by place level t id standing.Unbuilt = fault_word kind.KeywordMisuse id t place
 
 abbrev pub assign_to : Tree → Label → Does Plan
 assign_to value l = give (plans.Assignment l value)
@@ -120,7 +119,7 @@ abbrev pub operand_plan : Span → ℕ → Tree → CoreForm → Tree → Does P
 operand_plan place level t core_forms.Syntax operand s = after (template_of place level operand s) (λ x. done (instance x (place_of t place)))
 operand_plan place level t core_forms.Quasiquote operand s = give (plans.Quasi family.Quote operand) s
 operand_plan place level t core_forms.Quasisyntax operand s = give (plans.Quasi family.Syntax operand) s
-operand_plan place level t _ operand s = fault_form kind.NotBuilt t place s
+operand_plan place level t _ operand s = fault_form kind.BadForm t place s
 
 -- by the shape of a core form
 unfoldable pub shape_plan : Span → ℕ → Tree → CoreForm → Shape → Does Plan
@@ -142,14 +141,15 @@ abbrev pub with_shape : Span → ℕ → Tree → CoreForm → Result Shape Faul
 with_shape place level t f (Err e) s = Err e
 with_shape place level t f (Ok x) s = shape_plan place level t f x s
 
+-- a definition of a record type is looked at no further where no definition may stand
 abbrev pub by_role : Span → ℕ → Tree → Tree → CoreForm → Role → Does Plan
 by_role place level t head f role.Expression = with_shape place level t f (shape f t place)
 by_role place level t head f role.Assignment = with_shape place level t f (shape f t place)
 by_role place level t head f role.Sequence = with_shape place level t f (shape f t place)
 by_role place level t head f role.Definition = with_shape place level t f (shape f t place)
 by_role place level t head f role.Keywords = with_shape place level t f (shape f t place)
-by_role place level t head f role.Record = fault_form kind.NotBuilt t place
-by_role place level t head f role.RecordValue = fault_form kind.NotBuilt t place
+by_role place level t head f role.Record = fault_form kind.DefinitionPlace t place
+by_role place level t head f role.RecordValue = give (plans.Use (keyword_use.Record f))
 by_role place level t head f role.Auxiliary = fault_word kind.KeywordMisuse head head place
 
 unfoldable pub keyword_plan : Span → ℕ → Tree → Tree → CoreForm → Does Plan
@@ -161,8 +161,7 @@ by_head place level t head rest (standing.Variable v) = application place t head
 by_head place level t head rest standing.PatternVariable = application place t head rest
 by_head place level t head rest (standing.Primitive op) = application place t head rest
 by_head place level t head rest (standing.Core f) = keyword_plan place level t head f
-by_head place level t head rest (standing.Keyword l) = give (plans.Use l)
-by_head place level t head rest standing.Unbuilt = fault_form kind.NotBuilt t place
+by_head place level t head rest (standing.Keyword l) = give (plans.Use (keyword_use.Macro l))
 
 -- a list with one or more elements
 unfoldable pub list_plan : Span → ℕ → Tree → Tree → Tree → Does Plan

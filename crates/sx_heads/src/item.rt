@@ -1,5 +1,6 @@
 //! What comes of a form of a body.
 
+use crate::plan::KeywordUse;
 use sx_base::items::Items;
 use sx_base::name::Label;
 use sx_shapes::shape::BindingSpec;
@@ -15,8 +16,8 @@ pub enum Item {
     Keyword(BindingSpec),
     /// `let-syntax`, or `letrec-syntax` where the flag is true: keywords, and forms of the body.
     Keywords(bool, Items<BindingSpec>, Items<Syn>),
-    /// A use of a keyword: the form is to be replaced by what its transformer gives.
-    Use(Label),
+    /// A use of a keyword: the form is to be replaced by what comes of it.
+    Use(KeywordUse),
     /// An assignment to a keyword: a use if that is a variable transformer, else it is to wait.
     SetUse(Label),
 }

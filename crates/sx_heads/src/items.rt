@@ -8,7 +8,7 @@ ghost use Rattle.sx_heads.specs.Items.{wait, keep, leaf_item, leaf_by, in_time, 
 
 use crate::item::Item;
 use crate::kept::KeptHeads;
-use crate::plan::is_letrec_syntax;
+use crate::plan::{KeywordUse, is_letrec_syntax};
 use crate::taken::{BodyAt, BodyKind, KeptHead, Taken, Waiting, Waits};
 use sx_base::fault::{FaultKind, Stop};
 use sx_base::items::Items;
@@ -369,8 +369,8 @@ fn core_item(
             let shape = shape(state.alloc(), form, which, &at.place)?;
             keywords_item(state, at, taken, form, which, shape)
         }
-        Role::Record => Err(state.fault_form(FaultKind::NotBuilt, form, &at.place)),
-        Role::RecordValue => Err(state.fault_form(FaultKind::NotBuilt, form, &at.place)),
+        Role::Record => Ok(Item::Use(KeywordUse::Record(which))),
+        Role::RecordValue => Ok(Item::Use(KeywordUse::Record(which))),
         Role::Auxiliary => alone(state, at, depth, taken, form),
     }
 }
@@ -391,8 +391,7 @@ fn headed_item(
         Standing::PatternVariable => alone(state, at, depth, taken, form),
         Standing::Primitive(_) => alone(state, at, depth, taken, form),
         Standing::Core(which) => core_item(state, at, depth, taken, form, *which),
-        Standing::Keyword(label) => Ok(Item::Use(label.share()?)),
-        Standing::Unbuilt => Err(state.fault_form(FaultKind::NotBuilt, form, &at.place)),
+        Standing::Keyword(label) => Ok(Item::Use(KeywordUse::Macro(label.share()?))),
     }
 }
 
@@ -431,8 +430,7 @@ fn leaf_by(
         Standing::PatternVariable => alone(state, at, depth, taken, form),
         Standing::Primitive(_) => alone(state, at, depth, taken, form),
         Standing::Core(_) => alone(state, at, depth, taken, form),
-        Standing::Keyword(label) => Ok(Item::Use(label.share()?)),
-        Standing::Unbuilt => Err(state.fault_form(FaultKind::NotBuilt, form, &at.place)),
+        Standing::Keyword(label) => Ok(Item::Use(KeywordUse::Macro(label.share()?))),
     }
 }
 

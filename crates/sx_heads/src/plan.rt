@@ -28,6 +28,15 @@ use sx_standing::expansion::Expansion;
 use sx_standing::standing::{Role, Standing, Variable, role_of};
 use sx_syntax::syn::{Opened, Syn};
 
+/// A keyword whose uses give another form in their place.
+#[derive(Drop)]
+pub enum KeywordUse {
+    /// A transformer gives it.
+    Macro(Label),
+    /// One of the three forms of records.
+    Record(CoreForm),
+}
+
 /// What is to be done with a form.
 #[derive(Drop)]
 pub enum Plan {
@@ -50,8 +59,8 @@ pub enum Plan {
     Keywords(bool, Items<BindingSpec>, Items<Syn>),
     /// `quasiquote` or `quasisyntax`: the template.
     Quasi(Family, Syn),
-    /// A use of a keyword: the form is to be replaced by what its transformer gives.
-    Use(Label),
+    /// A use of a keyword: the form is to be replaced by what comes of it.
+    Use(KeywordUse),
     /// An assignment to a keyword, and its target: a use if the keyword is a variable transformer.
     SetUse(Label, Syn),
 }
@@ -142,8 +151,7 @@ fn refer(
         Standing::PatternVariable => Err(state.fault_word(FaultKind::KeywordMisuse, id, id, place)),
         Standing::Primitive(op) => done(state, CoreNode::Prim(*op)),
         Standing::Core(_) => Err(state.fault_word(FaultKind::KeywordMisuse, id, id, place)),
-        Standing::Keyword(label) => Ok(Plan::Use(label.share()?)),
-        Standing::Unbuilt => Err(state.fault_form(FaultKind::NotBuilt, id, place)),
+        Standing::Keyword(label) => Ok(Plan::Use(KeywordUse::Macro(label.share()?))),
     }
 }
 
@@ -204,7 +212,6 @@ fn target_by(
         Standing::Primitive(_) => Err(state.fault_word(FaultKind::AssignedImport, id, form, place)),
         Standing::Core(_) => Err(state.fault_word(FaultKind::KeywordMisuse, id, form, place)),
         Standing::Keyword(_) => Err(state.fault_word(FaultKind::KeywordMisuse, id, form, place)),
-        Standing::Unbuilt => Err(state.fault_word(FaultKind::KeywordMisuse, id, form, place)),
     }
 }
 
@@ -297,7 +304,7 @@ fn operand_plan(
         CoreForm::Syntax => syntax_plan(state, form, operand, place, level),
         CoreForm::Quasiquote => Ok(Plan::Quasi(Family::Quote, operand.share()?)),
         CoreForm::Quasisyntax => Ok(Plan::Quasi(Family::Syntax, operand.share()?)),
-        _ => Err(state.fault_form(FaultKind::NotBuilt, form, place)),
+        _ => Err(state.fault_form(FaultKind::BadForm, form, place)),
     }
 }
 
@@ -380,8 +387,8 @@ fn keyword_plan(
         Role::Sequence => shaped_plan(state, form, which, place, level),
         Role::Definition => shaped_plan(state, form, which, place, level),
         Role::Keywords => shaped_plan(state, form, which, place, level),
-        Role::Record => Err(state.fault_form(FaultKind::NotBuilt, form, place)),
-        Role::RecordValue => Err(state.fault_form(FaultKind::NotBuilt, form, place)),
+        Role::Record => Err(state.fault_form(FaultKind::DefinitionPlace, form, place)),
+        Role::RecordValue => Ok(Plan::Use(KeywordUse::Record(which))),
         Role::Auxiliary => Err(state.fault_word(FaultKind::KeywordMisuse, head, head, place)),
     }
 }
@@ -403,8 +410,7 @@ fn by_head(
         Standing::PatternVariable => application(state, form, head, rest, place),
         Standing::Primitive(_) => application(state, form, head, rest, place),
         Standing::Core(which) => keyword_plan(state, form, head, *which, place, level),
-        Standing::Keyword(label) => Ok(Plan::Use(label.share()?)),
-        Standing::Unbuilt => Err(state.fault_form(FaultKind::NotBuilt, form, place)),
+        Standing::Keyword(label) => Ok(Plan::Use(KeywordUse::Macro(label.share()?))),
     }
 }
 

@@ -5,7 +5,7 @@ ghost use Rattle.sx_base.specs.Gives.{BareGives};
 ghost use Rattle.sx_frames.specs.Given.{flat};
 ghost use Rattle.sx_frames.specs.Listed.{rows_in};
 ghost use Rattle.sx_frames.specs.Needed.{needed_parts, AreApart};
-ghost use Rattle.sx_frames.specs.Scope.{has_frame, bound, adopted, are_new};
+ghost use Rattle.sx_frames.specs.Scope.{has_frame, label_by, bound, adopted, are_new};
 ghost use Rattle.sx_scope.specs.Same.{same_binding};
 ghost use Rattle.sx_scope.specs.Stands.{row_for, stands, is_for};
 
@@ -18,12 +18,15 @@ use sx_base::items::Items;
 use sx_base::library::LibName;
 use sx_base::memory::Memory;
 use sx_base::name::{FrameNo, Label};
+use sx_base::symbol::Symbol;
 use sx_frames::kept::KeptFrames;
 use sx_frames::shared::SharedFrames;
+use sx_syntax::base::LeafStamps;
 use sx_syntax::syn::Syn;
 use sx_tree::frame_row::FrameRow;
 
-/// So many of a leaf's newest stamps are asked first: most leaves are bound close to where they stand.
+/// So many of a leaf's newest stamps are asked first where many frames bind its symbol: most such leaves are bound
+/// close to where they stand.
 const NEWEST: usize = 4;
 
 /// So many before what is remembered.
@@ -115,13 +118,40 @@ impl Frames {
         self.frames.bind(&frame, symbol, marks, label)
     }
 
-    /// The label that a leaf stands for, where one of so many of its newest stamps gives it.
-    #[tactic(auto, using(crate::proofs::SoonLaws::soon_is))]
-    fn stands_soon(&self, id: &Syn, count: usize) -> Result<Option<Label>, Memory>
-        ensures { IfOk result (λ o. IfSome o (λ l. stands self.now id.now ≡ Some l)) }
+    /// The label that the stamps find, where few frames bind the symbol. Then the stamps of the newest one's
+    /// library that have other frames find nothing, and aren't looked up.
+    fn found_by_few(
+        &self,
+        symbol: &Symbol,
+        stamps: &LeafStamps,
+    ) -> Result<Option<Option<Label>>, Memory>
+        ensures { IfOk result (λ o. IfSome o (λ l. l ≡ label_by self.now symbol.now stamps.now)) }
     {
-        let symbol = symbol_of(self.alloc, id)?;
-        let stamps = id.newest_stamps(self.alloc, count)?;
+        let Some(frame) = stamps.newest_frame() else {
+            return Ok(None);
+        };
+        let library = &frame.0.library;
+        let Some(binders) = self.frames.binders(symbol, library) else {
+            return Ok(None);
+        };
+        let stamps = stamps.among(self.alloc, library, binders)?;
+        let symbol = symbol.share()?;
+        let label = self.frames.label_by(symbol, stamps)?;
+        Ok(Some(label))
+    }
+
+    /// The label that the stamps find, where one of so many of the newest gives it.
+    #[tactic(auto, using(crate::proofs::SoonLaws::soon_is))]
+    fn found_soon(
+        &self,
+        symbol: &Symbol,
+        stamps: &LeafStamps,
+        count: usize,
+    ) -> Result<Option<Label>, Memory>
+        ensures { IfOk result (λ o. IfSome o (λ l. label_by self.now symbol.now stamps.now ≡ Some l)) }
+    {
+        let symbol = symbol.share()?;
+        let stamps = stamps.newest(self.alloc, count)?;
         self.frames.label_by(symbol, stamps)
     }
 
@@ -130,34 +160,55 @@ impl Frames {
     pub fn stands(&self, id: &Syn) -> Result<Option<Label>, Memory>
         ensures { IfOk result (λ l. l ≡ stands self.now id.now) }
     {
-        if let Some(label) = self.stands_soon(id, NEWEST)? {
+        let symbol = symbol_of(self.alloc, id)?;
+        let stamps = id.leaf_stamps(self.alloc)?;
+        if let Some(label) = self.found_by_few(&symbol, &stamps)? {
+            return Ok(label);
+        }
+        if let Some(label) = self.found_soon(&symbol, &stamps, NEWEST)? {
             return Ok(Some(label));
         }
-        let symbol = symbol_of(self.alloc, id)?;
-        let stamps = id.stamps(self.alloc)?;
+        let stamps = stamps.all(self.alloc)?;
         self.frames.label_by(symbol, stamps)
     }
 
-    /// As `stands`, and remembers the answer where none of the recent stamps gives it: each use of a keyword
-    /// makes stamps of its own, and to ask for them in the memo would cost more than to look. A remembered
-    /// answer is given only where it still holds, so none shows.
-    pub fn stands_kept(&mut self, id: &Syn) -> Result<Option<Label>, Memory>
-        ensures label { IfOk result (λ l. l ≡ stands self.old id.now) }
+    /// The label that the stamps find, remembered where none of the recent ones gives it.
+    fn found_kept(
+        &mut self,
+        id: &Syn,
+        symbol: Symbol,
+        stamps: LeafStamps,
+    ) -> Result<Option<Label>, Memory>
+        ensures label { IfOk result (λ l. l ≡ label_by self.old symbol stamps) }
         ensures unchanged { self.new ≡ self.old }
     {
-        if let Some(label) = self.stands_soon(id, NEWEST)? {
+        if let Some(label) = self.found_soon(&symbol, &stamps, RECENT)? {
             return Ok(Some(label));
         }
-        if let Some(label) = self.stands_soon(id, RECENT)? {
-            return Ok(Some(label));
-        }
-        let symbol = symbol_of(self.alloc, id)?;
-        let stamps = id.stamps(self.alloc)?;
+        let stamps = stamps.all(self.alloc)?;
         if stamps.len() <= RECENT {
             return self.frames.label_by(symbol, stamps);
         }
         let marks = id.marks(self.alloc)?;
         self.frames.label_kept(symbol, marks, stamps)
+    }
+
+    /// As `stands`, and remembers the answer where many frames bind the symbol and none of the recent stamps gives
+    /// it: each use of a keyword makes stamps of its own, and to ask for them in the memo would cost more than to
+    /// look. A remembered answer is given only where it still holds, so none shows.
+    pub fn stands_kept(&mut self, id: &Syn) -> Result<Option<Label>, Memory>
+        ensures label { IfOk result (λ l. l ≡ stands self.old id.now) }
+        ensures unchanged { self.new ≡ self.old }
+    {
+        let symbol = symbol_of(self.alloc, id)?;
+        let stamps = id.leaf_stamps(self.alloc)?;
+        if let Some(label) = self.found_by_few(&symbol, &stamps)? {
+            return Ok(label);
+        }
+        if let Some(label) = self.found_soon(&symbol, &stamps, NEWEST)? {
+            return Ok(Some(label));
+        }
+        self.found_kept(id, symbol, stamps)
     }
 
     /// Whether a leaf stands for this label. It asks as `stands_kept` does.

@@ -6,4 +6,5 @@ pub mod Binders
 pub mod Start
 pub mod Patterns
 pub mod Uses
+pub mod RecordUses
 pub mod Own

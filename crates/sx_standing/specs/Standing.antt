@@ -22,9 +22,9 @@ use Rattle.sx_standing.specs.declared.standing.Role.TheVariants as role
 abbrev pub known_as : State → Label → VarInfo → Standing
 known_as s l v = standing.Variable (record { label = l; own = same_library l.0.library s.library; level = v.level; top = v.top; assigned = v.assigned })
 
--- a label without a binding is that of a keyword that isn't built yet
+-- a label without a binding stands for nothing
 abbrev pub bound_as : State → Label → Option Binding → Standing
-bound_as s l None = standing.Unbuilt
+bound_as s l None = standing.Nothing
 bound_as s l (Some (binding.Variable v)) = known_as s l v
 bound_as s l (Some (binding.PatternVariable level depth)) = standing.PatternVariable
 bound_as s l (Some (binding.Macro level expression)) = standing.Keyword l
@@ -33,9 +33,9 @@ bound_as s l (Some (binding.Primitive op)) = standing.Primitive op
 
 abbrev pub given_as : Label → Option CoreForm → Standing
 given_as l (Some f) = standing.Core f
-given_as l None = if is_keyword l.0.number then standing.Unbuilt else standing.Primitive (record { 0 = l.0.number })
+given_as l None = if is_keyword l.0.number then standing.Nothing else standing.Primitive (record { 0 = l.0.number })
 
--- the names that this implementation gives, by number
+-- the names that this implementation gives, by number; a name that the derived library defines has another label
 abbrev pub numbered_as : Label → Standing
 numbered_as l = if nat_lt l.0.number 301 then given_as l (at_number l.0.number) else standing.Nothing
 
@@ -57,7 +57,6 @@ is_keyword_standing standing.PatternVariable = false
 is_keyword_standing (standing.Primitive op) = false
 is_keyword_standing (standing.Core f) = true
 is_keyword_standing (standing.Keyword l) = true
-is_keyword_standing standing.Unbuilt = true
 
 -- what forms of a keyword do
 unfoldable pub role_of : CoreForm → Role

@@ -9,6 +9,7 @@ use Rattle.sx_frames.specs.Scope.{adopted}
 use Rattle.sx_core.specs.declared.binding.Binding.{Binding}
 use Rattle.sx_core.specs.declared.record.LibRecord.{LibRecord}
 use Rattle.sx_eval.specs.Codes.{Codes}
+use Rattle.sx_records.specs.Frame.{record_frame}
 use Rattle.sx_standing.specs.State.{State}
 
 abbrev pub or_skip : Option LibRecord → List LibRecord → List LibRecord
@@ -42,17 +43,18 @@ first_frame library = record { 0 = first_name library }
 abbrev pub import_row : FrameNo → List ℕ × Label → FrameRow
 import_row frame n = record { frame = frame; symbol = n.0; marks = []; label = n.1 }
 
--- what the records before it bind, and the names that it imports; at most 1,000,000 keywords are used. The codes are those of the
+-- what the records before it bind, the frame of what record forms introduce, and the names that it imports; at most 1,000,000 keywords are used. The codes are those of the
 -- procedures that are texts.
 unfoldable pub started : LibName → List LibRecord → List (List ℕ × Label) → Codes → State
 started library records imports codes = record {
   library = library;
   names = second_name library;
-  frames = adopted [] (rows_of records ++ map (import_row (first_frame library)) imports);
+  frames = adopted [] (rows_of records ++ (record_frame ++ map (import_row (first_frame library)) imports));
   bindings = bindings_of records;
   exports = [];
   assigned = [];
   uses_left = 1000000;
+  record_types = 0;
   index = 0;
   scope = [];
   cells = [];

@@ -24,8 +24,8 @@ use Rattle.sx_stage.specs.declared.keyword.Keyword.{Keyword}
 use Rattle.sx_shapes.specs.At.{fault_at}
 
 -- the library; the next name; what symbols stand for in each frame; what labels are bound to; the labels that the library exports and
--- the variables that it assigns; how many uses of keywords are left; how many variables were bound at level 0; the labels in scope that
--- aren't of the top. Then what else the stage has on which transformers run: cells, codes, the values of the variables of libraries, the
+-- the variables that it assigns; how many uses of keywords are left; how many uses of `define-record-type` there were; how many variables were
+-- bound at level 0; the labels in scope that aren't of the top. Then what else the stage has on which transformers run: cells, codes, the values of the variables of libraries, the
 -- libraries that were evaluated, the keywords, and the fuel that was spent.
 pub record State : Type 0 where
   pub library : LibName
@@ -35,6 +35,7 @@ pub record State : Type 0 where
   pub exports : List Label
   pub assigned : List Label
   pub uses_left : ℕ
+  pub record_types : ℕ
   pub index : ℕ
   pub scope : List Label
   pub cells : List Cell
@@ -72,10 +73,10 @@ with_stage g s = record s {
 
 -- a code of states, by that of their fields
 abbrev pub Fields : Type 0
-Fields = LibName × (PlainStage × (List (Label × Binding) × (List Label × (List Label × (ℕ × (ℕ × List Label))))))
+Fields = LibName × (PlainStage × (List (Label × Binding) × (List Label × (List Label × (ℕ × (ℕ × (ℕ × List Label)))))))
 
 abbrev pub fields_of : State → Fields
-fields_of s = (s.library, (stage_of s, (s.bindings, (s.exports, (s.assigned, (s.uses_left, (s.index, s.scope)))))))
+fields_of s = (s.library, (stage_of s, (s.bindings, (s.exports, (s.assigned, (s.uses_left, (s.record_types, (s.index, s.scope))))))))
 
 abbrev pub of_fields : Fields → State
 of_fields f = record {
@@ -86,8 +87,9 @@ of_fields f = record {
   exports = f.1.1.1.0;
   assigned = f.1.1.1.1.0;
   uses_left = f.1.1.1.1.1.0;
-  index = f.1.1.1.1.1.1.0;
-  scope = f.1.1.1.1.1.1.1;
+  record_types = f.1.1.1.1.1.1.0;
+  index = f.1.1.1.1.1.1.1.0;
+  scope = f.1.1.1.1.1.1.1.1;
   cells = f.1.0.cells;
   codes = f.1.0.codes;
   globals = f.1.0.globals;
@@ -101,7 +103,7 @@ labels_code = coded_list labels.the_row.coded
 
 abbrev pub state_code : Coded State
 state_code = code_by Fields
-    (coded× libraries.the_row.coded (coded× stage_code (coded× bindings_code (coded× labels_code (coded× labels_code (coded× coded_ℕ (coded× coded_ℕ labels_code)))))))
+    (coded× libraries.the_row.coded (coded× stage_code (coded× bindings_code (coded× labels_code (coded× labels_code (coded× coded_ℕ (coded× coded_ℕ (coded× coded_ℕ labels_code))))))))
     fields_of of_fields (λ _. refl)
 
 abbrev pub Does : Type 0 → Type 0

@@ -25,6 +25,7 @@ pub mod means;
 pub mod own;
 pub mod patterns;
 pub mod ready;
+pub mod record_uses;
 pub mod share;
 pub mod standing;
 pub mod start;

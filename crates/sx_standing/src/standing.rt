@@ -29,8 +29,6 @@ pub enum Standing {
     Core(CoreForm),
     /// A keyword whose uses a transformer expands.
     Keyword(Label),
-    /// A keyword of the implementation that isn't built yet.
-    Unbuilt,
 }
 
 /// What forms of a core keyword do.
@@ -100,8 +98,5 @@ pub fn role_of(form: CoreForm) -> Role
 pub fn is_keyword(standing: &Standing) -> bool
     ensures { result ≡ is_keyword_standing standing.now }
 {
-    matches!(
-        standing,
-        Standing::Core(_) | Standing::Keyword(_) | Standing::Unbuilt
-    )
+    matches!(standing, Standing::Core(_) | Standing::Keyword(_))
 }

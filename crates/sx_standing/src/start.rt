@@ -3,6 +3,7 @@
 ghost use Rattle.std.specs.Prelude.{◌≡◌, ◌++◌, [], IfOk, OnOk, map};
 ghost use Rattle.sx_frames.specs.Scope.{adopted};
 ghost use Rattle.sx_eval.specs.Codes as table;
+ghost use Rattle.sx_records.specs.Frame.{record_frame};
 ghost use Rattle.sx_standing.specs.Ready.{needed_records};
 ghost use Rattle.sx_standing.specs.Start.{second_name, first_frame, import_row, rows_of, bindings_of, started};
 
@@ -20,6 +21,7 @@ use sx_base::symbol::Symbol;
 use sx_core::code::Code;
 use sx_core::labels::Labels;
 use sx_known::known::KnownBindings;
+use sx_records::frame::record_frame;
 use sx_scope::scope::Frames;
 use sx_stage::stage::Stage;
 use sx_tree::frame_row::FrameRow;
@@ -91,6 +93,31 @@ fn adopt_imports(
     frames.adopt(rows.as_slice())
 }
 
+/// Adds rows of frames that are new; that one is there is refused as want of memory is.
+fn adopt_new(frames: &mut Frames, rows: &[FrameRow]) -> Result<(), Memory>
+    ensures { OnOk result (frames.new ≡ adopted frames.old rows.now) }
+{
+    if !frames.are_new(rows) {
+        return Err(Memory);
+    }
+    frames.adopt(rows)
+}
+
+/// Adds the frame of what record forms introduce, and then the imported names.
+#[tactic(auto, using(crate::proofs::Adopted::adopted_append))]
+fn adopt_both(
+    alloc: Global,
+    frames: &mut Frames,
+    records: &[FrameRow],
+    frame: &FrameNo,
+    imports: &[(Symbol, Label)],
+) -> Result<(), Memory>
+    ensures { OnOk result (frames.new ≡ adopted frames.old (records.now ++ map (import_row frame.now) imports.now)) }
+{
+    adopt_new(frames, records)?;
+    adopt_imports(alloc, frames, frame, imports)
+}
+
 /// The library's frame.
 fn frame_of(library: &Rc<LibName>) -> Result<FrameNo, Memory>
     ensures { IfOk result (λ f. f ≡ first_frame library.now.value) }
@@ -118,7 +145,51 @@ struct Beginning {
     bindings: KnownBindings,
 }
 
+/// What the marked records bind, then what record forms introduce, and the imports.
 #[tactic(auto, using(crate::proofs::Adopted::adopted_append))]
+fn first_frames(
+    alloc: Global,
+    earlier: &ReadyRecords,
+    marks: Rc<Items<bool>>,
+    records: &[FrameRow],
+    frame: &FrameNo,
+    imports: &[(Symbol, Label)],
+) -> Result<Frames, Memory>
+    ensures { IfOk result (λ fs. fs ≡ adopted [] (rows_of (needed_records marks.value earlier.now) ++ (records.now ++ map (import_row frame.now) imports.now))) }
+{
+    let mut frames = earlier.frames(alloc, marks)?;
+    adopt_both(alloc, &mut frames, records, frame, imports)?;
+    Ok(frames)
+}
+
+/// What an expansion begins with, where what record forms introduce is in these rows.
+fn begin_over(
+    alloc: Global,
+    library: LibName,
+    earlier: &ReadyRecords,
+    needs: &[bool],
+    imports: &[(Symbol, Label)],
+    records: &[FrameRow],
+) -> Result<Beginning, Memory>
+    ensures library { IfOk result (λ b. b.library.value ≡ library) }
+    ensures names { IfOk result (λ b. b.names ≡ second_name library) }
+    ensures frames { IfOk result (λ b. b.frames ≡ adopted [] (rows_of (needed_records needs.now earlier.now) ++ (records.now ++ map (import_row (first_frame library)) imports.now))) }
+    ensures bindings { IfOk result (λ b. b.bindings ≡ bindings_of (needed_records needs.now earlier.now)) }
+{
+    let library = Rc::new(alloc, library)?;
+    let names = names_of(&library)?;
+    let frame = frame_of(&library)?;
+    let marks = marks_of(alloc, needs)?;
+    let bindings = earlier.bindings(alloc, marks.clone()?)?;
+    let frames = first_frames(alloc, earlier, marks, records, &frame, imports)?;
+    Ok(Beginning {
+        library,
+        names,
+        frames,
+        bindings,
+    })
+}
+
 fn begin(
     alloc: Global,
     library: LibName,
@@ -128,22 +199,11 @@ fn begin(
 ) -> Result<Beginning, Memory>
     ensures library { IfOk result (λ b. b.library.value ≡ library) }
     ensures names { IfOk result (λ b. b.names ≡ second_name library) }
-    ensures frames { IfOk result (λ b. b.frames ≡ adopted [] (rows_of (needed_records needs.now earlier.now) ++ map (import_row (first_frame library)) imports.now)) }
+    ensures frames { IfOk result (λ b. b.frames ≡ adopted [] (rows_of (needed_records needs.now earlier.now) ++ (record_frame ++ map (import_row (first_frame library)) imports.now))) }
     ensures bindings { IfOk result (λ b. b.bindings ≡ bindings_of (needed_records needs.now earlier.now)) }
 {
-    let library = Rc::new(alloc, library)?;
-    let names = names_of(&library)?;
-    let frame = frame_of(&library)?;
-    let marks = marks_of(alloc, needs)?;
-    let mut frames = earlier.frames(alloc, marks.clone()?)?;
-    let bindings = earlier.bindings(alloc, marks)?;
-    adopt_imports(alloc, &mut frames, &frame, imports)?;
-    Ok(Beginning {
-        library,
-        names,
-        frames,
-        bindings,
-    })
+    let records = record_frame(alloc)?;
+    begin_over(alloc, library, earlier, needs, imports, records.as_slice())
 }
 
 /// The state before the first form. It takes no memory.
@@ -160,6 +220,7 @@ fn expansion_with(
       exports = [];
       assigned = [];
       uses_left = 1000000;
+      record_types = 0;
       index = 0;
       scope = [];
       cells = [];
@@ -184,6 +245,7 @@ fn expansion_with(
         exports: Labels::new(alloc),
         assigned: Labels::new(alloc),
         uses_left: MOST_USES,
+        record_types: 0,
         index: 0,
         scope: InScope::new(alloc),
     }

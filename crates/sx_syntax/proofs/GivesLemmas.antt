@@ -1,5 +1,5 @@
 -- Answers that are trees within the limits.
-use Rattle.std.proofs.Common.{◌≡◌, Result, Err, Ok, refl, sym, ap, ◌∙◌, subst}
+use Rattle.std.proofs.Common.{◌≡◌, Err, Ok, sym, ap, ◌∙◌, subst}
 use Rattle.sx_base.specs.Gives.{BareStops}
 use Rattle.sx_base.specs.declared.fault.BareStop.{BareStop}
 use Rattle.sx_base.specs.declared.fault.BareStop.TheVariants as stop

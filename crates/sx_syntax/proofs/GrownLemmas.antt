@@ -1,19 +1,18 @@
 -- Trees that grow from data.
-use Rattle.std.proofs.Common.{◌≡◌, ℕ, zero, suc, ◌+◌, ◌<◌, ◌≤◌, List, [], ◌∷◌, ◌++◌, Option, None, Some, map, take, drop, length, get_or, Bool, true, false, refl, sym, ap, ◌∙◌, subst, arith, drop-cons}
+use Rattle.std.proofs.Common.{◌≡◌, ℕ, zero, suc, ◌+◌, ◌<◌, ◌≤◌, List, [], ◌∷◌, Option, None, Some, map, take, drop, length, get_or, true, refl, sym, ap, ◌∙◌, subst, arith, drop-cons}
 use Rattle.std.specs.Prelude.{IsTrue, ◌&&◌}
 use Rattle.sx_base.specs.declared.atom.Atom.TheVariants.{Nil, Bool as Boolean, Int, Spelt, Char, Str, Bytes}
 use Rattle.sx_base.specs.declared.span.Span.{Span}
-use Rattle.sx_base.specs.declared.fault.BareStop.{BareStop}
 use Rattle.sx_base.specs.Datum.{PlainDatum, datum_size, listed}
 use Rattle.sx_base.specs.Datum as datum
 use Rattle.sx_base.specs.DatumView.{is_some_list}
 use Rattle.sx_tree.specs.Context.{LeafContext}
 use Rattle.sx_tree.specs.Tree.{Tree, pair, vector, nil, chain, spanned}
-use Rattle.sx_tree.specs.Measures.{Fits, height, size}
+use Rattle.sx_tree.specs.Measures.{Fits}
 use Rattle.sx_tree.specs.Leaves.{tree_of}
-use Rattle.sx_tree.proofs.MeasureLaws.{pair_fits, chain_fits, height-spanned, size-spanned}
+use Rattle.sx_tree.proofs.MeasureLaws.{pair_fits, height-spanned, size-spanned}
 use Rattle.sx_syntax.specs.Kept.{IsRest}
-use Rattle.sx_syntax.specs.Leaves.{sample_context, span_by, datum_by, grown_tree}
+use Rattle.sx_syntax.specs.Leaves.{sample_context, span_by, grown_tree}
 use Rattle.sx_syntax.specs.declared.leaves.Sample.{Sample}
 use Rattle.sx_syntax.specs.declared.leaves.Spans.{Spans}
 use Rattle.sx_syntax.specs.declared.leaves.Spans.TheVariants as spans

@@ -1,8 +1,8 @@
 -- What a node shows, and what it shows under other changes and spans.
-use Rattle.std.proofs.Common.{◌≡◌, ◌≤◌, List, [], ◌∷◌, ◌++◌, Option, None, Some, refl, sym, ap, ◌∙◌, subst, arith}
+use Rattle.std.proofs.Common.{◌≡◌, List, [], ◌++◌, Option, None, Some, refl, sym, ap, ◌∙◌, subst, arith}
 use Rattle.sx_base.specs.declared.span.Span.{Span}
 use Rattle.sx_tree.specs.Context.{LeafContext, acts}
-use Rattle.sx_tree.specs.Tree.{Tree, atom, leaf, pair, vector, spanned, unspanned, span_of, is_list}
+use Rattle.sx_tree.specs.Tree.{Tree, pair, spanned, unspanned, span_of, is_list}
 use Rattle.sx_tree.specs.Measures.{size, height, Fits}
 use Rattle.sx_tree.specs.Changes.{changed}
 use Rattle.sx_tree.specs.declared.change.Change.{Change}

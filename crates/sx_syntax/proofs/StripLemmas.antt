@@ -1,16 +1,16 @@
 -- The datum of a list.
-use Rattle.std.proofs.Common.{◌≡◌, Bool, true, false, List, [], ◌∷◌, ◌++◌, Option, None, Some, refl, sym, ap, ◌∙◌, subst}
+use Rattle.std.proofs.Common.{◌≡◌, true, false, List, [], ◌∷◌, ◌++◌, Option, None, Some, refl, sym, ap, ◌∙◌}
 use Rattle.std.specs.Prelude.{◌&&◌}
 use Rattle.sx_base.specs.declared.span.Span.{Span}
 use Rattle.sx_base.specs.declared.atom.Atom.TheVariants.{Nil, Bool as Boolean, Int, Spelt, Char, Str, Bytes}
 use Rattle.sx_base.specs.Datum.{PlainDatum, listed, is_tail}
 use Rattle.sx_base.specs.Datum as datum
 use Rattle.sx_base.specs.DatumView.{is_some_list}
-use Rattle.sx_tree.specs.Tree.{Tree, atom, leaf, pair, vector, nil, span_of, spanned, is_pair}
+use Rattle.sx_tree.specs.Tree.{Tree, atom, leaf, pair, vector, spanned, is_pair}
 use Rattle.sx_tree.specs.Leaves.{strip}
 use Rattle.sx_tree.proofs.LeafLaws.{strip-changed}
 use Rattle.sx_syntax.specs.Kept.{IsRest, IsElements}
-use Rattle.sx_syntax.specs.KeptView.{shape_tree, seen, view_of, Whole}
+use Rattle.sx_syntax.specs.KeptView.{shape_tree, view_of, Whole}
 use Rattle.sx_syntax.specs.declared.kept.Shape.{Shape}
 use Rattle.sx_syntax.proofs.NodeLemmas.{tree_node}
 use Rattle.sx_syntax.proofs.ListLemmas.{elements_end}

@@ -1,5 +1,5 @@
 -- Each part weighs less than its whole.
-use Rattle.std.specs.Prelude.{ℕ, suc, ◌+◌, ◌≤◌, List, Option}
+use Rattle.std.specs.Prelude.{suc, ◌+◌, ◌≤◌, List, Option}
 use Rattle.std.proofs.Common.{◌≡◌, ◌∙◌, refl, ap, arith}
 use Rattle.sx_base.specs.declared.span.Span.{Span}
 use Rattle.sx_tree.specs.Tree.{Tree, atom, leaf, pair, vector, spanned}

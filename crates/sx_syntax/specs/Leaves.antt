@@ -1,5 +1,5 @@
 -- The trees of data whose symbols all get one context.
-use Rattle.std.specs.Prelude.{List, Option, None}
+use Rattle.std.specs.Prelude.{Option, None}
 use Rattle.sx_base.specs.declared.span.Span.{Span}
 use Rattle.sx_base.specs.Datum.{PlainDatum, unspanned}
 use Rattle.sx_tree.specs.Context.{LeafContext}

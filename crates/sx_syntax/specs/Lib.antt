@@ -3,6 +3,7 @@ pub mod StackFalls
 pub mod Wrap
 pub mod WrapFalls
 pub mod Base
+pub mod Among
 pub mod Kept
 pub mod KeptView
 pub mod KeptFalls

@@ -1,5 +1,5 @@
 -- The elements below the first are fewer.
-use Rattle.std.specs.Prelude.{ℕ, ◌+◌, ◌≤◌, List, [], ◌∷◌, length, Option, None, Some}
+use Rattle.std.specs.Prelude.{◌≤◌, length, None, Some}
 use Rattle.std.proofs.Common.{arith}
 use Rattle.sx_syntax.specs.declared.stack.Level.{Level}
 use Rattle.sx_syntax.specs.declared.stack.Stack.TheDeep.{deep-Level}

@@ -1,5 +1,5 @@
 -- The changes before the last one are fewer.
-use Rattle.std.specs.Prelude.{ℕ, ◌+◌, ◌≤◌, List, [], ◌∷◌, length, Option, None, Some}
+use Rattle.std.specs.Prelude.{◌≤◌, [], ◌∷◌, length, None, Some}
 use Rattle.std.proofs.Common.{arith, length-append}
 use Rattle.sx_syntax.specs.declared.wrap.Link.{Link}
 use Rattle.sx_syntax.specs.declared.wrap.Wrap.TheDeep.{deep-Link}

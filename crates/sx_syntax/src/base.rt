@@ -1,12 +1,14 @@
 //! Bases: the marks and stamps that leaves have, as lists that share their ends.
 
-ghost use Rattle.std.specs.Prelude.{◌≡◌, take, map, IfOk, IsTrue};
+ghost use Rattle.std.specs.Prelude.{◌≡◌, ◌++◌, [], ◌∷◌, filter, take, map, option_map, slice_get, IfOk, OnOk, IsTrue};
+ghost use Rattle.sx_syntax.specs.Among.{is_for};
 ghost use Rattle.sx_tree.specs.Context.{blank, act, entered, stamped, unmarked, left};
 ghost use Rattle.sx_tree.specs.Marks.{is_first};
 
 use crate::stack::Stack;
 use std::alloc::Global;
 use std::marker::Model;
+use sx_base::library::LibName;
 use sx_base::memory::Memory;
 use sx_base::name::{FrameNo, Mark};
 use sx_tree::change::Change;
@@ -118,6 +120,100 @@ fn stamps_of(alloc: Global, held: &[&Held]) -> Result<Vec<Stamp>, Memory>
     Ok(stamps)
 }
 
+/// The stamps of a leaf, the newest first, shared with the leaf.
+#[derive(Drop)]
+pub struct LeafStamps {
+    stamps: Stack<Held>,
+}
+
+impl Model for LeafStamps {
+    ghost use Rattle.std.specs.Coded.{coded_list};
+    ghost use Rattle.std.specs.Prelude.{List};
+    ghost use Rattle.sx_tree.specs.declared.stamp.Stamp.{Stamp};
+    ghost use Rattle.sx_syntax.specs.Base.{stamp_code};
+
+    ghost Value = { List Stamp };
+
+    ghost coded = { coded_list stamp_code };
+
+    ghost view = { λ a. a.stamps };
+}
+
+/// Whether a stamp is of another library than this one, or has one of these frames.
+fn is_for(library: &LibName, frames: &[FrameNo], held: &Held) -> bool
+    ensures { result ≡ is_for library.now frames.now held.now }
+{
+    if *held.frame.0.library != *library {
+        return true;
+    }
+    frames.contains(&held.frame)
+}
+
+/// Puts a stamp at the end, where it is of another library than this one or has one of these frames.
+fn push_for(
+    alloc: Global,
+    library: &LibName,
+    frames: &[FrameNo],
+    held: &Held,
+    stamps: &mut Vec<Stamp>,
+) -> Result<(), Memory>
+    ensures { OnOk result (stamps.new.items ≡ stamps.old.items ++ filter (is_for library.now frames.now) (held.now ∷ [])) }
+{
+    if !is_for(library, frames, held) {
+        return Ok(());
+    }
+    let stamp = held.stamp(alloc)?;
+    stamps.push(stamp)?;
+    Ok(())
+}
+
+impl LeafStamps {
+    /// The frame of the newest stamp. It takes no memory.
+    pub fn newest_frame(&self) -> Option<&FrameNo>
+        ensures { option_map (λ f. f.now) result ≡ option_map (λ t. t.frame) (slice_get self.now 0) }
+    {
+        match self.stamps.top() {
+            Some(held) => Some(&held.frame),
+            None => None,
+        }
+    }
+
+    /// All of them.
+    pub fn all(&self, alloc: Global) -> Result<Vec<Stamp>, Memory>
+        ensures { IfOk result (λ v. v.items ≡ self.now) }
+    {
+        let held = self.stamps.items(alloc)?;
+        stamps_of(alloc, held.as_slice())
+    }
+
+    /// The newest ones, at most so many.
+    pub fn newest(&self, alloc: Global, count: usize) -> Result<Vec<Stamp>, Memory>
+        ensures { IfOk result (λ v. v.items ≡ take count self.now) }
+    {
+        let held = self.stamps.firsts(alloc, count)?;
+        stamps_of(alloc, held.as_slice())
+    }
+
+    /// Those of other libraries than this one, and those that have one of these frames, in their order. It takes
+    /// memory for them alone.
+    pub fn among(
+        &self,
+        alloc: Global,
+        library: &LibName,
+        frames: &[FrameNo],
+    ) -> Result<Vec<Stamp>, Memory>
+        ensures { IfOk result (λ v. v.items ≡ filter (is_for library.now frames.now) self.now) }
+    {
+        let mut stamps = Vec::new(alloc);
+        let mut left = &self.stamps;
+        while let Some((held, below)) = left.split_top() {
+            push_for(alloc, library, frames, held, &mut stamps)?;
+            left = below;
+        }
+        Ok(stamps)
+    }
+}
+
 impl Base {
     /// No marks and no stamps. It takes no memory.
     pub(crate) fn blank() -> Base
@@ -221,19 +317,11 @@ impl Base {
         marks_of(alloc, &self.marks)
     }
 
-    /// The stamps, the newest first.
-    pub(crate) fn stamps(&self, alloc: Global) -> Result<Vec<Stamp>, Memory>
-        ensures { IfOk result (λ v. v.items ≡ self.now.stamps) }
+    /// The stamps, the newest first. It takes no memory.
+    pub(crate) fn stamps(&self) -> Result<LeafStamps, Memory>
+        ensures { IfOk result (λ s. s ≡ self.now.stamps) }
     {
-        let held = self.stamps.items(alloc)?;
-        stamps_of(alloc, held.as_slice())
-    }
-
-    /// The newest stamps, at most so many.
-    pub(crate) fn newest(&self, alloc: Global, count: usize) -> Result<Vec<Stamp>, Memory>
-        ensures { IfOk result (λ v. v.items ≡ take count self.now.stamps) }
-    {
-        let held = self.stamps.firsts(alloc, count)?;
-        stamps_of(alloc, held.as_slice())
+        let stamps = self.stamps.share()?;
+        Ok(LeafStamps { stamps })
     }
 }

@@ -24,7 +24,7 @@
 //! stamps.
 #![tactic(auto)]
 
-mod base;
+pub mod base;
 mod kept;
 mod leaves;
 mod pairs;

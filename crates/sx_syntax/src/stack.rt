@@ -1,6 +1,6 @@
 //! Lists that share their ends: to put an element before a list takes one level, whoever else has the list.
 
-ghost use Rattle.std.specs.Prelude.{◌≡◌, ◌==◌, [], ◌∷◌, length, map, take, drop, slice_get, IfOk, option_map};
+ghost use Rattle.std.specs.Prelude.{◌≡◌, ◌==◌, [], ◌∷◌, length, map, take, drop, slice_get, IfOk, IfSome, IfNone, option_map};
 
 use std::alloc::Global;
 use std::marker::Model;
@@ -99,6 +99,20 @@ impl<T: Drop> Stack<T> {
             Some(level) => {
                 let level: &Level<T> = level;
                 Some(&level.item)
+            }
+        }
+    }
+
+    /// The newest element, and those below it.
+    pub(crate) fn split_top(&self) -> Option<(&T, &Stack<T>)>
+        ensures some { IfSome result (λ p. self.now ≡ p.0.now ∷ p.1.now) }
+        ensures none { IfNone result (self.now ≡ []) }
+    {
+        match &self.top {
+            None => None,
+            Some(level) => {
+                let level: &Level<T> = level;
+                Some((&level.item, &level.below))
             }
         }
     }

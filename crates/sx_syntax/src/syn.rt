@@ -1,6 +1,6 @@
 //! Syntax trees, for every crate to use.
 
-ghost use Rattle.std.specs.Prelude.{◌≡◌, ◌+◌, [], ◌∷◌, take, Option, None, option_map, IfOk, IfErr, OnOk, OnErr};
+ghost use Rattle.std.specs.Prelude.{◌≡◌, ◌+◌, [], ◌∷◌, Option, None, option_map, IfOk, IfErr, OnOk, OnErr};
 ghost use Rattle.sx_base.specs.Gives.{BareGives};
 ghost use Rattle.sx_tree.specs.Tree.{Tree, atom, leaf, pair, spanned, unspanned, span_of, chain, list_of, vector_of};
 ghost use Rattle.sx_tree.specs.Measures.{height, size, within, Fits};
@@ -13,7 +13,7 @@ ghost use Rattle.sx_syntax.specs.Kept.{IsRest};
 ghost use Rattle.sx_syntax.specs.Opens.{Opens};
 ghost use Rattle.sx_syntax.specs.Refuses.{Refuses};
 
-use crate::base::Base;
+use crate::base::{Base, LeafStamps};
 use crate::kept::{Kept, Node, Shape};
 use crate::leaves::{Sample, Spans, from_datum};
 use crate::pairs::empty_list;
@@ -252,19 +252,19 @@ impl Syn {
     }
 
     /// The stamps of a leaf, the newest first. What is no leaf has none.
+    pub fn leaf_stamps(&self, alloc: Global) -> Result<LeafStamps, Memory>
+        ensures { IfOk result (λ s. s ≡ stamps_of self.now) }
+    {
+        let context = self.kept.context(alloc)?;
+        context.stamps()
+    }
+
+    /// The same, as a list.
     pub fn stamps(&self, alloc: Global) -> Result<Vec<Stamp>, Memory>
         ensures { IfOk result (λ v. v.items ≡ stamps_of self.now) }
     {
-        let context = self.kept.context(alloc)?;
-        context.stamps(alloc)
-    }
-
-    /// The newest stamps of a leaf, at most so many, the newest first.
-    pub fn newest_stamps(&self, alloc: Global, count: usize) -> Result<Vec<Stamp>, Memory>
-        ensures { IfOk result (λ v. v.items ≡ take count (stamps_of self.now)) }
-    {
-        let context = self.kept.context(alloc)?;
-        context.newest(alloc, count)
+        let stamps = self.leaf_stamps(alloc)?;
+        stamps.all(alloc)
     }
 
     /// The tree under one change more: one node, for which `nodes` ticks.

@@ -34,6 +34,14 @@ other bind 13 y 2 => bound
 other bind 17 x 3 => bound
 other bind 13 z 4 => bound
 own rows => 0 x 1, 0 x 2, 9 x 4, 13 y 2, 13 z 4, 17 z 1, 17 x 3
+own find z@19,19,13,17 => 4
+own find z@19,17,13 => 1
+own find z@19,0 => 0
+own bind 21 x 5 => bound
+own bind 22 x 5 => bound
+own bind 23 x 5 => bound
+own bind 24 x 5 => bound
+own bind 25 x 5 => bound
 own turns 1 2500 0 => true
 own bind 20 x 20000 => bound
 own turns 2500 7500 20000 => true
@@ -41,7 +49,8 @@ own bind 20 x.0 30000 => bound
 own turns 7500 10000 30000 => true
 own bind 20 x.10000 40000 => bound";
 
-/// The leaf of the turns: the last two of its stamps find something, behind so many that the memo is asked.
+/// The leaf of the turns: the last two of its stamps find something, behind so many that the memo is asked. Before the
+/// turns x is bound in so many frames that these aren't told apart.
 pub const FAR: &str = "x.0@19,19,19,19,19,19,19,19,19,19,19,19,19,19,19,19,20.0,20";
 
 /// What the libraries give that have frames.

@@ -1,16 +1,15 @@
-use Rattle.std.proofs.Common.{◌≡◌, ◌∙◌, ◌++◌, ◌∷◌, [], Some, None, ap, sym, subst, arith, refl}
+use Rattle.std.proofs.Common.{◌∙◌, Some, None, ap, sym, subst, arith}
 use Rattle.std.proofs.lemmas.Result.{IfOk-weaker}
 use Rattle.sx_base.specs.Datum as datum
 use Rattle.sx_base.specs.DatumView.{is_some_list}
 use Rattle.sx_tree.specs.Leaves.{strip}
-use Rattle.sx_tree.specs.Tree.{Tree, pair}
-use Rattle.sx_syntax.specs.Kept.{weight, IsRest, IsElements, Parts}
+use Rattle.sx_syntax.specs.Kept.{Parts}
 use Rattle.sx_syntax.specs.KeptView.{view_of, whole_of, InShape, IsPair, IsVector}
 use Rattle.sx_syntax.specs.declared.kept.Node.{Node}
 use Rattle.sx_syntax.specs.declared.kept.Shape.TheVariants as shape
 use Rattle.sx_syntax.proofs.NodeLemmas.{weight_node}
-use Rattle.sx_syntax.proofs.ListLemmas.{rest_pair, elements_pair, elements_rest, first_less, rest_less}
-use Rattle.sx_syntax.proofs.StripLemmas.{strip_node, strip_more, some_more, strip_end, proper}
+use Rattle.sx_syntax.proofs.ListLemmas.{rest_pair, elements_pair, elements_rest, rest_less}
+use Rattle.sx_syntax.proofs.StripLemmas.{strip_node, strip_more, some_more}
 use Rattle.sx_syntax.proofs.+strip.Goals as goal
 
 pub kept::Kept::strip-strip_list-requires : goal.kept::Kept::strip-strip_list-requires

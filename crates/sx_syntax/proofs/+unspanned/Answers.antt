@@ -1,14 +1,14 @@
-use Rattle.std.proofs.Common.{◌≡◌, ◌∙◌, ◌++◌, ◌∷◌, [], Some, None, ap, sym, subst, arith, refl}
+use Rattle.std.proofs.Common.{◌∙◌, Some, None, ap, sym, subst, arith}
 use Rattle.std.proofs.lemmas.Result.{IfOk-weaker}
-use Rattle.sx_tree.specs.Tree.{Tree, pair, vector, chain, spanned, unspanned, span_of, is_pair}
+use Rattle.sx_tree.specs.Tree.{pair, vector, chain, spanned, unspanned, span_of}
 use Rattle.sx_tree.specs.Changes.{changed}
 use Rattle.sx_tree.specs.Measures.{Fits}
-use Rattle.sx_syntax.specs.Kept.{weight, IsRest, IsElements, Parts}
-use Rattle.sx_syntax.specs.KeptView.{view_of, whole_of, InShape, IsPair, IsVector}
+use Rattle.sx_syntax.specs.Kept.{IsElements, Parts}
+use Rattle.sx_syntax.specs.KeptView.{view_of, whole_of, InShape, IsVector}
 use Rattle.sx_syntax.specs.declared.kept.Node.{Node}
 use Rattle.sx_syntax.specs.declared.kept.Shape.TheVariants as shape
 use Rattle.sx_syntax.proofs.NodeLemmas.{tree_node, weight_node, unspanned_node}
-use Rattle.sx_syntax.proofs.ListLemmas.{unspanned_elements, unspanned_rest, unspanned_fits, first_more, rest_less}
+use Rattle.sx_syntax.proofs.ListLemmas.{unspanned_elements, unspanned_fits, first_more, rest_less}
 use Rattle.sx_syntax.proofs.+unspanned.Goals as goal
 
 pub kept::Kept::unspanned_end-returns-in-Atom : goal.kept::Kept::unspanned_end-returns-in-Atom

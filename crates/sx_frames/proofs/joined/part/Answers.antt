@@ -14,4 +14,4 @@ pub returns-in-None : goal.returns-in-None
 returns-in-None c =
     let own = c.args.own.now in
     let l = c.args.library.now.value in
-    ap (or_own own) c.in-None.ensures ∙ sym (part_of-lookup c.in-Some.given own l) ∙ ap (λ (o : Option Parts). part_of (parts_given o) own l) (sym c.in-Some.is)
+    c.frames-frames.ensures ∙ ap (or_own own) c.in-None.ensures ∙ sym (part_of-lookup c.in-Some.given own l) ∙ ap (λ (o : Option Parts). part_of (parts_given o) own l) (sym c.in-Some.is)

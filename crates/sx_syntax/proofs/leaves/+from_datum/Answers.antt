@@ -1,16 +1,16 @@
-use Rattle.std.proofs.Common.{refl, ◌≡◌, ◌-◌, ◌<◌, ◌∙◌, ap, sym, subst, arith, suc, drop, map, length, true, None}
+use Rattle.std.proofs.Common.{refl, ◌≡◌, ◌-◌, ◌<◌, ◌∙◌, ap, sym, subst, arith, suc, drop, map, length, None}
 use Rattle.std.proofs.lemmas.Result.{IfOk-weaker, IfErr-weaker, err_from_is_err_and}
 use Rattle.sx_base.specs.Datum.{PlainDatum}
 use Rattle.sx_base.specs.Datum as datum
 use Rattle.sx_base.specs.DatumView.{seen}
-use Rattle.sx_tree.specs.Tree.{Tree, pair, chain, spanned, vector, nil}
+use Rattle.sx_tree.specs.Tree.{pair, chain, nil}
 use Rattle.sx_tree.specs.Measures.{Fits}
 use Rattle.sx_tree.proofs.MeasureLaws.{chain_fits}
 use Rattle.sx_syntax.specs.Kept.{IsRest, IsElements}
 use Rattle.sx_syntax.proofs.ListLemmas.{chain_elements}
-use Rattle.sx_syntax.specs.Leaves.{grown_tree, span_by}
+use Rattle.sx_syntax.specs.Leaves.{grown_tree}
 use Rattle.sx_syntax.proofs.GivesLemmas.{refuses_more}
-use Rattle.sx_syntax.proofs.GrownLemmas.{datum_size-some, end_smaller, elements_smaller, element_smaller, part_smaller, later_data, list_node, vector_node, bare_fits, vector_fits, datum_fits, grown_more, more_fits, grown_rest}
+use Rattle.sx_syntax.proofs.GrownLemmas.{datum_size-some, end_smaller, element_smaller, part_smaller, list_node, vector_node, bare_fits, vector_fits, datum_fits, more_fits, grown_rest}
 use Rattle.sx_syntax.proofs.leaves.+from_datum.Goals as goal
 
 pub from_datum-returns-in-List-clause-tree : goal.from_datum-returns-in-List-clause-tree

@@ -1,6 +1,5 @@
-use Rattle.std.proofs.Common.{◌≡◌, refl, sym, subst, ◌++◌, ◌∷◌, [], None}
-use Rattle.sx_tree.specs.Tree.{Tree, chain, pair}
-use Rattle.sx_tree.specs.Measures.{Fits}
+use Rattle.std.proofs.Common.{refl, sym, subst}
+use Rattle.sx_tree.specs.Tree.{chain}
 use Rattle.sx_syntax.specs.Kept.{IsRest}
 use Rattle.sx_syntax.proofs.ListLemmas.{last_fits, last_more}
 use Rattle.sx_syntax.proofs.unspanned.all_before.Goals as goal

@@ -1,5 +1,5 @@
-use Rattle.std.proofs.Common.{◌≡◌, ◌∙◌, ◌++◌, ◌∷◌, [], Some, None, ap, sym, subst}
-use Rattle.sx_tree.specs.Tree.{Tree, chain, nil}
+use Rattle.std.proofs.Common.{◌∙◌, Some, ap, sym, subst}
+use Rattle.sx_tree.specs.Tree.{chain}
 use Rattle.sx_syntax.specs.Kept.{IsElements, Parts}
 use Rattle.sx_syntax.proofs.ListLemmas.{changed_elements, parts_none, elements_pair, elements_rest, elements_end, first_more}
 use Rattle.sx_syntax.proofs.kept.Kept.elements.Goals as goal

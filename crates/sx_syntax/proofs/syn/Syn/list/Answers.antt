@@ -1,8 +1,7 @@
-use Rattle.std.proofs.Common.{◌≡◌, List, [], length, Some, None, true, arith, sym, ap, ◌∙◌, subst, refl}
-use Rattle.std.specs.Vec.{vec_len}
+use Rattle.std.proofs.Common.{◌≡◌, [], arith, sym, subst, refl}
 use Rattle.std.proofs.lemmas.List.{nil_from_length}
 use Rattle.std.proofs.lemmas.Bool.Decides.{nat_tests}
-use Rattle.sx_tree.specs.Tree.{Tree, list_of}
+use Rattle.sx_tree.specs.Tree.{list_of}
 use Rattle.sx_tree.specs.Measures.{Fits}
 use Rattle.sx_syntax.proofs.GivesLemmas.{gives_tree}
 use Rattle.sx_syntax.proofs.syn.Syn.list.Goals as goal

@@ -1,6 +1,6 @@
 use Rattle.std.proofs.Common.{None, ◌∙◌, ap, refl, sym, subst}
 use Rattle.std.proofs.lemmas.Result.{err_from_is_err_and}
-use Rattle.sx_tree.specs.Tree.{Tree, vector, vector_of, chain, nil}
+use Rattle.sx_tree.specs.Tree.{vector, vector_of, chain}
 use Rattle.sx_syntax.specs.Kept.{IsElements}
 use Rattle.sx_syntax.proofs.ListLemmas.{chain_elements}
 use Rattle.sx_syntax.proofs.GivesLemmas.{gives_tree, gives_stop}

@@ -1,0 +1,4 @@
+pub mod Binds
+pub mod Opened
+pub mod Places
+pub mod Walks

@@ -1,0 +1,23 @@
+-- The frame in which the identifiers that record forms introduce stand for the names of the implementation.
+use Rattle.std.specs.Prelude.{ℕ, List, [], ◌∷◌, map}
+use Rattle.sx_base.specs.Op.{op_text}
+use Rattle.sx_base.specs.declared.library.LibName.TheVariants as library
+use Rattle.sx_tree.specs.declared.frame_row.FrameRow.{FrameRow}
+use Rattle.sx_records.specs.Introduced.{core_frame}
+
+-- a name of the implementation, under no marks
+abbrev pub core_row : ℕ → FrameRow
+core_row n = record { frame = core_frame; symbol = op_text n; marks = []; label = record { 0 = record { library = library.Core; number = n } } }
+
+unfoldable pub rows_for : List ℕ → List FrameRow
+rows_for ns = map core_row ns
+
+-- the names that record forms introduce, by number: `quote lambda begin define define-syntax _ syntax-case syntax`,
+-- `make-record-type-descriptor make-record-constructor-descriptor record-constructor record-predicate record-accessor record-mutator`,
+-- `record-type-descriptor record-constructor-descriptor mutable immutable`
+abbrev pub introduced_numbers : List ℕ
+introduced_numbers = 0 ∷ 1 ∷ 4 ∷ 7 ∷ 8 ∷ 15 ∷ 216 ∷ 217 ∷ 282 ∷ 284 ∷ 285 ∷ 286 ∷ 287 ∷ 288 ∷ 290 ∷ 291 ∷ 293 ∷ 294 ∷ []
+
+-- their rows, in this order
+unfoldable pub record_frame : List FrameRow
+record_frame = rows_for introduced_numbers

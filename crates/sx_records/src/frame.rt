@@ -1,0 +1,73 @@
+//! The frame in which the identifiers that record forms introduce stand for the names of the implementation.
+
+ghost use Rattle.std.specs.Prelude.{◌≡◌, ◌<◌, IfOk};
+ghost use Rattle.sx_base.specs.Op.{op_text};
+ghost use Rattle.sx_records.specs.Frame.{core_row, rows_for, record_frame};
+
+use crate::introduced::core_frame;
+use std::alloc::Global;
+use std::rc::Rc;
+use sx_base::library::LibName;
+use sx_base::memory::Memory;
+use sx_base::name::{Label, Name};
+use sx_base::op::{Op, op_text};
+use sx_base::symbol::Symbol;
+use sx_tree::frame_row::FrameRow;
+use sx_tree::marks::Marks;
+
+/// The numbers of the names that record forms introduce: `quote`, `lambda`, `begin`, `define`, `define-syntax`, `_`,
+/// `syntax-case`, `syntax`, the procedures that make descriptors, constructors, predicates, accessors and
+/// mutators, `record-type-descriptor`, `record-constructor-descriptor`, `mutable` and `immutable`.
+pub const INTRODUCED: [u16; 18] = [
+    0, 1, 4, 7, 8, 15, 216, 217, 282, 284, 285, 286, 287, 288, 290, 291, 293, 294,
+];
+
+// The name with this number; past the last there is none.
+fn name_text(number: u16) -> &'static str
+    ensures { result.now ≡ op_text number }
+{
+    if number < 301 {
+        op_text(&Op(number))
+    } else {
+        ""
+    }
+}
+
+/// A name of the implementation, under no marks.
+fn core_row(alloc: Global, number: u16) -> Result<FrameRow, Memory>
+    ensures { IfOk result (λ r. r ≡ core_row number) }
+{
+    let frame = core_frame(alloc)?;
+    let symbol = Symbol::new(alloc, name_text(number))?;
+    let library = Rc::new(alloc, LibName::Core)?;
+    let label = Label(Name {
+        library,
+        number: u64::from(number),
+    });
+    Ok(FrameRow {
+        frame,
+        symbol,
+        marks: Marks::new(alloc),
+        label,
+    })
+}
+
+#[tactic(auto, unfolding(crate::specs::Frame::rows_for))]
+fn rows_for(alloc: Global, numbers: &[u16]) -> Result<Vec<FrameRow>, Memory>
+    ensures { IfOk result (λ rs. rs.items ≡ rows_for numbers.now) }
+{
+    let mut rows = Vec::new(alloc);
+    for number in numbers {
+        let row = core_row(alloc, *number)?;
+        rows.push(row)?;
+    }
+    Ok(rows)
+}
+
+/// The rows of the frame, which every expansion adopts, in the order of the names' numbers.
+#[tactic(auto, unfolding(crate::specs::Frame::record_frame))]
+pub fn record_frame(alloc: Global) -> Result<Vec<FrameRow>, Memory>
+    ensures { IfOk result (λ rs. rs.items ≡ record_frame) }
+{
+    rows_for(alloc, &INTRODUCED)
+}

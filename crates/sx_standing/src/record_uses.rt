@@ -1,0 +1,91 @@
+//! Uses of the record forms (R6RS libraries 6.2).
+
+ghost use Rattle.std.specs.Prelude.{◌≡◌};
+ghost use Rattle.sx_base.specs.Act.{GivesAfter};
+ghost use Rattle.sx_standing.specs.RecordUses.{defines_type, count_record_type, record_tree, record_marked, use_record};
+
+use crate::expansion::Expansion;
+use std::sync::ledger::Ledger;
+use sx_base::fault::Stop;
+use sx_base::name::{FrameNo, Mark};
+use sx_base::span::Span;
+use sx_base::steps::Steps;
+use sx_core::core_form::CoreForm;
+use sx_records::forms::record_forms;
+use sx_records::names::record_uid;
+use sx_syntax::syn::Syn;
+
+/// Whether it is `define-record-type`.
+fn defines_type(form: CoreForm) -> bool
+    ensures { result ≡ defines_type form }
+{
+    matches!(form, CoreForm::DefineRecordType)
+}
+
+impl Expansion {
+    /// How many uses of `define-record-type` there were before this use. The other forms aren't counted.
+    #[tactic(auto, unfolding(crate::specs::RecordUses::count_record_type))]
+    fn count_record_type(&mut self, which: CoreForm) -> Result<u64, Stop>
+        ensures { GivesAfter (λ n. n) result self.new (count_record_type which self.old) }
+    {
+        let before = self.record_types;
+        if !defines_type(which) {
+            return Ok(before);
+        }
+        let Some(next) = before.checked_add(1) else {
+            return Err(Stop::Memory);
+        };
+        self.record_types = next;
+        Ok(before)
+    }
+
+    #[tactic(auto, unfolding(crate::specs::RecordUses::record_tree), using(crate::proofs::Staged::at_state_gives))]
+    fn record_tree(
+        &self,
+        form: &Syn,
+        which: CoreForm,
+        before: u64,
+        place: &Span,
+    ) -> Result<Syn, Stop>
+        ensures { GivesAfter (λ t. t) result self.now (record_tree place.now form.now which before self.now) }
+    {
+        let uid = record_uid(self.alloc, self.library(), form, before)?;
+        record_forms(self.alloc, form, which, place, &uid, self.frames())
+    }
+
+    #[tactic(auto, unfolding(crate::specs::RecordUses::record_marked))]
+    fn record_marked<N: Ledger>(
+        &mut self,
+        form: &Syn,
+        which: CoreForm,
+        frame: Option<FrameNo>,
+        mark: Mark,
+        place: &Span,
+        nodes: &mut Steps<N>,
+    ) -> Result<Syn, Stop>
+        ensures { GivesAfter (λ t. t) result self.new (record_marked place.now form.now which frame mark self.old) }
+    {
+        let before = self.count_record_type(which)?;
+        let entered = form.enter(self.alloc, mark.share()?, nodes)?;
+        let made = self.record_tree(&entered, which, before, place)?;
+        let left = made.leave(self.alloc, mark, frame, nodes)?;
+        Ok(left)
+    }
+
+    /// What comes of a use of a record form, at a place, with the frame of a body where it stands in one. Its faults
+    /// are those of `record_forms`. The uses are counted by the caller; nothing is evaluated.
+    #[tactic(auto, unfolding(crate::specs::RecordUses::use_record))]
+    pub fn use_record<N: Ledger>(
+        &mut self,
+        form: &Syn,
+        which: CoreForm,
+        frame: Option<FrameNo>,
+        place: &Span,
+        nodes: &mut Steps<N>,
+    ) -> Result<Syn, Stop>
+        ensures { GivesAfter (λ t. t) result self.new (use_record place.now form.now which frame self.old) }
+    {
+        let mark = Mark(self.fresh()?);
+        self.record_marked(form, which, frame, mark, place, nodes)
+    }
+}
