@@ -14,6 +14,7 @@ use Rattle.sx_heads.specs.Items.{kept_head}
 use Rattle.sx_heads.specs.Kept.{with_head}
 use Rattle.sx_heads.specs.declared.taken.BodyAt.{BodyAt}
 use Rattle.sx_heads.specs.declared.taken.Taken.{Taken}
+use Rattle.sx_quasi_code.specs.Parts.{most_round}
 use Rattle.sx_expand.specs.Expression.{inside}
 use Rattle.sx_expand.specs.Settle.{next_form, at_use}
 
@@ -26,7 +27,7 @@ IsUseOf s l (vector r d) = ⊥
 
 -- It expands to what that form expands to, which has the place of the use where it has none itself. One use less is left then.
 abbrev pub UsesAreReplaced : Type 0
-UsesAreReplaced = (records : List LibRecord) (room left : ℕ) (place : Span) (level depth : ℕ) (t : Tree) (l : Label) (s : State) → IsUseOf s l t → s.uses_left ≡ suc left → depth ≤ 600
+UsesAreReplaced = (records : List LibRecord) (room left : ℕ) (place : Span) (level depth : ℕ) (t : Tree) (l : Label) (s : State) → IsUseOf s l t → s.uses_left ≡ suc left → depth ≤ most_round
     → (inside records (suc room)).form place level depth t s ≡ after (next_form records left place t l None s) ((inside records (suc room)).form (place_of t place) level depth)
 
 -- the identifier of the keyword
@@ -41,5 +42,5 @@ with_head_of s done t = record done { kept = with_head done.kept (kept_head s (h
 
 -- So it is in a body. There the form that comes has the body's frame, and what the keyword stood for is kept.
 abbrev pub BodyUsesAreReplaced : Type 0
-BodyUsesAreReplaced = (records : List LibRecord) (room left : ℕ) (at : BodyAt) (depth : ℕ) (done : Taken) (t : Tree) (l : Label) (s : State) → IsUseOf s l t → s.uses_left ≡ suc left → depth ≤ 600
+BodyUsesAreReplaced = (records : List LibRecord) (room left : ℕ) (at : BodyAt) (depth : ℕ) (done : Taken) (t : Tree) (l : Label) (s : State) → IsUseOf s l t → s.uses_left ≡ suc left → depth ≤ most_round
     → (inside records (suc room)).item at depth done t s ≡ after (next_form records left at.place t l (Some at.frame) s) ((inside records (suc room)).item (at_use at t) depth (with_head_of s done t))
