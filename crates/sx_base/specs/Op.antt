@@ -8,6 +8,10 @@ use Rattle.sx_base.specs.OpNames.{op_names}
 abbrev pub now_all : List (Bor (List ℕ)) → List (List ℕ)
 now_all texts = map (λ (text : Bor (List ℕ)). text.now) texts
 
+-- how many names there are: an op is the number of one
+abbrev pub name_count : ℕ
+name_count = 301
+
 -- the text at a place of a table, and no text past the last
 abbrev pub text_at : List (Bor (List ℕ)) → ℕ → List ℕ
 text_at texts n = get_or (now_all texts) n []

@@ -1,11 +1,14 @@
 //! The names that this implementation gives, by number.
 
 ghost use Rattle.std.specs.Prelude.{◌≡◌, ◌<◌, length, option_map, IfSome};
-ghost use Rattle.sx_base.specs.Op.{op_text, text_at, op_named, is_keyword, place_from, now_all};
+ghost use Rattle.sx_base.specs.Op.{name_count, op_text, text_at, op_named, is_keyword, place_from, now_all};
+
+/// How many names there are.
+pub const NAME_COUNT: u16 = 301;
 
 /// The names of all libraries that this implementation gives, each once, numbered from 0 in the order
 /// of those libraries (R6RS 11 and the chapters of the libraries report).
-pub const OP_NAMES: [&str; 301] = [
+pub const OP_NAMES: [&str; NAME_COUNT as usize] = [
     "quote",
     "lambda",
     "if",
@@ -330,7 +333,7 @@ impl Op {
 
 /// The report name of an op.
 pub fn op_text(op: &Op) -> &'static str
-    requires { op.now.0 < 301 }
+    requires { op.now.0 < name_count }
     ensures { result.now ≡ op_text op.now.0 }
 {
     text_at(&OP_NAMES, op.0 as usize)
@@ -347,7 +350,7 @@ fn text_at(texts: &[&'static str], place: usize) -> &'static str
 /// The op of a report name, where there is one.
 pub fn op_named(text: &str) -> Option<Op>
     ensures op { option_map (λ op. op.0) result ≡ op_named text.now }
-    ensures within { IfSome result (λ op. op.0 < 301) }
+    ensures within { IfSome result (λ op. op.0 < name_count) }
 {
     let place = place_in(&OP_NAMES, text)?;
     Some(Op(place as u16))

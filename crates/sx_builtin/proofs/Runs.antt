@@ -3,6 +3,7 @@ use Rattle.std.proofs.Common.{◌≡◌, ℕ, zero, suc, ◌+◌, ◌-◌, ◌<�
 use Rattle.std.specs.Prelude.{◌&&◌}
 use Rattle.std.specs.List.{list_all}
 use Rattle.std.proofs.lemmas.Bool.Decides.{nat_tests}
+use Rattle.sx_base.specs.Op.{name_count}
 use Rattle.sx_base.specs.declared.name.Label.{Label}
 use Rattle.sx_builtin.specs.declared.library.Library.{Library}
 use Rattle.sx_builtin.specs.declared.library.Library.TheVariants as l
@@ -11,9 +12,9 @@ use Rattle.sx_builtin.specs.Libraries.{library_runs, in_a_row}
 use Rattle.sx_builtin.specs.Exports.{export}
 
 abbrev fits : Run → Bool
-fits r = nat_le r.to 301
+fits r = nat_le r.to name_count
 
-fits_so : (r : Run) → fits r ≡ true → r.to ≤ 301
+fits_so : (r : Run) → fits r ≡ true → r.to ≤ name_count
 fits_so r h = grind (arith, nat_tests)
 
 first_so : (a b : Bool) → a && b ≡ true → a ≡ true
@@ -24,7 +25,7 @@ second_so : (a b : Bool) → a && b ≡ true → b ≡ true
 second_so true b h = h
 second_so false b h = cc
 
-all_fit : (rs : List Run) (i : ℕ) (r : Run) → list_all fits rs ≡ true → i < length rs → r ≡ get_or rs i r → r.to ≤ 301
+all_fit : (rs : List Run) (i : ℕ) (r : Run) → list_all fits rs ≡ true → i < length rs → r ≡ get_or rs i r → r.to ≤ name_count
 all_fit [] i r h lt e = absurd (omega arith)
 all_fit (x ∷ xs) zero r h lt e = fits_so r (ap fits e ∙ first_so (fits x) (list_all fits xs) h)
 all_fit (x ∷ xs) (suc i) r h lt e = all_fit xs i r (second_so (fits x) (list_all fits xs) h) (omega arith) e
@@ -44,7 +45,7 @@ each_fits l.Programs = refl
 each_fits l.RecordsProcedural = refl
 each_fits l.RecordsSyntactic = refl
 
-pub runs_fit : (library : Library) (rs : List Run) (i : ℕ) (r : Run) → rs ≡ library_runs library → i < length rs → r ≡ get_or rs i r → r.to ≤ 301
+pub runs_fit : (library : Library) (rs : List Run) (i : ℕ) (r : Run) → rs ≡ library_runs library → i < length rs → r ≡ get_or rs i r → r.to ≤ name_count
 runs_fit library rs i r is lt e = all_fit rs i r (ap (λ x. list_all fits x) is ∙ each_fits library) lt e
 
 -- one more name of a run

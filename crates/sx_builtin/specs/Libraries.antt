@@ -3,6 +3,7 @@ use Rattle.std.specs.Prelude.{true, false, not, ◌&&◌, ℕ, zero, suc, ◌+�
 use Rattle.std.specs.Borrow.{Bor}
 use Rattle.std.specs.Cmp.Lexicographic.{pointwise}
 use Rattle.std.specs.List.{find, flat_map, list_any}
+use Rattle.sx_base.specs.Op.{name_count}
 use Rattle.sx_builtin.specs.declared.library.Library.{Library}
 use Rattle.sx_builtin.specs.declared.library.Library.TheVariants as l
 use Rattle.sx_builtin.specs.declared.library.Run.{Run}
@@ -44,7 +45,7 @@ library_runs l.Sorting = run 275 278 ∷ []
 library_runs l.Files = run 278 280 ∷ []
 library_runs l.Programs = run 280 282 ∷ []
 library_runs l.RecordsProcedural = run 282 289 ∷ []
-library_runs l.RecordsSyntactic = run 289 301 ∷ []
+library_runs l.RecordsSyntactic = run 289 name_count ∷ []
 
 abbrev pub has_parts : List (List ℕ) → List (List ℕ) → Bool
 has_parts given parts = pointwise (pointwise ◌==◌) given parts

@@ -4,7 +4,7 @@ ghost use Rattle.std.specs.Prelude.{◌≡◌, ◌≤◌, ◌<◌, ◌++◌, map
 ghost use Rattle.std.specs.List.{flat_map};
 ghost use Rattle.sx_builtin.specs.Libraries.{run_numbers};
 ghost use Rattle.sx_builtin.specs.Exports.{exports, export, derived_place, definition_from, label_of, label_at, library_exports};
-ghost use Rattle.sx_base.specs.Op.{op_text};
+ghost use Rattle.sx_base.specs.Op.{name_count, op_text};
 ghost use Rattle.sx_base.specs.declared.library.LibName.TheVariants as name;
 
 use crate::library::{Library, Run};
@@ -81,7 +81,7 @@ fn add_run(
     run: Run,
     names: &mut Items<(Symbol, Label)>,
 ) -> Result<(), Memory>
-    requires run { run.to ≤ 301 }
+    requires run { run.to ≤ name_count }
     requires core { libraries.now.core.value ≡ name.Core }
     requires derived { libraries.now.derived.value ≡ name.Derived }
     ensures { OnOk result (names.new ≡ names.old ++ map export (run_numbers run)) }
@@ -126,7 +126,7 @@ fn definition(definitions: &[Option<u16>], number: u16) -> Option<usize>
 
 /// The report name of an op. It takes no memory.
 pub fn op_name(op: Op) -> &'static str
-    requires { op.0 < 301 }
+    requires { op.0 < name_count }
     ensures { result.now ≡ op_text op.0 }
 {
     op_text(&op)

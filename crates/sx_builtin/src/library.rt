@@ -3,6 +3,7 @@
 ghost use Rattle.std.specs.Prelude.{◌≡◌};
 ghost use Rattle.sx_builtin.specs.Libraries.{library_parts, library_runs, library_named, has_parts, first_with, now_parts};
 
+use sx_base::op::NAME_COUNT;
 use sx_base::symbol::Symbol;
 
 /// A library that this implementation gives.
@@ -93,7 +94,10 @@ impl Library {
             Library::Files => &[Run { from: 278, to: 280 }],
             Library::Programs => &[Run { from: 280, to: 282 }],
             Library::RecordsProcedural => &[Run { from: 282, to: 289 }],
-            Library::RecordsSyntactic => &[Run { from: 289, to: 301 }],
+            Library::RecordsSyntactic => &[Run {
+                from: 289,
+                to: NAME_COUNT,
+            }],
         }
     }
 }

@@ -7,6 +7,7 @@ use Rattle.std.specs.Cmp.Lexicographic.{pointwise, pointwise_decides}
 use Rattle.std.proofs.lemmas.Bool.Decides.{Decides-and, Decides-or, Decides-not, Decides-like, Decides-ltb}
 use Rattle.sx_base.specs.Named.{Named}
 use Rattle.sx_builtin.specs.Exports.{derived_place}
+use Rattle.sx_base.specs.Op.{name_count}
 use Rattle.sx_base.specs.Same.{same_library, same_library_decides}
 use Rattle.sx_base.specs.declared.library.LibName.{LibName}
 use Rattle.sx_base.specs.declared.library.LibName.TheVariants as library
@@ -18,7 +19,7 @@ use Rattle.sx_core.specs.declared.binding.Binding.TheVariants as binding
 use Rattle.sx_core.specs.declared.record.LibRecord.{LibRecord}
 use Rattle.sx_core_laws.specs.Words.{Each, Among, Once, each, among, once}
 use Rattle.sx_core_laws.specs.Scope.{closed}
-use Rattle.sx_core_laws.specs.WellMade.{is_well_made, name_count, same_code}
+use Rattle.sx_core_laws.specs.WellMade.{is_well_made, same_code}
 use Rattle.sx_core_laws.specs.Records.{defined, same_text}
 use Rattle.sx_core_laws.specs.Follows.{names_of, export_names, export_labels, bound_labels, keywords, line_cores, all_binders, all_numbers, key_of, same_key, row_labels, tops, indices, IsThere, is_there, same_index, run_references}
 use Rattle.sx_core_laws.specs.Follows.{HasNewName, has_new_name, IsOwn, is_own, NamesItsOwn, names_its_own, IsRecorded, is_recorded, BindsWhatItDefines, binds_what_it_defines, IsGiven, is_given, IsKnown, is_known}

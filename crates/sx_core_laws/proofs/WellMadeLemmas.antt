@@ -4,6 +4,7 @@ use Rattle.std.specs.Prelude.{not, nat_lt}
 use Rattle.std.specs.List.{flat_map}
 use Rattle.std.specs.Bool.{Decides}
 use Rattle.std.proofs.lemmas.Bool.Decides.{Decides-and, Decides-not, Decides-like, Decides-ltb, Decides-eqb}
+use Rattle.sx_base.specs.Op.{name_count}
 use Rattle.sx_base.specs.declared.name.Label.{Label}
 use Rattle.sx_tree.specs.Tree as tree
 use Rattle.sx_tree.specs.Tree.{Tree}
@@ -13,7 +14,7 @@ use Rattle.sx_core.specs.References.{binders, mentions}
 use Rattle.sx_core_laws.specs.Words.{Each, Among, Once, each, among, once}
 use Rattle.sx_core_laws.specs.Parts.{parts, core_count, case_count, literals, ops, code_numbers, patterns, pattern_variables}
 use Rattle.sx_core_laws.specs.Templates.{Depths, TemplatesSuit}
-use Rattle.sx_core_laws.specs.WellMade.{IsLeaf, is_leaf, HasForm, has_form, name_count, same_code, given_labels, IsWellMade, is_well_made}
+use Rattle.sx_core_laws.specs.WellMade.{IsLeaf, is_leaf, HasForm, has_form, same_code, given_labels, IsWellMade, is_well_made}
 use Rattle.sx_core_laws.specs.Decided.{WellMadeIsDecided}
 use Rattle.sx_core_laws.proofs.Decisions.{each_decides, once_decides, true_decides, false_decides, le_decides, label_decides, code_decides}
 use Rattle.sx_core_laws.proofs.ScopeLemmas.{given_decides}

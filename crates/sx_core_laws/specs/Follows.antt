@@ -4,6 +4,7 @@ use Rattle.std.specs.List.{flat_map}
 use Rattle.std.specs.Map.{lookup}
 use Rattle.std.specs.Cmp.Lexicographic.{pointwise}
 use Rattle.sx_base.specs.Named.{Named}
+use Rattle.sx_base.specs.Op.{name_count}
 use Rattle.sx_base.specs.Same.{same_library, same_name}
 use Rattle.sx_base.specs.declared.library.LibName.{LibName}
 use Rattle.sx_base.specs.declared.library.LibName.TheVariants as library
@@ -24,7 +25,7 @@ use Rattle.sx_core.specs.declared.record.Line.{Line}
 use Rattle.sx_core_laws.specs.Words.{Each, Among, Once, each, among, once}
 use Rattle.sx_core_laws.specs.Parts.{code_numbers, bound_variables}
 use Rattle.sx_core_laws.specs.Scope.{Closed, closed}
-use Rattle.sx_core_laws.specs.WellMade.{IsWellMade, is_well_made, name_count, same_code}
+use Rattle.sx_core_laws.specs.WellMade.{IsWellMade, is_well_made, same_code}
 use Rattle.sx_core_laws.specs.Records.{line_core, line_labels, defined, run_binders, same_text}
 
 abbrev pub names_of : List LibRecord → List LibName

@@ -1,6 +1,7 @@
 -- Well made core code.
 use Rattle.std.specs.Prelude.{◌≡◌, ℕ, ◌≤◌, ◌<◌, nat_le, nat_lt, ◌==◌, Bool, true, false, not, ◌&&◌, List, ◌++◌, map}
 use Rattle.std.specs.List.{flat_map}
+use Rattle.sx_base.specs.Op.{name_count}
 use Rattle.sx_base.specs.Same.{same_name}
 use Rattle.sx_base.specs.declared.name.Label.{Label}
 use Rattle.sx_base.specs.declared.name.CodeNo.{CodeNo}
@@ -55,10 +56,6 @@ has_form (letrec o is c) = true
 has_form (call c cs) = true
 has_form (instance t s) = true
 has_form (matching c cs s) = true
-
--- how many names this implementation gives: an op is the number of one
-abbrev pub name_count : ℕ
-name_count = 301
 
 abbrev pub same_code : CodeNo → CodeNo → Bool
 same_code n m = same_name n.0 m.0

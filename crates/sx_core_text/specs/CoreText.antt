@@ -3,7 +3,7 @@ use Rattle.std.specs.Prelude.{ℕ, Bool, true, false, List, [], ◌∷◌, ◌++
 use Rattle.std.specs.Map.{lookup}
 use Rattle.sx_base.specs.Datum as datum
 use Rattle.sx_base.specs.Datum.{PlainDatum}
-use Rattle.sx_base.specs.Op.{op_text}
+use Rattle.sx_base.specs.Op.{name_count, op_text}
 use Rattle.sx_base.specs.declared.atom.Atom.{Atom}
 use Rattle.sx_base.specs.declared.atom.Atom.TheVariants as a
 use Rattle.sx_base.specs.declared.name.Label.{Label}
@@ -25,7 +25,7 @@ name_of names l = unwrap_or (lookup (same_label l) names) []
 
 -- the report name of a primitive; past the table of names there is none
 abbrev pub report_name : ℕ → List ℕ
-report_name n = if nat_lt n 301 then op_text n else []
+report_name n = if nat_lt n name_count then op_text n else []
 
 abbrev pub quote_text : List ℕ → List ℕ
 quote_text text = codes "(quote " ++ text ++ codes ")"

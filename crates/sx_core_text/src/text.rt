@@ -12,7 +12,7 @@ use std::alloc::AllocError;
 use sx_base::atom::Atom;
 use sx_base::datum::{Datum, Node};
 use sx_base::name::Label;
-use sx_base::op::{Op, op_text};
+use sx_base::op::{NAME_COUNT, Op, op_text};
 use sx_core::code::{Code, Core, CoreNode, Init, Lambda};
 use sx_core::formals::Formals;
 use sx_core::record::Line;
@@ -28,7 +28,7 @@ fn put_name(out: &mut String, names: &Names, label: &Label) -> Result<(), AllocE
 fn put_op(out: &mut String, op: &Op) -> Result<(), AllocError>
     ensures { OnOk result (string_bytes out.new ≡ string_bytes out.old ++ report_name op.now.0) }
 {
-    if op.0 < 301 {
+    if op.0 < NAME_COUNT {
         out.push_str(op_text(op))
     } else {
         Ok(())

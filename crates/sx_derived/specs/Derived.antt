@@ -15,7 +15,7 @@ use Rattle.sx_eval.specs.Codes.{Codes}
 use Rattle.sx_expand.specs.Expanding.{ready, library_record}
 use Rattle.sx_import.specs.Table.{same_text}
 use Rattle.sx_prelude.specs.Prelude.{at_place}
-use Rattle.sx_reader.specs.Read.{data_of}
+use Rattle.sx_reader.specs.Read.{data_of, file_nesting}
 use Rattle.sx_tree.specs.Context.{blank}
 use Rattle.sx_tree.specs.Leaves.{tree_of}
 use Rattle.sx_tree.specs.Measures.{within}
@@ -32,7 +32,7 @@ trees done (d ∷ ds) = tree_at d >>= (λ t. trees (done ++ t ∷ []) ds)
 
 -- the forms of a text
 unfoldable pub forms_of : List ℕ → Result (List Tree) Fault
-forms_of text = data_of path text 500 >>= trees []
+forms_of text = data_of path text file_nesting >>= trees []
 
 -- the record of these forms, behind no others
 unfoldable pub record_of : Codes → List Tree → Result LibRecord Fault

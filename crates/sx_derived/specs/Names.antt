@@ -1,7 +1,7 @@
 -- The names that the derived library imports and exports.
 use Rattle.std.specs.Prelude.{ℕ, zero, suc, ◌+◌, List, [], ◌∷◌, ◌++◌, codes, Bool, true, false, Option, None, Some, if◌then◌else◌}
 use Rattle.std.specs.List.{flat_map}
-use Rattle.sx_base.specs.Op.{op_text}
+use Rattle.sx_base.specs.Op.{name_count, op_text}
 use Rattle.sx_base.specs.declared.library.LibName.TheVariants as library
 use Rattle.sx_base.specs.declared.name.Label.{Label}
 use Rattle.sx_base.specs.declared.span.Span.{Span}
@@ -30,7 +30,7 @@ names_from ds n zero = []
 names_from ds n (suc count) = name_at ds n ++ names_from ds (n + 1) count
 
 abbrev pub names : List (List ℕ × Label)
-names = names_from derived 0 301
+names = names_from derived 0 name_count
 
 -- It exports, in the order of definition, what isn't for itself alone.
 

@@ -1,7 +1,7 @@
 //! The names that the derived library imports and exports.
 
 ghost use Rattle.std.specs.Prelude.{◌≡◌, ◌≤◌, ◌<◌, ◌++◌, IfOk, OnOk};
-ghost use Rattle.sx_base.specs.Op.{op_text};
+ghost use Rattle.sx_base.specs.Op.{name_count, op_text};
 ghost use Rattle.sx_base.specs.declared.library.LibName.TheVariants as library;
 ghost use Rattle.sx_derived.specs.Names.{path, start, is_defined, name_at, names_from, names, export_at, exports_of};
 
@@ -11,7 +11,7 @@ use sx_base::items::Items;
 use sx_base::library::LibName;
 use sx_base::memory::Memory;
 use sx_base::name::{Label, Name};
-use sx_base::op::{Op, op_text};
+use sx_base::op::{NAME_COUNT, Op, op_text};
 use sx_base::span::Span;
 use sx_base::symbol::Symbol;
 use sx_builtin::exports::DERIVED;
@@ -55,7 +55,7 @@ fn push_name(
     number: u16,
     names: &mut Items<(Symbol, Label)>,
 ) -> Result<(), Memory>
-    requires known { number < 301 }
+    requires known { number < name_count }
     requires core { core.now.value ≡ library.Core }
     ensures { OnOk result (names.new ≡ names.old ++ name_at definitions.now number) }
 {
@@ -77,7 +77,7 @@ fn names_of(
     definitions: &[Option<u16>],
     count: u16,
 ) -> Result<Items<(Symbol, Label)>, Memory>
-    requires { count ≤ 301 }
+    requires { count ≤ name_count }
     ensures { IfOk result (λ es. es ≡ names_from definitions.now 0 count) }
 {
     let core = Rc::new(alloc, LibName::Core)?;
@@ -92,14 +92,14 @@ fn names_of(
 pub(crate) fn names(alloc: Global) -> Result<Items<(Symbol, Label)>, Memory>
     ensures { IfOk result (λ es. es ≡ names) }
 {
-    names_of(alloc, &DERIVED, 301)
+    names_of(alloc, &DERIVED, NAME_COUNT)
 }
 
 // The name with this number; past the last there is none.
 fn name_text(number: u16) -> &'static str
     ensures { result.now ≡ op_text number }
 {
-    if number < 301 {
+    if number < NAME_COUNT {
         op_text(&Op(number))
     } else {
         ""

@@ -1,6 +1,7 @@
 -- The states of an expansion, and how they change.
 use Rattle.std.specs.Prelude.{◌≡◌, ◌≤◌, ◌<◌, ◌⊎◌, ℕ, Bool, true, List, ◌++◌, Option, Some, None}
 use Rattle.sx_base.specs.Named.{Named}
+use Rattle.sx_base.specs.Op.{name_count}
 use Rattle.sx_base.specs.declared.library.LibName.{LibName}
 use Rattle.sx_base.specs.declared.name.FrameNo.{FrameNo}
 use Rattle.sx_base.specs.declared.name.Label.{Label}
@@ -59,7 +60,7 @@ pub record Sound (own : LibName) (given : List Label) (s : State) : Type 0 where
   pub next : s.names.library ≡ own
   -- a variable of the top of another library is defined
   pub defined : (l : Label) (v : VarInfo) → IsForeign own l.0 → bound_to s.bindings l ≡ Some (binding.Variable v) → v.top ≡ true → Among given l
-  pub primitives : (l : Label) (o : Op) → bound_to s.bindings l ≡ Some (binding.Primitive o) → o.0 < 301
+  pub primitives : (l : Label) (o : Op) → bound_to s.bindings l ≡ Some (binding.Primitive o) → o.0 < name_count
   -- what is in scope is bound
   pub in_scope : Each (IsBound s) s.scope
   pub numbered : IsNumbered own s

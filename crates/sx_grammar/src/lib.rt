@@ -20,6 +20,7 @@ ghost use Rattle.sx_base.specs.Gives.{Gives};
 ghost use Rattle.sx_grammar.specs.Fails.{Fails, FailuresAre, OneFailure, ReadsOrFails};
 ghost use Rattle.sx_grammar.specs.Reads.{Reads, SpellingsAre};
 ghost use Rattle.sx_reader.specs.FirstFault.{OnFault};
+ghost use Rattle.sx_reader.specs.Read.{most_nesting};
 
 use std::alloc::Global;
 use sx_base::datum::Datum;
@@ -65,7 +66,7 @@ pub fn read_source(
     bytes: &[u8],
     nesting: u32,
 ) -> Result<Vec<Datum>, Stop>
-    requires deep { nesting ≤ 8192 }
+    requires deep { nesting ≤ most_nesting }
     requires fits { length bytes.now < 2 ^ 32 }
     ensures sound { IfOk result (λ v. Reads file.now bytes.now nesting v.items) }
     ensures complete { (ds : List PlainDatum) → Reads file.now bytes.now nesting ds → Gives (λ v. v.items) result (Ok ds) }

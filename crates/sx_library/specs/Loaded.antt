@@ -14,7 +14,7 @@ use Rattle.sx_load.specs.Load.{Loads}
 use Rattle.sx_load.specs.declared.found.Found.{Found}
 use Rattle.sx_load.specs.declared.found.Loading.{Loading}
 use Rattle.sx_library.specs.Library.{expand_library}
-use Rattle.sx_planned.specs.Plan.{plan_of}
+use Rattle.sx_plan.specs.Planned.{plan_of}
 
 -- the record of a library or program behind the derived library and those that it needs
 abbrev pub expand_found : Result Codes Fault → List LibRecord → Found → List PlainDatum → Result LibRecord Fault

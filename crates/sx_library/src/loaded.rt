@@ -21,7 +21,7 @@ use sx_derived::derived::derived_record;
 use sx_forms::form::{library_body, program_body};
 use sx_import::table::Table;
 use sx_load::found::{Found, Loading};
-use sx_planned::planned;
+use sx_plan::planned::planned;
 use sx_prelude::prelude::Prelude;
 use sx_prims::table::PrimTable;
 use sx_standing::means::Counts;

@@ -16,7 +16,7 @@ use Rattle.sx_forms.specs.declared.set.Import.{Import}
 use Rattle.sx_import.specs.Table.{value_of}
 use Rattle.sx_import.specs.declared.set.ImportSet.{ImportSet}
 use Rattle.sx_outside.specs.Contents.{Paths, at_path, Reading, bytes, longer, absent, read_of}
-use Rattle.sx_reader.specs.Read.{data_of}
+use Rattle.sx_reader.specs.Read.{data_of, file_nesting}
 use Rattle.sx_report.specs.Name.{name_text}
 use Rattle.sx_load.specs.Found.{nothing_loaded, is_marked, with_needs, no_needs, most_libraries, absent_at, with_source, with_sources, with_begun, with_done, found_of}
 use Rattle.sx_file_names.specs.File.{file_of}
@@ -84,11 +84,11 @@ opened name path ds form = if same_library form.name name then Ok (record { path
 
 -- the library that a source is
 unfoldable pub library_in : LibName → List ℕ → List ℕ → Result Opened Fault
-library_in name path held = data_of path held 500 >>= (λ ds. read_library path ds >>= (λ form. opened name path ds form))
+library_in name path held = data_of path held file_nesting >>= (λ ds. read_library path ds >>= (λ form. opened name path ds form))
 
 -- the program that a source is
 unfoldable pub program_in : List ℕ → List ℕ → Result Opened Fault
-program_in path held = data_of path held 500 >>= (λ ds. read_program path ds >>= (λ form. Ok (record { path = path; form = form; «data» = ds })))
+program_in path held = data_of path held file_nesting >>= (λ ds. read_program path ds >>= (λ form. Ok (record { path = path; form = form; «data» = ds })))
 
 abbrev pub begun : Loading → List ℕ → Opened → Loads (Opened × Loading)
 begun s file o = Ok (o, with_begun s file)

@@ -4,7 +4,7 @@ ghost use Rattle.std.specs.Prelude.{◌≡◌, ◌≤◌, [], ◌∷◌, length,
 ghost use Rattle.sx_outside.specs.Causes.{Rose};
 ghost use Rattle.sx_outside.specs.Contents.{Paths, bytes};
 ghost use Rattle.sx_load.specs.Found.{nothing_loaded};
-ghost use Rattle.sx_load.specs.Load.{load, program_from, at_start};
+ghost use Rattle.sx_load.specs.Load.{load, program_from, at_start, file_limit};
 ghost use Rattle.sx_base.specs.Gives.{StopsWith};
 ghost use Rattle.sx_base.specs.declared.fault.FaultKind.TheVariants as kind;
 ghost use Rattle.sx_load.specs.Gives.{LoadsAfter};
@@ -31,7 +31,7 @@ fn load_source<F: Files>(
     loading: &mut Loading,
 ) -> Result<Found, Halt>
     requires start { loading.old ≡ nothing_loaded }
-    requires within { length held ≤ 4194304 }
+    requires within { length held ≤ file_limit }
     ensures same { F.told files.new ≡ F.told files.old }
     ensures given { (fs : Paths) → F.told files.old ≡ Some fs → LoadsAfter result loading.new (program_from fs roots.now path.now (bytes held)) }
     ensures later { F.faults files.old ≤ F.faults files.new }

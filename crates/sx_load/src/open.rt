@@ -5,7 +5,7 @@ ghost use Rattle.sx_base.specs.Gives.{Gives, StopsWith};
 ghost use Rattle.sx_outside.specs.Causes.{Rose};
 ghost use Rattle.sx_outside.specs.Contents.{Paths};
 ghost use Rattle.sx_load.specs.Found.{with_source, with_sources, with_begun};
-ghost use Rattle.sx_load.specs.Load.{too_many, at_start, differs, most, opened, library_in, begun, opened_from, opened_with, open_file, lifted, program_in};
+ghost use Rattle.sx_load.specs.Load.{file_limit, too_many, at_start, differs, most, opened, library_in, begun, opened_from, opened_with, open_file, lifted, program_in};
 ghost use Rattle.sx_load.specs.Search.{IsSoughtWithin};
 ghost use Rattle.sx_load.specs.Gives.{LoadsAfter};
 
@@ -39,7 +39,7 @@ pub const MOST_LIBRARIES: usize = 1024;
 // The most bytes of the next file.
 fn most(bytes: usize) -> usize
     ensures given { result ≡ most bytes }
-    ensures few { result ≤ 4194304 }
+    ensures few { result ≤ file_limit }
 {
     FILE_LIMIT.min(RUN_LIMIT.saturating_sub(bytes))
 }
@@ -176,7 +176,7 @@ fn opened_from(
     set: &ImportSet,
     sought: Sought,
 ) -> Result<Opened, Halt>
-    requires { IsSoughtWithin 4194304 sought }
+    requires { IsSoughtWithin file_limit sought }
     ensures given { LoadsAfter result loading.new (opened_from loading.old set.now sought) }
     ensures unread { result ≢ Err Halt.Read }
 {

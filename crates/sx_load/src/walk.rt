@@ -4,7 +4,7 @@ ghost use Rattle.std.specs.Prelude.{◌≡◌, ◌≢◌, ◌≤◌, ◌+◌, �
 ghost use Rattle.sx_base.specs.Gives.{Gives};
 ghost use Rattle.sx_outside.specs.Causes.{Rose};
 ghost use Rattle.sx_outside.specs.Contents.{Paths};
-ghost use Rattle.sx_load.specs.Found.{no_needs, found_of};
+ghost use Rattle.sx_load.specs.Found.{most_libraries, no_needs, found_of};
 ghost use Rattle.sx_load.specs.Load.{load_file, settled};
 ghost use Rattle.sx_load.specs.Stack.{first_of, next_of, known_next, returned, descended, meaning, unwind};
 ghost use Rattle.sx_load.specs.Gives.{LoadsAfter, Turns};
@@ -287,7 +287,7 @@ pub fn load_all<F: Files>(
     loading: &mut Loading,
 ) -> Result<Found, Halt>
     ensures same { F.told files.new ≡ F.told files.old }
-    ensures given { (fs : Paths) → F.told files.old ≡ Some fs → LoadsAfter result loading.new (load_file fs roots.now 1024 opened loading.old) }
+    ensures given { (fs : Paths) → F.told files.old ≡ Some fs → LoadsAfter result loading.new (load_file fs roots.now most_libraries opened loading.old) }
     ensures later { F.faults files.old ≤ F.faults files.new }
     ensures failed { result ≡ Err Halt.Read → Rose (F.faults files.old) (F.faults files.new) }
 {

@@ -12,7 +12,7 @@ use Rattle.sx_file_names.specs.File.{file_of}
 use Rattle.sx_import.specs.Table.{put_first}
 use Rattle.sx_import.specs.declared.set.ImportSet.{ImportSet}
 use Rattle.sx_outside.specs.Contents.{Paths}
-use Rattle.sx_reader.specs.Read.{data_of}
+use Rattle.sx_reader.specs.Read.{data_of, file_nesting}
 use Rattle.sx_load.specs.Found.{most_libraries, with_source, with_sources}
 use Rattle.sx_load.specs.Load.{Loads, lifted, most, look_for, opened, library_in, begun, opened_from, opened_with, open_file}
 use Rattle.sx_load.specs.declared.found.Source.{Source}
@@ -60,7 +60,7 @@ opened_named name path ds form o h = by (same_library form.name name) refl h
 
 pub library_named : (name : LibName) (path held : List ℕ) (o : Opened) → library_in name path held ≡ Ok o → o.form.name ≡ name
 unfolding library_in
-library_named name path held o h = by_data (data_of path held 500) h
+library_named name path held o h = by_data (data_of path held file_nesting) h
   where
     by_form : (ds : List PlainDatum) (r : Result LibraryForm Fault) → (r >>= (λ form. opened name path ds form)) ≡ Ok o → o.form.name ≡ name
     by_form ds (Ok form) h = opened_named name path ds form o h

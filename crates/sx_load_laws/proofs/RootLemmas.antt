@@ -15,7 +15,7 @@ use Rattle.sx_forms.specs.declared.set.Import.{Import}
 use Rattle.sx_import.specs.Table.{value_of}
 use Rattle.sx_import.specs.declared.set.ImportSet.{ImportSet}
 use Rattle.sx_outside.specs.Contents.{Paths, at_path, Reading, bytes, longer, absent, read_of}
-use Rattle.sx_reader.specs.Read.{data_of}
+use Rattle.sx_reader.specs.Read.{data_of, file_nesting}
 use Rattle.sx_load.specs.Found.{nothing_loaded, no_needs, with_needs, with_source, with_sources, with_done, most_libraries, absent_at, found_of}
 use Rattle.sx_load.specs.Load.{Loads, Loader, lifted, file_limit, most, about, sought_at, look_for, opened, library_in, program_in, begun, opened_from, opened_with, open_file, known_of, settled, load_new, refer_to, refer, refer_each, load_with, load_file, program_from, load}
 use Rattle.sx_load.specs.Load as loading
@@ -44,7 +44,7 @@ opened_path name path ds form o h = by (same_library form.name name) h
 
 library_path : (name : LibName) (path held : List ℕ) (o : Opened) → library_in name path held ≡ Ok o → path ≡ o.path
 unfolding library_in
-library_path name path held o h = by_data (data_of path held 500) h
+library_path name path held o h = by_data (data_of path held file_nesting) h
   where
     by_form : (ds : List PlainDatum) (r : Result LibraryForm Fault) → (r >>= (λ form. opened name path ds form)) ≡ Ok o → path ≡ o.path
     by_form ds (Ok form) h = opened_path name path ds form o h

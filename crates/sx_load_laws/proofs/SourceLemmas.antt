@@ -12,7 +12,7 @@ use Rattle.sx_forms.specs.Form.{behind_word, form_of, not_library, or_fault, lib
 use Rattle.sx_forms.specs.Set.{place_of}
 use Rattle.sx_forms.specs.Words.{is_text, is_word}
 use Rattle.sx_forms.specs.declared.form.LibraryForm.{LibraryForm}
-use Rattle.sx_reader.specs.Read.{data_of}
+use Rattle.sx_reader.specs.Read.{data_of, file_nesting}
 use Rattle.sx_load.specs.Load.{opened, program_in}
 use Rattle.sx_load.specs.Load as load
 use Rattle.sx_load.specs.declared.found.Opened.{Opened}
@@ -68,7 +68,7 @@ not_both path (d ∷ e ∷ ds) f g h k = cc
 -- ---- the form in a file
 
 abbrev pub library_form : List ℕ → List ℕ → Result LibraryForm Fault
-library_form path held = data_of path held 500 >>= read_library path
+library_form path held = data_of path held file_nesting >>= read_library path
 
 opened_form : (name : LibName) (path : List ℕ) (ds : List PlainDatum) (form : LibraryForm) (o : Opened) → opened name path ds form ≡ Ok o → form ≡ o.form
 opened_form name path ds form o h = by (same_library form.name name) h
@@ -81,7 +81,7 @@ opened_form name path ds form o h = by (same_library form.name name) h
 
 pub library_is : (name : LibName) (path held : List ℕ) (o : Opened) → load.library_in name path held ≡ Ok o → library_form path held ≡ Ok o.form
 unfolding load.library_in
-library_is name path held o h = by_data (data_of path held 500) h
+library_is name path held o h = by_data (data_of path held file_nesting) h
   where
     by_form : (ds : List PlainDatum) (r : Result LibraryForm Fault) → (r >>= (λ form. opened name path ds form)) ≡ Ok o → r ≡ Ok o.form
     by_form ds (Ok form) h = ap (λ (x : LibraryForm). Ok x) (opened_form name path ds form o h)
@@ -93,7 +93,7 @@ library_is name path held o h = by_data (data_of path held 500) h
 
 pub library_not_program : (path held : List ℕ) (f : LibraryForm) (o : Opened) → library_form path held ≡ Ok f → program_in path held ≡ Ok o → ⊥
 unfolding program_in
-library_not_program path held f o h k = by_data (data_of path held 500) h k
+library_not_program path held f o h k = by_data (data_of path held file_nesting) h k
   where
     by_form : (ds : List PlainDatum) (r : Result LibraryForm Fault) → read_program path ds ≡ r → read_library path ds ≡ Ok f → (r >>= (λ form. Ok (record { path = path; form = form; «data» = ds }))) ≡ Ok o → ⊥
     by_form ds (Ok g) e h k = not_both path ds f g h e

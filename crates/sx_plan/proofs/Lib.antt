@@ -1,3 +1,4 @@
 pub mod MarkLemmas
 pub mod PlaceLemmas
 pub mod WorkLemmas
+pub mod PlanLemmas

@@ -1,3 +1,4 @@
 pub mod Places
 pub mod Plan
 pub mod Work
+pub mod Planned

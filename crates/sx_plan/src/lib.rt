@@ -5,7 +5,8 @@
 //! in it where a chain of references leads to it from the program.
 //!
 //! The promise: `run_plan` answers exactly the places of the records that such chains reach, in order;
-//! only want of memory is free.
+//! `planned` says the same as a function, since there is but one such list; only want of memory is free.
 #![tactic(auto)]
 
 pub mod plan;
+pub mod planned;

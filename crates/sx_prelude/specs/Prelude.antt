@@ -21,7 +21,7 @@ use Rattle.sx_eval.specs.Codes.{Codes, with_procedure}
 use Rattle.sx_expand.specs.Expanding.{expression, ready}
 use Rattle.sx_prelude.specs.declared.prelude.Prelude.{Prelude}
 use Rattle.sx_prelude.specs.declared.prelude.Prelude.TheVariants as preludes
-use Rattle.sx_reader.specs.Read.{data_of}
+use Rattle.sx_reader.specs.Read.{data_of, file_nesting}
 use Rattle.sx_standing.specs.Start.{first_frame}
 use Rattle.sx_standing.specs.State.{State, Does}
 use Rattle.sx_tree.specs.Changes.{stamp}
@@ -70,7 +70,7 @@ first_tree place [] = Err (record { kind = kind.NoExpression; span = place; word
 first_tree place (d ∷ ds) = at_place place (within (tree_of blank d))
 
 abbrev pub tree_in : ℕ → Result Tree Fault
-tree_in n = data_of (path_of n) (text_of (prelude_text n)) 500 >>= first_tree (place_of n)
+tree_in n = data_of (path_of n) (text_of (prelude_text n)) file_nesting >>= first_tree (place_of n)
 
 -- a procedure without arguments, whose body is the text
 abbrev pub procedure_of : ℕ → PlainCore → PlainCode

@@ -20,7 +20,7 @@ use sx_base::items::Items;
 use sx_base::library::LibName;
 use sx_base::memory::Memory;
 use sx_base::name::{CodeNo, FrameNo, Label, Name};
-use sx_base::op::{Op, op_text};
+use sx_base::op::{NAME_COUNT, Op, op_text};
 use sx_base::span::Span;
 use sx_base::symbol::Symbol;
 use sx_builtin::exports::exports;
@@ -91,7 +91,7 @@ fn only_core(alloc: Global, all: &[(Symbol, Label)]) -> Result<Items<(Symbol, La
 fn name_of(op: &Op) -> &'static str
     ensures { result.now ≡ op_text op.now.0 }
 {
-    if op.0 < 301 { op_text(op) } else { "" }
+    if op.0 < NAME_COUNT { op_text(op) } else { "" }
 }
 
 fn path_of(alloc: Global, op: &Op) -> Result<Symbol, Memory>

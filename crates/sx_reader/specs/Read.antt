@@ -8,6 +8,14 @@ use Rattle.sx_machine.specs.declared.partial.State.{State}
 use Rattle.sx_machine.specs.Step.{state, step, finish}
 use Rattle.sx_reader.specs.Lexemes.{Lexed, lexed}
 
+-- how many forms may be nested in a program or library
+abbrev pub file_nesting : ℕ
+file_nesting = 500
+
+-- how many forms may be nested in any source that is read
+abbrev pub most_nesting : ℕ
+most_nesting = 8192
+
 -- what behind the last lexeme comes of the state there: the fault of the next token, or the end
 abbrev pub ended : List ℕ → State → Option Fault → Result (List PlainDatum) Fault
 ended file s None = finish file s.stack s.done

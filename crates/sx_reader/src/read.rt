@@ -5,7 +5,7 @@ ghost use Rattle.sx_base.specs.declared.fault.Fault.{Fault};
 ghost use Rattle.sx_base.specs.Datum.{PlainDatum};
 ghost use Rattle.sx_base.specs.Gives.{Gives};
 ghost use Rattle.sx_reader.specs.FirstFault.{OnFault, IsFaultOf};
-ghost use Rattle.sx_reader.specs.Read.{data_of};
+ghost use Rattle.sx_reader.specs.Read.{data_of, file_nesting, most_nesting};
 ghost use Rattle.sx_reader.specs.Spells.{Spells};
 
 use std::alloc::Global;
@@ -23,11 +23,11 @@ pub const NESTING: u32 = 500;
 /// The data of a program or library, in order, as `read_deep` reads them at a nesting of 500.
 pub fn read_all(alloc: Global, file: &Symbol, bytes: &[u8]) -> Result<Vec<Datum>, Stop>
     requires { length bytes.now < 2 ^ 32 }
-    ensures gives { Gives (λ v. v.items) result (data_of file.now bytes.now 500) }
-    ensures spelled { IfOk result (λ v. Spells file.now bytes.now 500 v.items) }
-    ensures complete { (ds : List PlainDatum) → Spells file.now bytes.now 500 ds → Gives (λ v. v.items) result (Ok ds) }
-    ensures refused { OnFault result (IsFaultOf file.now bytes.now 500) }
-    ensures faulted { (f : Fault) → IsFaultOf file.now bytes.now 500 f → Gives (λ v. v.items) result (Err f) }
+    ensures gives { Gives (λ v. v.items) result (data_of file.now bytes.now file_nesting) }
+    ensures spelled { IfOk result (λ v. Spells file.now bytes.now file_nesting v.items) }
+    ensures complete { (ds : List PlainDatum) → Spells file.now bytes.now file_nesting ds → Gives (λ v. v.items) result (Ok ds) }
+    ensures refused { OnFault result (IsFaultOf file.now bytes.now file_nesting) }
+    ensures faulted { (f : Fault) → IsFaultOf file.now bytes.now file_nesting f → Gives (λ v. v.items) result (Err f) }
 {
     read_deep(alloc, file, bytes, NESTING)
 }
@@ -44,7 +44,7 @@ pub fn read_deep(
     bytes: &[u8],
     nesting: u32,
 ) -> Result<Vec<Datum>, Stop>
-    requires deep { nesting ≤ 8192 }
+    requires deep { nesting ≤ most_nesting }
     requires fits { length bytes.now < 2 ^ 32 }
     ensures gives { Gives (λ v. v.items) result (data_of file.now bytes.now nesting) }
     ensures spelled { IfOk result (λ v. Spells file.now bytes.now nesting v.items) }

@@ -24,7 +24,7 @@ use Rattle.sx_forms.specs.declared.set.Import.{Import}
 use Rattle.sx_import.specs.Table.{value_of}
 use Rattle.sx_import.specs.declared.set.ImportSet.{ImportSet}
 use Rattle.sx_outside.specs.Contents.{Paths, at_path, Reading, bytes, longer, absent, read_of}
-use Rattle.sx_reader.specs.Read.{data_of}
+use Rattle.sx_reader.specs.Read.{data_of, file_nesting}
 use Rattle.sx_load.specs.Found.{nothing_loaded, no_needs, with_needs, with_source, with_sources, with_done, most_libraries, found_of}
 use Rattle.sx_load.specs.Load.{Loads, Loader, lifted, about, too_many, most, file_limit, look_for, program_in, begun, opened_from, opened_with, open_file, fitting, known_of, settled, load_new, refer_to, refer, refer_each, load_with, load_file, program_from, load}
 use Rattle.sx_load.specs.Load as loading
@@ -125,7 +125,7 @@ module _ (file : List ℕ) (f : LibraryForm) where
 -- ---- the file of a library, and that of a program
 
 library_user : (name : LibName) (path held : List ℕ) (o : Opened) → loading.library_in name path held ≡ Ok o → IsUser o.form.name
-library_user name path held o h = by (data_of path held 500) (library_is name path held o h)
+library_user name path held o h = by (data_of path held file_nesting) (library_is name path held o h)
   where
     by : (r : Result (List PlainDatum) Fault) → (r >>= read_library path) ≡ Ok o.form → IsUser o.form.name
     by (Ok ds) h = read_user path o.form ds h
@@ -133,7 +133,7 @@ library_user name path held o h = by (data_of path held 500) (library_is name pa
 
 program_named : (path held : List ℕ) (o : Opened) → program_in path held ≡ Ok o → o.form.name ≡ library.Program
 unfolding program_in
-program_named path held o h = by_data (data_of path held 500) h
+program_named path held o h = by_data (data_of path held file_nesting) h
   where
     by_form : (ds : List PlainDatum) (r : Result LibraryForm Fault) → read_program path ds ≡ r
         → (r >>= (λ form. Ok (record { path = path; form = form; «data» = ds }))) ≡ Ok o → o.form.name ≡ library.Program

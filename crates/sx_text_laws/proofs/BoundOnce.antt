@@ -13,8 +13,8 @@ use Rattle.sx_core_laws.specs.Records.{run_binders}
 use Rattle.sx_core_laws.specs.Follows.{names_of, bound_labels, IsOwn}
 use Rattle.sx_expand_laws.specs.Indices.{there, bound_index}
 use Rattle.sx_expand_laws.proofs.Fresh.{each-at, once-append}
-use Rattle.sx_planned.proofs.PlanLemmas.{is_plan}
-use Rattle.sx_planned.specs.Plan.{plan_of}
+use Rattle.sx_plan.proofs.PlanLemmas.{is_plan}
+use Rattle.sx_plan.specs.Planned.{plan_of}
 use Rattle.sx_standing.specs.Start.{records_at}
 use Rattle.sx_text_laws.specs.Indices.{indexed, named_variable, named_variables}
 use Rattle.sx_text_laws.specs.Standing.{AreStanding}

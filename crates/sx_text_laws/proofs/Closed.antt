@@ -17,8 +17,8 @@ use Rattle.sx_core_laws.specs.Follows.{names_of, line_cores, IsOwn}
 use Rattle.sx_expand_laws.proofs.Fresh.{each-at, each-of, among-parts, among-first, among-second}
 use Rattle.sx_plan.specs.Places.{place_of}
 use Rattle.sx_plan.specs.Plan.{mentioned, further}
-use Rattle.sx_planned.proofs.PlanLemmas.{is_plan}
-use Rattle.sx_planned.specs.Plan.{plan_of}
+use Rattle.sx_plan.proofs.PlanLemmas.{is_plan}
+use Rattle.sx_plan.specs.Planned.{plan_of}
 use Rattle.sx_standing.specs.Start.{records_at}
 use Rattle.sx_text_laws.specs.Standing.{IsStanding, AreStanding}
 use Rattle.sx_text_laws.specs.Text.{text_of}

@@ -4,7 +4,7 @@ use Rattle.std.specs.List.{flat_map}
 use Rattle.sx_core.specs.declared.record.LibRecord.{LibRecord}
 use Rattle.sx_core_laws.specs.Words.{Once}
 use Rattle.sx_core_laws.specs.Records.{AreClosed, run_binders}
-use Rattle.sx_planned.specs.Plan.{plan_of}
+use Rattle.sx_plan.specs.Planned.{plan_of}
 use Rattle.sx_standing.specs.Start.{records_at}
 use Rattle.sx_text_laws.specs.Indices.{named_variables}
 use Rattle.sx_text_laws.specs.Standing.{AreStanding}

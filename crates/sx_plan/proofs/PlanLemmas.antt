@@ -10,7 +10,7 @@ use Rattle.sx_plan.specs.Plan.{RisesFrom, IsPlan}
 use Rattle.sx_plan.specs.Work.{Work, follow, marked_from}
 use Rattle.sx_plan.proofs.MarkLemmas.{contains_later, contains_cases}
 use Rattle.sx_plan.proofs.WorkLemmas.{Known, weight, start_known, known_on, known_plan}
-use Rattle.sx_planned.specs.Plan.{followed_by, followed, begun, plan_of}
+use Rattle.sx_plan.specs.Planned.{followed_by, followed, begun, plan_of}
 
 -- ---- lists that rise, with the same elements
 

@@ -6,17 +6,14 @@
 //! ```text
 //! the program refers to (b), (b) refers to (a)        waiting: (b), then (a); the plan has both
 //! ```
-//!
-//! The promise: `planned` gives exactly that function's plan; only want of memory is free.
-#![tactic(auto)]
 
 ghost use Rattle.std.specs.Prelude.{◌≡◌, IfOk};
-ghost use Rattle.sx_planned.specs.Plan.{plan_of};
+ghost use Rattle.sx_plan.specs.Planned.{plan_of};
 
+use crate::plan::run_plan;
 use std::alloc::Global;
 use sx_base::memory::Memory;
 use sx_core::record::LibRecord;
-use sx_plan::plan::run_plan;
 
 /// The places of the records that the program needs when it runs, rising.
 #[tactic(auto, using(crate::proofs::PlanLemmas::plan_is))]
