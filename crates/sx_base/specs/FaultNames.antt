@@ -51,7 +51,6 @@ fault_number kind.Raised = 44
 fault_number kind.RawSymbol = 45
 fault_number kind.BadOutput = 46
 fault_number kind.NotTransformer = 47
-fault_number kind.NotBuilt = 90
 fault_number kind.Stuck = 91
 
 abbrev pub fault_name : FaultKind → List ℕ
@@ -102,5 +101,4 @@ fault_name kind.Raised = codes "Raised"
 fault_name kind.RawSymbol = codes "RawSymbol"
 fault_name kind.BadOutput = codes "BadOutput"
 fault_name kind.NotTransformer = codes "NotTransformer"
-fault_name kind.NotBuilt = codes "NotBuilt"
 fault_name kind.Stuck = codes "Stuck"

@@ -110,8 +110,6 @@ pub enum FaultKind {
     BadOutput = 46,
     /// A keyword's value is no transformer, or isn't there yet.
     NotTransformer = 47,
-    /// A form that isn't built yet.
-    NotBuilt = 90,
     /// Cells of an evaluation that don't fit, which no run meets.
     Stuck = 91,
 }
@@ -176,7 +174,6 @@ impl FaultKind {
             FaultKind::RawSymbol => "RawSymbol",
             FaultKind::BadOutput => "BadOutput",
             FaultKind::NotTransformer => "NotTransformer",
-            FaultKind::NotBuilt => "NotBuilt",
             FaultKind::Stuck => "Stuck",
         }
     }
