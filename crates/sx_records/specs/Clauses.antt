@@ -1,5 +1,6 @@
 -- The clauses of `define-record-type` (libraries report 6.2). A clause is known by what its first identifier stands for.
 use Rattle.std.specs.Prelude.{ℕ, Bool, nat_lt, List, [], ◌∷◌, Option, None, Some, Result, Ok, Err, if◌then◌else◌}
+use Rattle.sx_base.specs.Op.{name_count}
 use Rattle.sx_base.specs.Gives.{◌>>=◌}
 use Rattle.sx_base.specs.Same.{same_library}
 use Rattle.sx_base.specs.declared.atom.Atom.{Atom}
@@ -28,7 +29,7 @@ use Rattle.sx_records.specs.declared.clause.Uid.TheVariants as uid
 -- What identifiers stand for.
 
 abbrev pub numbered : ℕ → Option CoreForm
-numbered n = if nat_lt n 301 then at_number n else None
+numbered n = if nat_lt n name_count then at_number n else None
 
 abbrev pub labelled : Option Label → Option CoreForm
 labelled None = None

@@ -15,7 +15,7 @@ use sx_base::items::Items;
 use sx_base::library::LibName;
 use sx_base::memory::Memory;
 use sx_base::name::Label;
-use sx_base::op::Op;
+use sx_base::op::{NAME_COUNT, Op};
 use sx_base::span::Span;
 use sx_core::core_form::CoreForm;
 use sx_scope::scope::Frames;
@@ -26,7 +26,7 @@ use sx_syntax::syn::{Opened, Syn};
 fn numbered(number: u64) -> Option<CoreForm>
     ensures { result ≡ numbered number }
 {
-    if number >= 301 {
+    if number >= u64::from(NAME_COUNT) {
         return None;
     }
     CoreForm::at_number(&Op(number as u16))

@@ -10,7 +10,7 @@ use std::rc::Rc;
 use sx_base::library::LibName;
 use sx_base::memory::Memory;
 use sx_base::name::{Label, Name};
-use sx_base::op::{Op, op_text};
+use sx_base::op::{NAME_COUNT, Op, op_text};
 use sx_base::symbol::Symbol;
 use sx_tree::frame_row::FrameRow;
 use sx_tree::marks::Marks;
@@ -26,7 +26,7 @@ pub const INTRODUCED: [u16; 18] = [
 fn name_text(number: u16) -> &'static str
     ensures { result.now ≡ op_text number }
 {
-    if number < 301 {
+    if number < NAME_COUNT {
         op_text(&Op(number))
     } else {
         ""

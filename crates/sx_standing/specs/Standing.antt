@@ -1,6 +1,6 @@
 -- What an identifier stands for.
 use Rattle.std.specs.Prelude.{Bool, true, false, nat_lt, Option, None, Some, if◌then◌else◌}
-use Rattle.sx_base.specs.Op.{is_keyword}
+use Rattle.sx_base.specs.Op.{is_keyword, name_count}
 use Rattle.sx_base.specs.Same.{same_library}
 use Rattle.sx_base.specs.declared.library.LibName.TheVariants as library
 use Rattle.sx_base.specs.declared.name.Label.{Label}
@@ -37,7 +37,7 @@ given_as l None = if is_keyword l.0.number then standing.Nothing else standing.P
 
 -- the names that this implementation gives, by number; a name that the derived library defines has another label
 abbrev pub numbered_as : Label → Standing
-numbered_as l = if nat_lt l.0.number 301 then given_as l (at_number l.0.number) else standing.Nothing
+numbered_as l = if nat_lt l.0.number name_count then given_as l (at_number l.0.number) else standing.Nothing
 
 unfoldable pub label_standing : State → Label → Standing
 label_standing s l = if same_library l.0.library library.Core then numbered_as l else bound_as s l (bound_to s.bindings l)

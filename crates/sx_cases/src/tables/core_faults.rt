@@ -452,7 +452,7 @@ pub const BODIES: &str = r#"(import (rnrs))
 §(letrec ((a 1)))
 => 24 NoExpression"#;
 
-/// Keywords in the place of an expression, and forms that are not built yet.
+/// Keywords in the place of an expression.
 pub const KEYWORDS: &str = r#"(import (rnrs))
 §if
 => 25 KeywordMisuse: if

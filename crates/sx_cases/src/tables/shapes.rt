@@ -333,8 +333,8 @@ pub const HEADLESS: &str = r#"; keywords that head no form
 => 25 KeywordMisuse: fields
 
 (import (rnrs) (rnrs records syntactic))
-§(define-record-type a)
-=> 90 NotBuilt
+§(define-record-type)
+=> 20 BadForm
 
 (import (rnrs))
 ; c
