@@ -1,0 +1,6 @@
+; writes (1 2 3)
+(import (rnrs) (rnrs records syntactic))
+(define-record-type (ex1 make-ex1 ex1?)
+  (protocol (lambda (p) (lambda a (p a))))
+  (fields (immutable f ex1-f)))
+(write (ex1-f (make-ex1 1 2 3)))

@@ -1,0 +1,11 @@
+; writes (1/2 1/2 0)
+(import (rnrs) (rnrs records syntactic))
+(define-record-type (vector-of-three make vector-of-three?)
+  (protocol
+    (lambda (p)
+      (lambda (x y z)
+        (let ((sum (+ x y z)))
+          (p (/ x sum) (/ y sum) (/ z sum))))))
+  (fields (immutable x at-x) (immutable y at-y) (immutable z at-z)))
+(define it (make 1 1 0))
+(write (list (at-x it) (at-y it) (at-z it)))

@@ -1,0 +1,7 @@
+; writes (1 (2 3))
+(import (rnrs) (rnrs records syntactic))
+(define-record-type (ex2 make-ex2 ex2?)
+  (protocol (lambda (p) (lambda (a . b) (p a b))))
+  (fields (immutable a ex2-a) (immutable b ex2-b)))
+(define it (make-ex2 1 2 3))
+(write (list (ex2-a it) (ex2-b it)))
