@@ -1,6 +1,5 @@
 -- From what sinks and parts promise to what a run promises.
 use Rattle.std.proofs.Common.{◌≡◌, ℕ, ◌<◌, List, [], length, take, Option, Some, None, IfSome, Result, Ok, Err, refl, ap, sym, ◌∙◌}
-use Rattle.std.proofs.lemmas.List.{append-nil}
 use Rattle.sx_outside.specs.declared.sink.PutFailed.{PutFailed}
 use Rattle.sx_outside.specs.Contents.{Paths}
 use Rattle.sx_outside.specs.Causes.{Rose}
@@ -10,14 +9,10 @@ use Rattle.scheme_expand.specs.declared.status.Status.TheVariants as status
 use Rattle.scheme_expand.specs.Words.{job_asked, usage_line}
 use Rattle.scheme_expand.specs.Whole.{Outcome, usage, done, fault, whole, of_job, of_asked}
 use Rattle.sx_words.specs.declared.job.Job.{Job}
-use Rattle.scheme_expand.specs.Headline.{Sunk, Broke, Says, Reports, reported, unreported, Finishes, written, broken, Complains, said, no_line, Headline, wrote_text, wrote_fault, wrong_words, read_fault, no_memory, Complete, status_of}
+use Rattle.scheme_expand.specs.Headline.{Sunk, AskedOnce, Broke, Says, Reports, reported, unreported, Finishes, written, broken, Complains, said, no_line, Headline, wrote_text, wrote_fault, wrong_words, read_fault, no_memory, Complete, status_of}
 
-pub gains_nothing : (b : Option (List ℕ)) → Gains b b []
-gains_nothing None = tt
-gains_nothing (Some b) = ap Some (sym (append-nil b))
-
-pub broke : (s : Sunk) (piece : List ℕ) (taken : ℕ) → taken < length piece → Gains s.before s.after (take taken piece) → Rose s.faults_before s.faults_after → Broke s piece
-broke s piece taken short gains rose = record { taken = taken; short = short; part = gains; rose = rose }
+pub broke : (s : Sunk) (piece : List ℕ) (taken : ℕ) → taken < length piece → Gains s.before s.after (take taken piece) → Rose s.faults_before s.faults_after → AskedOnce s → Broke s piece
+broke s piece taken short gains rose asked = record { taken = taken; short = short; part = gains; rose = rose; asked = asked }
 
 -- the job that the words ask for, and what it gives
 pub says : (told : Option Paths) (words : List (List ℕ)) (job : Job) (o : Outcome) → job_asked words ≡ Some job

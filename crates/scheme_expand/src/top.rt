@@ -20,7 +20,7 @@ pub const USAGE: &[u8] =
 
 // Puts a report on `err`.
 fn tell<E: Sink>(err: &mut E, report: &[u8]) -> Status
-    ensures { Reports (record { before = E.told err.old; after = E.told err.new; faults_before = E.faults err.old; faults_after = E.faults err.new }) report.now result }
+    ensures { Reports (record { before = E.told err.old; after = E.told err.new; faults_before = E.faults err.old; faults_after = E.faults err.new; puts_before = E.puts err.old; puts_after = E.puts err.new }) report.now result }
 {
     match err.put(report) {
         Ok(()) => Status::Done,
@@ -30,8 +30,8 @@ fn tell<E: Sink>(err: &mut E, report: &[u8]) -> Status
 
 // Puts a text on `out`, and behind it a report on `err`.
 fn finish<O: Sink, E: Sink>(out: &mut O, err: &mut E, text: &[u8], report: &[u8]) -> Status
-    ensures { Finishes (record { before = O.told out.old; after = O.told out.new; faults_before = O.faults out.old; faults_after = O.faults out.new })
-        (record { before = E.told err.old; after = E.told err.new; faults_before = E.faults err.old; faults_after = E.faults err.new }) text.now report.now result }
+    ensures { Finishes (record { before = O.told out.old; after = O.told out.new; faults_before = O.faults out.old; faults_after = O.faults out.new; puts_before = O.puts out.old; puts_after = O.puts out.new })
+        (record { before = E.told err.old; after = E.told err.new; faults_before = E.faults err.old; faults_after = E.faults err.new; puts_before = E.puts err.old; puts_after = E.puts err.new }) text.now report.now result }
 {
     match out.put(text) {
         Ok(()) => tell(err, report),
@@ -41,8 +41,8 @@ fn finish<O: Sink, E: Sink>(out: &mut O, err: &mut E, text: &[u8], report: &[u8]
 
 // Puts a line on `err`, for a status.
 fn complain<O: Sink, E: Sink>(out: &mut O, err: &mut E, line: &[u8], status: Status) -> Status
-    ensures { Complains (record { before = O.told out.old; after = O.told out.new; faults_before = O.faults out.old; faults_after = O.faults out.new })
-        (record { before = E.told err.old; after = E.told err.new; faults_before = E.faults err.old; faults_after = E.faults err.new }) line.now status result }
+    ensures { Complains (record { before = O.told out.old; after = O.told out.new; faults_before = O.faults out.old; faults_after = O.faults out.new; puts_before = O.puts out.old; puts_after = O.puts out.new })
+        (record { before = E.told err.old; after = E.told err.new; faults_before = E.faults err.old; faults_after = E.faults err.new; puts_before = E.puts err.old; puts_after = E.puts err.new }) line.now status result }
 {
     match err.put(line) {
         Ok(()) => status,
@@ -60,8 +60,8 @@ fn run_words<F: Files, O: Sink, E: Sink, N: Ledger, L: Ledger>(
     counts: &mut Counts<N, L>,
 ) -> Status
     ensures { Headline (F.told files.old) (texts words.now) (F.faults files.old) (F.faults files.new)
-        (record { before = O.told out.old; after = O.told out.new; faults_before = O.faults out.old; faults_after = O.faults out.new })
-        (record { before = E.told err.old; after = E.told err.new; faults_before = E.faults err.old; faults_after = E.faults err.new }) result }
+        (record { before = O.told out.old; after = O.told out.new; faults_before = O.faults out.old; faults_after = O.faults out.new; puts_before = O.puts out.old; puts_after = O.puts out.new })
+        (record { before = E.told err.old; after = E.told err.new; faults_before = E.faults err.old; faults_after = E.faults err.new; puts_before = E.puts err.old; puts_after = E.puts err.new }) result }
 {
     let job = match job_asked(alloc, words) {
         Ok(Some(job)) => job,
@@ -91,8 +91,8 @@ pub fn run<F: Files, O: Sink, E: Sink, N: Ledger, L: Ledger>(
     counts: &mut Counts<N, L>,
 ) -> Status
     ensures headline { Headline (F.told files.old) (texts words.now) (F.faults files.old) (F.faults files.new)
-        (record { before = O.told out.old; after = O.told out.new; faults_before = O.faults out.old; faults_after = O.faults out.new })
-        (record { before = E.told err.old; after = E.told err.new; faults_before = E.faults err.old; faults_after = E.faults err.new }) result }
+        (record { before = O.told out.old; after = O.told out.new; faults_before = O.faults out.old; faults_after = O.faults out.new; puts_before = O.puts out.old; puts_after = O.puts out.new })
+        (record { before = E.told err.old; after = E.told err.new; faults_before = E.faults err.old; faults_after = E.faults err.new; puts_before = E.puts err.old; puts_after = E.puts err.new }) result }
     ensures complete { Complete (F.told files.old) (texts words.now) (Rose (F.faults files.old) (F.faults files.new)) (Rose (O.faults out.old) (O.faults out.new)) (Rose (E.faults err.old) (E.faults err.new)) result }
 {
     run_words(alloc, words, files, out, err, prims, counts)

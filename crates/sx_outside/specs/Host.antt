@@ -3,10 +3,11 @@ use Rattle.std.specs.Prelude.{ℕ, ◌≤◌, List, take, Option, Result, Ok, Er
 use Rattle.sx_outside.specs.Sink.{Gains}
 use Rattle.sx_outside.specs.declared.sink.PutFailed.{PutFailed}
 
--- a writer, and how many puts have failed
+-- a writer, how many puts have failed, and how many were asked for
 pub record Written (W : Type 0) : Type 0 where
   pub writer : W
   pub faults : ℕ
+  pub puts : ℕ
 
 -- what a writer that tells its bytes gained: all of a piece, or a part that is no shorter than was said
 abbrev pub Writes : Result Unit PutFailed → Option (List ℕ) → Option (List ℕ) → List ℕ → Type 0

@@ -2,7 +2,7 @@
 //! written, no proof can tell.
 
 ghost use Rattle.std.specs.Prelude.{◌≡◌, ◌≤◌, ◌<◌, ◌^◌, None, IfOk, IfErr, IfSome, OnErr, Some, length, take, unwrap_or};
-ghost use Rattle.sx_outside.specs.Causes.{Rose};
+ghost use Rattle.sx_outside.specs.Causes.{Rose, raised};
 ghost use Rattle.sx_outside.specs.Contents.{read_of};
 ghost use Rattle.sx_outside.specs.Files.{file_reading};
 ghost use Rattle.sx_outside.specs.Host.{Writes};
@@ -178,6 +178,7 @@ impl<R: System> Store for HostStore<R> {
 pub struct HostSink<W> {
     writer: W,
     faults: u64,
+    puts: u64,
 }
 
 impl<W> Model for HostSink<W> {
@@ -185,14 +186,18 @@ impl<W> Model for HostSink<W> {
 
     ghost Value = { Written W };
 
-    ghost view = { λ m. record { writer = m.writer; faults = m.faults } };
+    ghost view = { λ m. record { writer = m.writer; faults = m.faults; puts = m.puts } };
 }
 
 impl<W: Write> HostSink<W> {
     pub fn new(writer: W) -> HostSink<W>
-        ensures { result ≡ record { writer = writer; faults = 0 } }
+        ensures { result ≡ record { writer = writer; faults = 0; puts = 0 } }
     {
-        HostSink { writer, faults: 0 }
+        HostSink {
+            writer,
+            faults: 0,
+            puts: 0,
+        }
     }
 }
 
@@ -256,15 +261,19 @@ impl<W: Write> Sink for HostSink<W> {
 
     ghost faults = { λ m. m.faults };
 
+    ghost puts = { λ m. m.puts };
+
     fn put(&mut self, bytes: &[u8]) -> Result<(), PutFailed>
         ensures gains { Gains None None (taken_of result bytes.now) }
         ensures short { IfErr result (λ error. error.taken < length bytes.now) }
         ensures later { self.old.faults ≤ self.new.faults }
         ensures failed { OnErr result (Rose self.old.faults self.new.faults) }
+        ensures counted { self.new.puts ≡ raised self.old.puts }
 
         // The writer may tell what it holds, as one in memory does.
         ensures writes { Writes result (W.contents self.old.writer) (W.contents self.new.writer) bytes.now }
     {
+        self.puts = self.puts.saturating_add(1);
         let result = write_piece(&mut self.writer, bytes);
         if result.is_err() {
             failed(&mut self.faults);

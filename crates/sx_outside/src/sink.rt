@@ -1,7 +1,7 @@
 //! A sink: bytes to which pieces are added.
 
 ghost use Rattle.std.specs.Prelude.{◌≡◌, ◌≤◌, ◌<◌, ℕ, List, Option, Some, IfErr, OnErr, OnOk, length, max, option_map, find, reverse, ◌==◌, option_copied};
-ghost use Rattle.sx_outside.specs.Causes.{Rose};
+ghost use Rattle.sx_outside.specs.Causes.{Rose, raised};
 ghost use Rattle.sx_outside.specs.Sink.{Gains, taken_of, empty_sink, listed, allowed, taken_next, after_put, answer_of};
 
 use crate::causes::failed;
@@ -23,13 +23,17 @@ pub trait Sink {
     /// How many puts have failed.
     ghost faults: { Self → ℕ };
 
+    /// How many puts it was asked for.
+    ghost puts: { Self → ℕ };
+
     /// Adds a piece. Where it fails it added only a part of it from the front, and the count rose. It
     /// takes no memory.
     fn put(&mut self, bytes: &[u8]) -> Result<(), PutFailed>
         ensures gains { Gains (told self.old) (told self.new) (taken_of result bytes.now) }
         ensures short { IfErr result (λ error. error.taken < length bytes.now) }
         ensures later { faults self.old ≤ faults self.new }
-        ensures failed { OnErr result (Rose (faults self.old) (faults self.new)) };
+        ensures failed { OnErr result (Rose (faults self.old) (faults self.new)) }
+        ensures counted { puts self.new ≡ raised (puts self.old) };
 }
 
 /// A sink in memory, of which the puts with listed numbers take only so many bytes.
@@ -114,12 +118,15 @@ impl Sink for MemSink {
 
     ghost faults = { λ m. m.faults };
 
+    ghost puts = { λ m. m.next };
+
     fn put(&mut self, bytes: &[u8]) -> Result<(), PutFailed>
         ensures gains { Gains (Some self.old.bytes) (Some self.new.bytes)
             (taken_of result bytes.now) }
         ensures short { IfErr result (λ error. error.taken < length bytes.now) }
         ensures later { self.old.faults ≤ self.new.faults }
         ensures failed { OnErr result (Rose self.old.faults self.new.faults) }
+        ensures counted { self.new.next ≡ raised self.old.next }
 
         // Exactly the listed puts fail, and those of pieces that don't fit.
         ensures answer { result ≡ answer_of
