@@ -1,0 +1,7 @@
+mod Plain
+mod Called
+mod Texts
+mod Spellings
+mod Codes
+mod Readable
+mod Whole

@@ -1,0 +1,7 @@
+pub mod Names
+pub mod Spells
+pub mod Lines
+pub mod SameCode
+pub mod Spellable
+pub mod ReadBack
+pub mod Laws

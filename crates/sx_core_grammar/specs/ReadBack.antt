@@ -1,0 +1,22 @@
+-- What core text is read as.
+use Rattle.std.specs.Prelude.{◌≡◌, ℕ, ◌≤◌, List, [], ◌∷◌, map, Ok}
+use Rattle.sx_base.specs.Datum.{PlainDatum, unspanned}
+use Rattle.sx_core.specs.Core.{PlainCore}
+use Rattle.sx_core.specs.declared.record.Line.{Line}
+use Rattle.sx_core_text.specs.CoreText.{Names}
+use Rattle.sx_reader.specs.Read.{data_of}
+use Rattle.sx_core_grammar.specs.Lines.{import_form, SpellLines}
+
+-- the text, as a file where so many forms may be nested, has the import of `(rnrs)` and behind it one datum for each of these lines,
+-- which spells it
+pub record IsReadAs (names : Names) (lines : List Line) (file text : List ℕ) (nesting : ℕ) : Type 0 where
+  pub first : PlainDatum
+  pub others : List PlainDatum
+  pub read : data_of file text nesting ≡ Ok (first ∷ others)
+  pub import : unspanned first ≡ import_form
+  pub spelled : SpellLines names lines (map unspanned others)
+
+-- it is so read wherever enough forms may be nested
+pub record IsReadBack (names : Names) (lines : List Line) (text : List ℕ) : Type 0 where
+  pub enough : ℕ
+  pub read : (file : List ℕ) (nesting : ℕ) → enough ≤ nesting → IsReadAs names lines file text nesting
