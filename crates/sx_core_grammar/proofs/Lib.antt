@@ -5,3 +5,4 @@ mod Spellings
 mod Codes
 mod Readable
 mod Whole
+mod Bound

@@ -24,9 +24,11 @@ use Rattle.sx_core_grammar.specs.Spells.{word, one}
 use Rattle.sx_core_grammar.specs.Lines.{import_form, SpellsLine, SpellLines, no_line, further, record_lines, all_lines}
 use Rattle.sx_core_grammar.specs.Spellable.{CanBeRead, IsLineSpellable, constants}
 use Rattle.sx_core_grammar.specs.ReadBack.{IsReadAs, IsReadBack}
-use Rattle.sx_core_grammar.specs.Laws.{CoreTextIsReadBack}
+use Rattle.sx_core_grammar.specs.SameCode.{line_by_names}
+use Rattle.sx_core_grammar.specs.Laws.{IsCoreText, CoreTextIsReadBack, CoreTextTellsItsLines}
 use Rattle.sx_core_grammar.proofs.Plain.{plain_text, plain_name}
 use Rattle.sx_core_grammar.proofs.Spellings.{lines_are_spelled}
+use Rattle.sx_core_grammar.proofs.Codes.{one_line_by_names}
 use Rattle.sx_core_grammar.proofs.Texts.{line_texts_are}
 use Rattle.sx_core_grammar.proofs.Readable.{lines_read, lines_bare, pair_reads, one_ends, word_reads, form_reads}
 
@@ -160,16 +162,41 @@ read_as names ls ds file text nesting good spelled is all =
     }
 
 pub core_text_back : CoreTextIsReadBack
-core_text_back records plan program whole e good spellable fine =
+core_text_back records plan program whole h =
     let names : Names = all_names records plan program in
     let ls : List Line = all_lines records plan program in
-    let p = bind_gives (plan_checked records plan) (lines_checked program.run >>= λ _. Ok (all_text names records plan program)) whole e in
+    let p = bind_gives (plan_checked records plan) (lines_checked program.run >>= λ _. Ok (all_text names records plan program)) whole h.given in
     let q = bind_gives (lines_checked program.run) (Ok (all_text names records plan program)) whole p.1 in
-    let given = spell_lines names ls (plan_checked_is records plan program p.0 q.0) spellable in
-    let text : whole ≡ printed.lines_text (import_form ∷ given.ds) =
+    let lines = spell_lines names ls (plan_checked_is records plan program p.0 q.0) h.spellable in
+    let text : whole ≡ printed.lines_text (import_form ∷ lines.ds) =
         sym (ok_same (all_text names records plan program) whole q.1)
         ∙ append_assoc (codes "(import (rnrs))\n") (plan_text records names plan) (lines_text names program.run)
-        ∙ ap (λ w. codes "(import (rnrs))\n" ++ w) (plan_text_is records names plan program ∙ spelled_text names good given.spelled)
-        ∙ (λ i. (sym import_text i ++ codes "\n") ++ printed.lines_text given.ds) in
-    let enough = enough_for (import_form ∷ given.ds) (import_reads, lines_read names good given.spelled fine) in
-    record { enough = enough.enough; read = λ file nesting l. read_as names ls given.ds file whole nesting good given.spelled text (enough.read nesting l) }
+        ∙ ap (λ w. codes "(import (rnrs))\n" ++ w) (plan_text_is records names plan program ∙ spelled_text names h.generated lines.spelled)
+        ∙ (λ i. (sym import_text i ++ codes "\n") ++ printed.lines_text lines.ds) in
+    let most = enough_for (import_form ∷ lines.ds) (import_reads, lines_read names h.generated lines.spelled h.readable) in
+    record { enough = most.enough; read = λ file nesting l. read_as names ls lines.ds file whole nesting h.generated lines.spelled text (most.read nesting l) }
+
+-- what the same data spell is the same by names
+lines_told : (names others : Names) → AreGenerated names → AreGenerated others → {ks ls : List Line} {ds es : List PlainDatum} → SpellLines names ks ds → SpellLines others ls es → ds ≡ es
+    → map (line_by_names names) ks ≡ map (line_by_names others) ls
+lines_told names others good fine no_line no_line e = refl
+lines_told names others good fine no_line (further q qs) e = absurd (cc)
+lines_told names others good fine (further p ps) no_line e = absurd (cc)
+lines_told names others good fine (further {k} {ks} {d} {ds} p ps) (further {l} {ls} {c} {cs} q qs) e =
+    let same = data_parts d c ds cs e in
+    let first = one_line_by_names names others k l c good fine (subst (λ x. SpellsLine names k x) same.0 p) q in
+    let behind = lines_told names others good fine ps qs same.1 in
+    λ i. first i ∷ behind i
+
+data_same : (d e : PlainDatum) (ds es : List PlainDatum) → ◌≡◌ {A = Result (List PlainDatum) Fault} (Ok (d ∷ ds)) (Ok (e ∷ es)) → ds ≡ es
+data_same d e ds es h = cc
+
+pub lines_by_text : CoreTextTellsItsLines
+lines_by_text records others plan way program other whole h k =
+    let a = core_text_back records plan program whole h in
+    let b = core_text_back others way other whole k in
+    let n : ℕ = a.enough + b.enough in
+    let r = a.read [] n (omega arith) in
+    let s = b.read [] n (omega arith) in
+    let same : r.others ≡ s.others = data_same r.first s.first r.others s.others (sym r.read ∙ s.read) in
+    lines_told (all_names records plan program) (all_names others way other) h.generated k.generated r.spelled s.spelled (ap (λ ds. map unspanned ds) same)

@@ -54,10 +54,20 @@ OneLine = (names : Names) (k l : Line) (d : PlainDatum) → AreGenerated names �
 abbrev pub SpellingsCanBeRead : Type 0
 SpellingsCanBeRead = (names : Names) (c : PlainCore) (d : PlainDatum) → AreGenerated names → Each CanBeRead (constants c) → Spells names c d → CanBeRead d
 
--- the core text of a program is read as what spells its lines
-abbrev pub CoreTextIsReadBack : Type 0
-CoreTextIsReadBack = (records : List LibRecord) (plan : List ℕ) (program : LibRecord) (whole : List ℕ) → core_text records plan program ≡ Ok whole
-    → AreGenerated (all_names records plan program) → Each (IsLineSpellable (all_names records plan program)) (all_lines records plan program)
-    → Each (λ l. Each CanBeRead (constants (line_core l))) (all_lines records plan program) → IsReadBack (all_names records plan program) (all_lines records plan program) whole
+-- the core text of a program, of lines that have spellings which can be read
+pub record IsCoreText (records : List LibRecord) (plan : List ℕ) (program : LibRecord) (whole : List ℕ) : Type 0 where
+  pub given : core_text records plan program ≡ Ok whole
+  pub generated : AreGenerated (all_names records plan program)
+  pub spellable : Each (IsLineSpellable (all_names records plan program)) (all_lines records plan program)
+  pub readable : Each (λ l. Each CanBeRead (constants (line_core l))) (all_lines records plan program)
 
--- two core texts that are the same are of lines that are the same but for their variables, and these have the same names
+-- is read as what spells these lines
+abbrev pub CoreTextIsReadBack : Type 0
+CoreTextIsReadBack = (records : List LibRecord) (plan : List ℕ) (program : LibRecord) (whole : List ℕ) → IsCoreText records plan program whole
+    → IsReadBack (all_names records plan program) (all_lines records plan program) whole
+
+-- and tells them, but for their variables, of which it tells the names
+abbrev pub CoreTextTellsItsLines : Type 0
+CoreTextTellsItsLines = (records others : List LibRecord) (plan way : List ℕ) (program other : LibRecord) (whole : List ℕ)
+    → IsCoreText records plan program whole → IsCoreText others way other whole
+    → map (line_by_names (all_names records plan program)) (all_lines records plan program) ≡ map (line_by_names (all_names others way other)) (all_lines others way other)

@@ -4,4 +4,5 @@ pub mod Lines
 pub mod SameCode
 pub mod Spellable
 pub mod ReadBack
+pub mod Bound
 pub mod Laws

@@ -13,7 +13,8 @@
 //! Here are no calls to make: each function stands for the law that it ensures.
 #![tactic(auto)]
 
-ghost use Rattle.sx_core_grammar.specs.Laws.{TextsAreSpellings, LineTextsAreSpellings, CodeIsSpelled, LinesAreSpelled, OneSpelling, OneCodeByNames, OneLineByNames, OneCode, OneLine, SpellingsCanBeRead, CoreTextIsReadBack};
+ghost use Rattle.sx_core_grammar.specs.Bound.{NamesAreGenerated, NamesTellApart};
+ghost use Rattle.sx_core_grammar.specs.Laws.{TextsAreSpellings, LineTextsAreSpellings, CodeIsSpelled, LinesAreSpelled, OneSpelling, OneCodeByNames, OneLineByNames, OneCode, OneLine, SpellingsCanBeRead, CoreTextIsReadBack, CoreTextTellsItsLines};
 
 /// Core code without forms of `syntax` and `syntax-case` whose variables have names has a spelling, and so has a line.
 pub fn core_code_is_spelled()
@@ -48,4 +49,16 @@ pub fn a_datum_spells_one_code()
 pub fn core_text_is_read_back()
     ensures spellings { SpellingsCanBeRead }
     ensures whole { CoreTextIsReadBack }
+{}
+
+/// One core text is of one list of lines, but for their variables, and these have the same names.
+pub fn core_text_tells_its_lines()
+    ensures { CoreTextTellsItsLines }
+{}
+
+/// The names of a program's variables are generated ones, where each is of a variable; and they tell variables apart,
+/// where no two of them share library and number.
+pub fn names_are_told_by_bindings()
+    ensures generated { NamesAreGenerated }
+    ensures apart { NamesTellApart }
 {}
