@@ -258,7 +258,7 @@ module _ (label : List ℕ → Label) where
       core_is (s.two_armed p q r) = λ i. core.two_armed (core_is p i) (core_is q i) (core_is r i)
       core_is (s.assignment {l} {x} h p) = λ i. core.assignment (right l x h i) (core_is p i)
       core_is (s.sequence p ps) = λ i. core.sequence (core.more (core_is p i) (all_are ps i))
-      core_is (s.lambda {f} n fs p) = λ i. core.procedure any_number (core.case (formals_are {f} fs i) (core_is p i) core.no_case) true
+      core_is (s.lambda {f} n fs p) = λ i. core.procedure any_number (core.case (formals_are {f = f} fs i) (core_is p i) core.no_case) true
       core_is (s.case_lambda n ps) = λ i. core.procedure any_number (cases_are ps i) false
       core_is (s.letrec true ps p) = λ i. core.letrec true (inits_are ps i) (core_is p i)
       core_is (s.letrec false ps p) = λ i. core.letrec false (inits_are ps i) (core_is p i)
@@ -271,7 +271,7 @@ module _ (label : List ℕ → Label) where
 
       cases_are : {cs : PlainCases} {e : PlainDatum} → SpellsCases names cs e → cases_of e ≡ cases_told put cs
       cases_are s.no_case = refl
-      cases_are (s.case {f} fs p ps) = λ i. core.case (formals_are {f} fs i) (core_is p i) (cases_are ps i)
+      cases_are (s.case {f} fs p ps) = λ i. core.case (formals_are {f = f} fs i) (core_is p i) (cases_are ps i)
 
       inits_are : {is : PlainInits} {e : PlainDatum} → SpellsInits names is e → inits_of e ≡ inits_told put is
       inits_are s.no_init = refl
@@ -323,10 +323,10 @@ module _ (names : Names) (apart : TellApart names) where
   label_is l x h [] y e = absurd (cc)
   label_is l x h (r ∷ rs) y e = by_test (is_called names r.0 x) refl (λ f. label_is l x h rs y f) where
     behind : (b : Bool) → same_label l r.0 ≡ b → is_called names r.0 x ≡ false → (if b then Some r.1 else lookup (same_label l) rs) ≡ Some y → lookup (same_label l) rs ≡ Some y
-    behind true same no f =
+    behind true same never f =
         let here : is_called names r.0 x ≡ true = ap (λ (k : Label). is_called names k x) (sym ((label_decides l r.0).0 same)) ∙ text_is x (lookup (same_label l) names) h in
-        absurd (clash (is_called names r.0 x) here no)
-    behind false same no f = f
+        absurd (clash (is_called names r.0 x) here never)
+    behind false same never f = f
     by_test : (b : Bool) → is_called names r.0 x ≡ b → (lookup (same_label l) rs ≡ Some y → label_among names rs x ≡ l) → (if b then r.0 else label_among names rs x) ≡ l
     by_test true t others = apart r.0 l x (is_text_is x (lookup (same_label r.0) names) t) h
     by_test false t others = others (behind (same_label l r.0) refl t e)

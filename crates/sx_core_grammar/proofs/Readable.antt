@@ -71,29 +71,29 @@ nil_reads = (1, tt)
 nil_ends : CanEnd nil
 nil_ends = (0, tt)
 
-pub pair_reads : {d e : PlainDatum} → CanBeRead d → CanEnd e → CanBeRead (before d e)
-pair_reads {d} {e} p q = (suc (p.0 + q.0), (more d p.0 (p.0 + q.0) (omega arith) p.1, rest_more e q.0 (p.0 + q.0) (omega arith) q.1))
+pub pair_reads : (d e : PlainDatum) → CanBeRead d → CanEnd e → CanBeRead (before d e)
+pair_reads d e p q = (suc (p.0 + q.0), (more d p.0 (p.0 + q.0) (omega arith) p.1, rest_more e q.0 (p.0 + q.0) (omega arith) q.1))
 
-pair_ends : {d e : PlainDatum} → CanBeRead d → CanEnd e → CanEnd (before d e)
-pair_ends {d} {e} p q = (p.0 + q.0, (more d p.0 (p.0 + q.0) (omega arith) p.1, rest_more e q.0 (p.0 + q.0) (omega arith) q.1))
+pair_ends : (d e : PlainDatum) → CanBeRead d → CanEnd e → CanEnd (before d e)
+pair_ends d e p q = (p.0 + q.0, (more d p.0 (p.0 + q.0) (omega arith) p.1, rest_more e q.0 (p.0 + q.0) (omega arith) q.1))
 
-pub one_ends : {d : PlainDatum} → CanBeRead d → CanEnd (one d)
-one_ends {d} p = pair_ends {d} {nil} p nil_ends
+pub one_ends : (d : PlainDatum) → CanBeRead d → CanEnd (one d)
+one_ends d p = pair_ends d nil p nil_ends
 
-two_end : {d e : PlainDatum} → CanBeRead d → CanBeRead e → CanEnd (two d e)
-two_end {d} {e} p q = pair_ends {d} {one e} p (one_ends {e} q)
+two_end : (d e : PlainDatum) → CanBeRead d → CanBeRead e → CanEnd (two d e)
+two_end d e p q = pair_ends d (one e) p (one_ends e q)
 
-two_read : {d e : PlainDatum} → CanBeRead d → CanBeRead e → CanBeRead (two d e)
-two_read {d} {e} p q = pair_reads {d} {one e} p (one_ends {e} q)
+two_read : (d e : PlainDatum) → CanBeRead d → CanBeRead e → CanBeRead (two d e)
+two_read d e p q = pair_reads d (one e) p (one_ends e q)
 
-three_end : {d e f : PlainDatum} → CanBeRead d → CanBeRead e → CanBeRead f → CanEnd (three d e f)
-three_end {d} {e} {f} p q r = pair_ends {d} {two e f} p (two_end {e} {f} q r)
+three_end : (d e f : PlainDatum) → CanBeRead d → CanBeRead e → CanBeRead f → CanEnd (three d e f)
+three_end d e f p q r = pair_ends d (two e f) p (two_end e f q r)
 
-pub word_reads : {x : List ℕ} → IsName x → CanBeRead (word x)
-word_reads h = (0, h)
+pub word_reads : (x : List ℕ) → IsName x → CanBeRead (word x)
+word_reads x h = (0, h)
 
-pub form_reads : {w : List ℕ} {e : PlainDatum} → IsName w → CanEnd e → CanBeRead (form w e)
-form_reads {w} {e} h q = pair_reads {word w} {e} (word_reads {w} h) q
+pub form_reads : (w : List ℕ) (e : PlainDatum) → IsName w → CanEnd e → CanBeRead (form w e)
+form_reads w e h q = pair_reads (word w) e (word_reads w h) q
 
 quote_name : IsName (codes "quote")
 quote_name = plain_name (codes "quote") refl
@@ -128,67 +128,67 @@ abbrev IsFine : PlainCore → Type 0
 IsFine p = Each CanBeRead (own_constant p)
 
 module _ (names : Names) (good : AreGenerated names) where
-  called_reads : {l : Label} {x : List ℕ} → IsCalled names l x → CanBeRead (word x)
-  called_reads {l} {x} h = word_reads {x} (plain_name x (generated_plain x (called_percented names good l x h)))
+  called_reads : (l : Label) (x : List ℕ) → IsCalled names l x → CanBeRead (word x)
+  called_reads l x h = word_reads x (plain_name x (generated_plain x (called_percented names good l x h)))
 
-  called_ends : {l : Label} {x : List ℕ} → IsCalled names l x → CanEnd (word x)
-  called_ends {l} {x} h = (0, plain_name x (generated_plain x (called_percented names good l x h)))
+  called_ends : (l : Label) (x : List ℕ) → IsCalled names l x → CanEnd (word x)
+  called_ends l x h = (0, plain_name x (generated_plain x (called_percented names good l x h)))
 
   formals_end : {ls : List Label} {r : Option Label} {d : PlainDatum} → SpellsFormals names ls r d → CanEnd d
   formals_end no_rest = nil_ends
-  formals_end (rest {l} {x} h) = called_ends {l} {x} h
-  formals_end (required {l} {x} {ls} {r} {e} h others) = pair_ends {word x} {e} (called_reads {l} {x} h) (formals_end others)
+  formals_end (rest {l} {x} h) = called_ends l x h
+  formals_end (required {l} {x} {ls} {r} {e} h others) = pair_ends (word x) e (called_reads l x h) (formals_end others)
 
   formals_read : {ls : List Label} {r : Option Label} {d : PlainDatum} → SpellsFormals names ls r d → CanBeRead d
   formals_read no_rest = nil_reads
-  formals_read (rest {l} {x} h) = called_reads {l} {x} h
-  formals_read (required {l} {x} {ls} {r} {e} h others) = pair_reads {word x} {e} (called_reads {l} {x} h) (formals_end others)
+  formals_read (rest {l} {x} h) = called_reads l x h
+  formals_read (required {l} {x} {ls} {r} {e} h others) = pair_reads (word x) e (called_reads l x h) (formals_end others)
 
   mutual
     reads : {c : PlainCore} {d : PlainDatum} → Spells names c d → Fine (parts c) → CanBeRead d
     reads (s.constant d h) f = (f.0.0.0, bare_reads f.0.0.0 d f.0.0.1)
-    reads (s.quotation d h) f = form_reads {codes "quote"} {one (unspanned d)} quote_name (one_ends {unspanned d} (f.0.0.0, bare_reads f.0.0.0 d f.0.0.1))
-    reads (s.reference {l} {x} h) f = called_reads {l} {x} h
-    reads (s.primitive o h) f = word_reads {op_text o.0} (plain_name (op_text o.0) ((primitive_free o.0 h).plain))
+    reads (s.quotation d h) f = form_reads (codes "quote") (one (unspanned d)) quote_name (one_ends (unspanned d) (f.0.0.0, bare_reads f.0.0.0 d f.0.0.1))
+    reads (s.reference {l} {x} h) f = called_reads l x h
+    reads (s.primitive o h) f = word_reads (op_text o.0) (plain_name (op_text o.0) ((primitive_free o.0 h).plain))
     reads (s.one_armed {t} {c} {d} {e} p q) f =
-        form_reads {codes "if"} {two d e} if_name (two_end {d} {e} (reads p (left IsFine (parts t) (parts c) f.1)) (reads q (right IsFine (parts t) (parts c) f.1)))
-    reads (s.two_armed {t} {c} {b} {d} {e} {g} p q r) f =
+        form_reads (codes "if") (two d e) if_name (two_end d e (reads p (left IsFine (parts t) (parts c) f.1)) (reads q (right IsFine (parts t) (parts c) f.1)))
+    reads (s.two_armed {t} {c} {a = b} {d} {e} {f = g} p q r) f =
         let k = right IsFine (parts t) (parts c ++ parts b) f.1 in
-        form_reads {codes "if"} {three d e g} if_name
-        (three_end {d} {e} {g} (reads p (left IsFine (parts t) (parts c ++ parts b) f.1)) (reads q (left IsFine (parts c) (parts b) k)) (reads r (right IsFine (parts c) (parts b) k)))
-    reads (s.assignment {l} {x} {c} {d} h p) f = form_reads {codes "set!"} {two (word x) d} set_name (two_end {word x} {d} (called_reads {l} {x} h) (reads p f.1))
+        form_reads (codes "if") (three d e g) if_name
+        (three_end d e g (reads p (left IsFine (parts t) (parts c ++ parts b) f.1)) (reads q (left IsFine (parts c) (parts b) k)) (reads r (right IsFine (parts c) (parts b) k)))
+    reads (s.assignment {l} {x} {c} {d} h p) f = form_reads (codes "set!") (two (word x) d) set_name (two_end (word x) d (called_reads l x h) (reads p f.1))
     reads (s.sequence {c} {cs} {d} {e} p ps) f =
-        form_reads {codes "begin"} {before d e} begin_name (pair_ends {d} {e} (reads p (left IsFine (parts c) (all_parts cs) f.1)) (all_end ps (right IsFine (parts c) (all_parts cs) f.1)))
-    reads (s.lambda {g} {c} {d} {e} n fs p) f =
-        form_reads {codes "lambda"} {two d e} lambda_name (two_end {d} {e} (formals_read fs) (reads p (left IsFine (parts c) [] f.1)))
-    reads (s.case_lambda {cs} {e} n ps) f = form_reads {codes "case-lambda"} {e} case_lambda_name (cases_end ps f.1)
+        form_reads (codes "begin") (before d e) begin_name (pair_ends d e (reads p (left IsFine (parts c) (all_parts cs) f.1)) (all_end ps (right IsFine (parts c) (all_parts cs) f.1)))
+    reads (s.lambda {f = g} {c} {d} {e} n fs p) f =
+        form_reads (codes "lambda") (two d e) lambda_name (two_end d e (formals_read fs) (reads p (left IsFine (parts c) [] f.1)))
+    reads (s.case_lambda {cs} {e} n ps) f = form_reads (codes "case-lambda") e case_lambda_name (cases_end ps f.1)
     reads (s.letrec {is} {c} {d} {e} ordered ps p) f =
-        form_reads {letrec_keyword ordered} {two d e} (letrec_name ordered)
-        (two_end {d} {e} (inits_read ps (left IsFine (init_parts is) (parts c) f.1)) (reads p (right IsFine (init_parts is) (parts c) f.1)))
+        form_reads (letrec_keyword ordered) (two d e) (letrec_name ordered)
+        (two_end d e (inits_read ps (left IsFine (init_parts is) (parts c) f.1)) (reads p (right IsFine (init_parts is) (parts c) f.1)))
     reads (s.application {c} {cs} {d} {e} p ps) f =
-        pair_reads {d} {e} (reads p (left IsFine (parts c) (all_parts cs) f.1)) (all_end ps (right IsFine (parts c) (all_parts cs) f.1))
+        pair_reads d e (reads p (left IsFine (parts c) (all_parts cs) f.1)) (all_end ps (right IsFine (parts c) (all_parts cs) f.1))
 
     all_end : {cs : PlainCores} {e : PlainDatum} → SpellsAll names cs e → Fine (all_parts cs) → CanEnd e
     all_end s.no_more f = nil_ends
-    all_end (s.more {c} {cs} {d} {e} p ps) f = pair_ends {d} {e} (reads p (left IsFine (parts c) (all_parts cs) f)) (all_end ps (right IsFine (parts c) (all_parts cs) f))
+    all_end (s.more {c} {cs} {d} {e} p ps) f = pair_ends d e (reads p (left IsFine (parts c) (all_parts cs) f)) (all_end ps (right IsFine (parts c) (all_parts cs) f))
 
     cases_end : {cs : PlainCases} {e : PlainDatum} → SpellsCases names cs e → Fine (case_parts cs) → CanEnd e
     cases_end s.no_case f = nil_ends
-    cases_end (s.case {k} {c} {cs} {d} {e} {g} fs p ps) f =
-        pair_ends {two d e} {g} (two_read {d} {e} (formals_read fs) (reads p (left IsFine (parts c) (case_parts cs) f))) (cases_end ps (right IsFine (parts c) (case_parts cs) f))
+    cases_end (s.case {f = k} {c} {cs} {d} {e} {g} fs p ps) f =
+        pair_ends (two d e) g (two_read d e (formals_read fs) (reads p (left IsFine (parts c) (case_parts cs) f))) (cases_end ps (right IsFine (parts c) (case_parts cs) f))
 
     inits_end : {is : PlainInits} {e : PlainDatum} → SpellsInits names is e → Fine (init_parts is) → CanEnd e
     inits_end s.no_init f = nil_ends
     inits_end (s.init {l} {x} {c} {is} {d} {e} h p ps) f =
-        pair_ends {two (word x) d} {e} (two_read {word x} {d} (called_reads {l} {x} h) (reads p (left IsFine (parts c) (init_parts is) f))) (inits_end ps (right IsFine (parts c) (init_parts is) f))
+        pair_ends (two (word x) d) e (two_read (word x) d (called_reads l x h) (reads p (left IsFine (parts c) (init_parts is) f))) (inits_end ps (right IsFine (parts c) (init_parts is) f))
 
     inits_read : {is : PlainInits} {e : PlainDatum} → SpellsInits names is e → Fine (init_parts is) → CanBeRead e
     inits_read s.no_init f = nil_reads
     inits_read (s.init {l} {x} {c} {is} {d} {e} h p ps) f =
-        pair_reads {two (word x) d} {e} (two_read {word x} {d} (called_reads {l} {x} h) (reads p (left IsFine (parts c) (init_parts is) f))) (inits_end ps (right IsFine (parts c) (init_parts is) f))
+        pair_reads (two (word x) d) e (two_read (word x) d (called_reads l x h) (reads p (left IsFine (parts c) (init_parts is) f))) (inits_end ps (right IsFine (parts c) (init_parts is) f))
 
   line_reads : {l : Line} {d : PlainDatum} → SpellsLine names l d → Fine (parts (line_core l)) → CanBeRead d
-  line_reads (definition {l} {x} {c} {d} h p) f = form_reads {codes "define"} {two (word x) d} define_name (two_end {word x} {d} (called_reads {l} {x} h) (reads p f))
+  line_reads (definition {l} {x} {c} {d} h p) f = form_reads (codes "define") (two (word x) d) define_name (two_end (word x) d (called_reads l x h) (reads p f))
   line_reads (expression p) f = reads p f
 
   pub lines_read : {ls : List Line} {ds : List PlainDatum} → SpellLines names ls ds → Each (λ l. Each CanBeRead (constants (line_core l))) ls → Each CanBeRead ds

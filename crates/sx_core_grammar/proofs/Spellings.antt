@@ -68,13 +68,13 @@ module _ (names : Names) where
     lambda_spelling core.no_case = nil
     lambda_spelling (core.case f c cs) = two (formals_spelling f.required f.rest) (spelling c)
 
-  called_word : {l : Label} {x : List ℕ} → IsCalled names l x → word x ≡ word (name_of names l)
-  called_word {l} {x} h = ap word (sym (called_is names l x h))
+  called_word : (l : Label) (x : List ℕ) → IsCalled names l x → word x ≡ word (name_of names l)
+  called_word l x h = ap word (sym (called_is names l x h))
 
   formals_only : {ls : List Label} {r : Option Label} {e : PlainDatum} → SpellsFormals names ls r e → e ≡ formals_spelling ls r
   formals_only no_rest = refl
-  formals_only (rest h) = called_word h
-  formals_only (required h others) = λ i. before (called_word h i) (formals_only others i)
+  formals_only (rest {l} {x} h) = called_word l x h
+  formals_only (required {l} {x} h others) = λ i. before (called_word l x h i) (formals_only others i)
 
   either_true : (b : Bool) (d e : PlainDatum) → b ≡ true → d ≡ (if b then d else e)
   either_true true d e h = refl
@@ -88,11 +88,11 @@ module _ (names : Names) where
     only : {c : PlainCore} {d : PlainDatum} → Spells names c d → d ≡ spelling c
     only (s.constant d h) = either_true (is_itself d) (unspanned d) (form (codes "quote") (one (unspanned d))) h
     only (s.quotation d h) = either_false (is_itself d) (unspanned d) (form (codes "quote") (one (unspanned d))) h
-    only (s.reference h) = called_word h
+    only (s.reference {l} {x} h) = called_word l x h
     only (s.primitive o h) = refl
     only (s.one_armed p q) = λ i. form (codes "if") (two (only p i) (only q i))
     only (s.two_armed p q r) = λ i. form (codes "if") (three (only p i) (only q i) (only r i))
-    only (s.assignment h p) = λ i. form (codes "set!") (two (called_word h i) (only p i))
+    only (s.assignment {l} {x} h p) = λ i. form (codes "set!") (two (called_word l x h i) (only p i))
     only (s.sequence p ps) = λ i. form (codes "begin") (before (only p i) (all_only ps i))
     only (s.lambda n fs p) = λ i. form (codes "lambda") (two (formals_only fs i) (only p i))
     only (s.case_lambda n ps) = λ i. form (codes "case-lambda") (cases_only ps i)
@@ -105,7 +105,7 @@ module _ (names : Names) where
 
     inits_only : {is : PlainInits} {e : PlainDatum} → SpellsInits names is e → e ≡ inits_spelling is
     inits_only s.no_init = refl
-    inits_only (s.init h p ps) = λ i. before (two (called_word h i) (only p i)) (inits_only ps i)
+    inits_only (s.init {l} {x} h p ps) = λ i. before (two (called_word l x h i) (only p i)) (inits_only ps i)
 
     cases_only : {cs : PlainCases} {e : PlainDatum} → SpellsCases names cs e → e ≡ cases_spelling cs
     cases_only s.no_case = refl
@@ -156,13 +156,13 @@ module _ (names : Names) where
   asked_inside : (bs ms : List Label) (p : PlainCore) (ps : List PlainCore) (k : Checked) → Asked bs ms (p ∷ ps) k → Asked bs ms ps k
   asked_inside bs ms p ps k h = record { binds = h.binds; says = h.says; formed = h.formed.1; named = h.named.1; clean = h.clean }
 
-  called : {l : Label} → HasName names l → IsCalled names l (name_of names l)
-  called {l} h = h.1 ∙ ap Some (sym (called_is names l h.0 h.1))
+  called : (l : Label) → HasName names l → IsCalled names l (name_of names l)
+  called l h = h.1 ∙ ap Some (sym (called_is names l h.0 h.1))
 
   spells_formals : (ls : List Label) (r : Option Label) → Each (HasName names) (ls ++ rest_labels r) → SpellsFormals names ls r (formals_spelling names ls r)
   spells_formals [] None h = no_rest
-  spells_formals [] (Some l) h = rest (called h.0)
-  spells_formals (l ∷ ls) r h = required (called h.0) (spells_formals ls r h.1)
+  spells_formals [] (Some l) h = rest (called l h.0)
+  spells_formals (l ∷ ls) r h = required (called l h.0) (spells_formals ls r h.1)
 
   abbrev AskedCore : PlainCore → Type 0
   AskedCore c = Asked (binders c) (mentions c) (parts c) (checked c)
@@ -182,13 +182,13 @@ module _ (names : Names) where
   not_written e = cc
 
   -- without the first bound labels
-  asked_behind : (as bs ms : List Label) (ps : List PlainCore) (k : Checked) → Asked (as ++ bs) ms ps k → Asked bs ms ps k
-  asked_behind as bs ms ps k h = record { binds = right (HasName names) as bs h.binds; says = h.says; formed = h.formed; named = h.named; clean = h.clean }
+  asked_behind : (fs bs ms : List Label) (ps : List PlainCore) (k : Checked) → Asked (fs ++ bs) ms ps k → Asked bs ms ps k
+  asked_behind fs bs ms ps k h = record { binds = right (HasName names) fs bs h.binds; says = h.says; formed = h.formed; named = h.named; clean = h.clean }
 
   mutual
     spells : (c : PlainCore) → AskedCore c → Spells names c (spelling names c)
     spells (core.quoted d) h = constant_is d (is_itself d) refl
-    spells (core.variable l) h = s.reference (called h.says.0)
+    spells (core.variable l) h = s.reference (called l h.says.0)
     spells (core.primitive o) h = s.primitive o h.named.0.0
     spells (core.one_armed t c) h =
         let k = asked_inside (binders t ++ binders c) (mentions t ++ mentions c) (core.one_armed t c) (parts t ++ parts c) (checked (core.one_armed t c)) h in
@@ -203,7 +203,7 @@ module _ (names : Names) where
         (spells c (asked_left (binders c) (binders e) (mentions c) (mentions e) (parts c) (parts e) (checked c) (checked e) j))
         (spells e (asked_right (binders c) (binders e) (mentions c) (mentions e) (parts c) (parts e) (checked c) (checked e) j))
     spells (core.assignment l c) h =
-        s.assignment (called h.says.0) (spells c (record { binds = h.binds; says = h.says.1; formed = h.formed.1; named = h.named.1; clean = h.clean }))
+        s.assignment (called l h.says.0) (spells c (record { binds = h.binds; says = h.says.1; formed = h.formed.1; named = h.named.1; clean = h.clean }))
     spells (core.sequence core.none) h = absurd (omega (arith, h.formed.0))
     spells (core.sequence (core.more c cs)) h =
         let k = asked_inside (all_binders (core.more c cs)) (all_mentions (core.more c cs)) (core.sequence (core.more c cs)) (all_parts (core.more c cs)) (all_checked (core.more c cs)) h in
@@ -229,7 +229,7 @@ module _ (names : Names) where
     spells_inits core.no_init h = s.no_init
     spells_inits (core.init l c is) h =
         let k = asked_behind (l ∷ []) (binders c ++ init_binders is) (mentions c ++ init_mentions is) (parts c ++ init_parts is) (checked c >>= λ _. inits_checked is) h in
-        s.init (called h.binds.0)
+        s.init (called l h.binds.0)
         (spells c (asked_left (binders c) (init_binders is) (mentions c) (init_mentions is) (parts c) (init_parts is) (checked c) (inits_checked is) k))
         (spells_inits is (asked_right (binders c) (init_binders is) (mentions c) (init_mentions is) (parts c) (init_parts is) (checked c) (inits_checked is) k))
 
@@ -259,5 +259,5 @@ code_is_spelled names c k h = (spelling names c, spells names c (asked_of names 
 
 pub lines_are_spelled : LinesAreSpelled
 lines_are_spelled names (line.Define l c) k h =
-    (form (codes "define") (two (word (name_of names l)) (spelling names c)), definition (called names h.defined.0) (spells names c (asked_of names c k h.code)))
+    (form (codes "define") (two (word (name_of names l)) (spelling names c)), definition (called names l h.defined.0) (spells names c (asked_of names c k h.code)))
 lines_are_spelled names (line.Expr c) k h = (spelling names c, expression (spells names c (asked_of names c k h.code)))

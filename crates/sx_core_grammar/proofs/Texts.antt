@@ -129,20 +129,20 @@ report_is : (o : ℕ) → o < name_count → report_name o ≡ op_text o
 report_is o h = rw (named_below o h) refl
 
 module _ (names : Names) (good : AreGenerated names) where
-  called : {l : Label} {x : List ℕ} → IsCalled names l x → name_of names l ≡ symbol_text x
-  called {l} {x} h = called_text names good l x h
+  called : (l : Label) (x : List ℕ) → IsCalled names l x → name_of names l ≡ symbol_text x
+  called l x h = called_text names good l x h
 
   formals_rest : {ls : List Label} {r : Option Label} {e : PlainDatum} → SpellsFormals names ls r e → further_names names ls ++ rest_name names r ≡ rest_text e
   formals_rest no_rest = refl
-  formals_rest (rest h) = ap dotted_text (called h)
+  formals_rest (rest {l} {x} h) = ap dotted_text (called l x h)
   formals_rest (required {l} {x} {ls} {r} {e} h others) =
-      ap (λ w. 0x20 ∷ w) (append_assoc (name_of names l) (further_names names ls) (rest_name names r) ∙ (λ i. called h i ++ formals_rest others i))
+      ap (λ w. 0x20 ∷ w) (append_assoc (name_of names l) (further_names names ls) (rest_name names r) ∙ (λ i. called l x h i ++ formals_rest others i))
 
   formals_text_is : {ls : List Label} {r : Option Label} {e : PlainDatum} → SpellsFormals names ls r e → formals_of names ls r ≡ datum_text e
   formals_text_is no_rest = refl
-  formals_text_is (rest h) = called h
+  formals_text_is (rest {l} {x} h) = called l x h
   formals_text_is (required {l} {x} {ls} {r} {e} h others) =
-      ap (λ w. 0x28 ∷ (w ++ 0x29 ∷ [])) (append_assoc (name_of names l) (further_names names ls) (rest_name names r) ∙ (λ i. called h i ++ formals_rest others i))
+      ap (λ w. 0x28 ∷ (w ++ 0x29 ∷ [])) (append_assoc (name_of names l) (further_names names ls) (rest_name names r) ∙ (λ i. called l x h i ++ formals_rest others i))
 
   mutual
     spelled_text : {c : PlainCore} {d : PlainDatum} → Spells names c d → text names c ≡ datum_text d
@@ -150,17 +150,17 @@ module _ (names : Names) (good : AreGenerated names) where
     spelled_text (s.quotation d h) =
         other_text d h ∙ (λ i. quote_text (sym (unspanned_text d) i)) ∙ ap (λ w. codes "(quote " ++ w) (one_part (datum_text (unspanned d)))
         ∙ sym (form_text (codes "quote") (one (unspanned d)) quote_is)
-    spelled_text (s.reference h) = called h
+    spelled_text (s.reference {l} {x} h) = called l x h
     spelled_text (s.primitive o h) = report_is o.0 h.0 ∙ sym (plain_text (op_text o.0) ((primitive_free o.0 h).plain))
     spelled_text (s.one_armed {t} {c} {d} {e} p q) =
         (λ i. codes "(if " ++ spelled_text p i ++ codes " " ++ spelled_text q i ++ codes ")") ∙ ap (λ w. codes "(if " ++ w) (two_parts (datum_text d) (datum_text e))
         ∙ sym (form_text (codes "if") (two d e) if_is)
-    spelled_text (s.two_armed {t} {c} {b} {d} {e} {f} p q r) =
+    spelled_text (s.two_armed {t} {c} {d} {e} {f} p q r) =
         (λ i. codes "(if " ++ spelled_text p i ++ codes " " ++ spelled_text q i ++ codes " " ++ spelled_text r i ++ codes ")")
         ∙ ap (λ w. codes "(if " ++ w) (three_parts (datum_text d) (datum_text e) (datum_text f))
         ∙ sym (form_text (codes "if") (three d e f) if_is)
     spelled_text (s.assignment {l} {x} {c} {d} h p) =
-        (λ i. codes "(set! " ++ called h i ++ codes " " ++ spelled_text p i ++ codes ")") ∙ ap (λ w. codes "(set! " ++ w) (two_parts (symbol_text x) (datum_text d))
+        (λ i. codes "(set! " ++ called l x h i ++ codes " " ++ spelled_text p i ++ codes ")") ∙ ap (λ w. codes "(set! " ++ w) (two_parts (symbol_text x) (datum_text d))
         ∙ sym (form_text (codes "set!") (two (word x) d) set_is)
     spelled_text (s.sequence {c} {cs} {d} {e} p ps) =
         (λ i. codes "(begin " ++ (spelled_text p i ++ all_text ps i) ++ codes ")") ∙ sym (form_text (codes "begin") (before d e) begin_is)
@@ -194,20 +194,20 @@ module _ (names : Names) (good : AreGenerated names) where
     inits_rest : {is : PlainInits} {e : PlainDatum} → SpellsInits names is e → further_inits names is ≡ rest_text e
     inits_rest s.no_init = refl
     inits_rest (s.init {l} {x} {c} {is} {d} {e} h p ps) =
-        (λ i. codes " (" ++ called h i ++ codes " " ++ spelled_text p i ++ codes ")" ++ inits_rest ps i)
+        (λ i. codes " (" ++ called l x h i ++ codes " " ++ spelled_text p i ++ codes ")" ++ inits_rest ps i)
         ∙ ap (λ w. codes " (" ++ w) (case_parts (symbol_text x) (datum_text d) (rest_text e))
 
     inits_datum : {is : PlainInits} {e : PlainDatum} → SpellsInits names is e → datum_text e ≡ 0x28 ∷ (inits_text names is ++ 0x29 ∷ [])
     inits_datum s.no_init = refl
     inits_datum (s.init {l} {x} {c} {is} {d} {e} h p ps) =
         ap (λ w. 0x28 ∷ (w ++ 0x29 ∷ []))
-        (sym ((λ i. codes "(" ++ called h i ++ codes " " ++ spelled_text p i ++ codes ")" ++ inits_rest ps i)
+        (sym ((λ i. codes "(" ++ called l x h i ++ codes " " ++ spelled_text p i ++ codes ")" ++ inits_rest ps i)
             ∙ ap (λ w. codes "(" ++ w) (case_parts (symbol_text x) (datum_text d) (rest_text e))))
 
   spelled_line : {l : Line} {d : PlainDatum} → SpellsLine names l d → line_text names l ≡ datum_text d ++ codes "\n"
   spelled_line (expression p) = λ i. spelled_text p i ++ codes "\n"
   spelled_line (definition {l} {x} {c} {d} h p) =
-      (λ i. codes "(define " ++ called h i ++ codes " " ++ spelled_text p i ++ codes ")\n")
+      (λ i. codes "(define " ++ called l x h i ++ codes " " ++ spelled_text p i ++ codes ")\n")
       ∙ ap (λ w. codes "(define " ++ w) (define_parts (symbol_text x) (datum_text d))
       ∙ (λ i. sym (form_text (codes "define") (two (word x) d) define_is) i ++ codes "\n")
 

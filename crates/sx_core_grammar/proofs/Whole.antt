@@ -112,9 +112,9 @@ import_text = λ i. import_of (import_is i) (rnrs_is i)
 
 import_reads : CanBeRead import_form
 import_reads =
-    let name : CanBeRead (word (codes "rnrs")) = word_reads {codes "rnrs"} (plain_name (codes "rnrs") refl) in
-    let inner : CanBeRead (one (word (codes "rnrs"))) = pair_reads {word (codes "rnrs")} {nil} name (0, tt) in
-    form_reads {codes "import"} {one (one (word (codes "rnrs")))} (plain_name (codes "import") refl) (one_ends {one (word (codes "rnrs"))} inner)
+    let name : CanBeRead (word (codes "rnrs")) = word_reads (codes "rnrs") (plain_name (codes "rnrs") refl) in
+    let inner : CanBeRead (one (word (codes "rnrs"))) = pair_reads (word (codes "rnrs")) nil name (0, tt) in
+    form_reads (codes "import") (one (one (word (codes "rnrs")))) (plain_name (codes "import") refl) (one_ends (one (word (codes "rnrs"))) inner)
 
 -- where enough forms may be nested
 record IsEnough (ds : List PlainDatum) : Type 0 where
@@ -182,7 +182,7 @@ lines_told : (names others : Names) → AreGenerated names → AreGenerated othe
 lines_told names others good fine no_line no_line e = refl
 lines_told names others good fine no_line (further q qs) e = absurd (cc)
 lines_told names others good fine (further p ps) no_line e = absurd (cc)
-lines_told names others good fine (further {k} {ks} {d} {ds} p ps) (further {l} {ls} {c} {cs} q qs) e =
+lines_told names others good fine (further {l = k} {ls = ks} {d} {ds} p ps) (further {l} {ls} {d = c} {ds = cs} q qs) e =
     let same = data_parts d c ds cs e in
     let first = one_line_by_names names others k l c good fine (subst (λ x. SpellsLine names k x) same.0 p) q in
     let behind = lines_told names others good fine ps qs same.1 in
