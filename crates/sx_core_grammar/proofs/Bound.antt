@@ -15,12 +15,12 @@ use Rattle.sx_core_laws.specs.Words.{Each, Among, Once}
 use Rattle.sx_core_laws.proofs.Decisions.{label_decides}
 use Rattle.sx_core_text.specs.CoreText.{Names}
 use Rattle.sx_core_text.specs.Naming.{with_index, with_name, with_names}
-use Rattle.sx_core_text.specs.Whole.{named_by, plan_names, all_names}
+use Rattle.sx_core_text.specs.Whole.{named_by, plan_names}
 use Rattle.sx_name_laws.specs.Variable.{Variable, IsVariable}
 use Rattle.sx_name_laws.specs.Variable as variables
 use Rattle.sx_name_laws.proofs.Telling.{names_tell}
 use Rattle.sx_core_grammar.specs.Names.{IsCalled, IsGenerated, AreGenerated, TellApart}
-use Rattle.sx_core_grammar.specs.Bound.{Bound, bound_by, bound_in, record_bindings, all_bindings, all_bound, place, NamesAreGenerated, NamesTellApart}
+use Rattle.sx_core_grammar.specs.Bound.{Bound, bound_by, bound_in, record_bindings, all_bindings, place, NamesAreGenerated, NamesTellApart}
 
 -- one list of bindings after the other
 names_append : (names : Names) (bs cs : List (Label × Binding)) → with_names names (bs ++ cs) ≡ with_names (with_names names bs) cs
@@ -66,10 +66,12 @@ inserted (r ∷ rs) k y l x e = by_row (same_label k r.0) refl (λ f. inserted r
       → ((k ≡ l) × (y ≡ x)) ⊎ ((if b then Some r.1 else lookup (same_label l) rs) ≡ Some x)
   behind true same is f = inl (is ∙ sym ((label_decides l r.0).0 same), some_same y x f)
   behind false same is f = inr f
+
   beside : (b : Bool) → (lookup (same_label l) (insert_entry same_label rs k y) ≡ Some x → ((k ≡ l) × (y ≡ x)) ⊎ (lookup (same_label l) rs ≡ Some x))
       → (if b then Some r.1 else lookup (same_label l) (insert_entry same_label rs k y)) ≡ Some x → ((k ≡ l) × (y ≡ x)) ⊎ ((if b then Some r.1 else lookup (same_label l) rs) ≡ Some x)
   beside true others f = inr f
   beside false others f = others f
+
   by_row : (b : Bool) → same_label k r.0 ≡ b → (lookup (same_label l) (insert_entry same_label rs k y) ≡ Some x → ((k ≡ l) × (y ≡ x)) ⊎ (lookup (same_label l) rs ≡ Some x))
       → lookup (same_label l) (if b then (r.0, y) ∷ rs else r ∷ insert_entry same_label rs k y) ≡ Some x
       → ((k ≡ l) × (y ≡ x)) ⊎ (lookup (same_label l) (r ∷ rs) ≡ Some x)

@@ -13,7 +13,6 @@ use Rattle.sx_base.specs.Op.{name_count, is_keyword, op_text, op_named}
 use Rattle.sx_base.specs.OpNames.{op_names}
 use Rattle.sx_base.specs.declared.name.Label.{Label}
 use Rattle.sx_core.specs.Labels.{same_label}
-use Rattle.sx_core_laws.specs.Words.{Each}
 use Rattle.sx_core_text.specs.CoreText.{Names, name_of}
 use Rattle.sx_names.specs.Generated.{name_part, library_text}
 use Rattle.sx_name_laws.specs.Variable.{Variable, IsVariable}

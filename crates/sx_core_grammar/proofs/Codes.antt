@@ -22,9 +22,9 @@ use Rattle.sx_core_grammar.specs.Spells.{word, before, form, one, two, is_itself
 use Rattle.sx_core_grammar.specs.Spells as s
 use Rattle.sx_core_grammar.specs.Spells.{Spells, SpellsAll, SpellsInits, SpellsCases}
 use Rattle.sx_core_grammar.specs.Lines.{SpellsLine, definition, expression}
-use Rattle.sx_core_grammar.specs.SameCode.{any_number, told_formals, told, all_told, inits_told, cases_told, line_told, label_called, by_names, line_by_names, bare, bare_line}
+use Rattle.sx_core_grammar.specs.SameCode.{any_number, told_formals, told, all_told, inits_told, cases_told, line_told, label_called}
 use Rattle.sx_core_grammar.specs.Laws.{OneCodeByNames, OneLineByNames, OneCode, OneLine}
-use Rattle.sx_core_grammar.proofs.Called.{is_core_keyword, is_define, is_generated, IsFree, primitive_free, IsPercented, generated_free, generated_undefined, generated_is, called_percented, called_is}
+use Rattle.sx_core_grammar.proofs.Called.{is_core_keyword, is_define, is_generated, IsFree, primitive_free, generated_free, generated_undefined, generated_is, called_percented, called_is}
 
 -- what no datum that spells code comes to
 abbrev stray : PlainCore
@@ -327,6 +327,7 @@ module _ (names : Names) (apart : TellApart names) where
         let here : is_called names r.0 x ≡ true = ap (λ (k : Label). is_called names k x) (sym ((label_decides l r.0).0 same)) ∙ text_is x (lookup (same_label l) names) h in
         absurd (clash (is_called names r.0 x) here never)
     behind false same never f = f
+
     by_test : (b : Bool) → is_called names r.0 x ≡ b → (lookup (same_label l) rs ≡ Some y → label_among names rs x ≡ l) → (if b then r.0 else label_among names rs x) ≡ l
     by_test true t others = apart r.0 l x (is_text_is x (lookup (same_label r.0) names) t) h
     by_test false t others = others (behind (same_label l r.0) refl t e)

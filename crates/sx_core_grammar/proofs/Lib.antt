@@ -6,3 +6,4 @@ mod Codes
 mod Readable
 mod Whole
 mod Bound
+mod Examples

@@ -1,5 +1,5 @@
 -- Names whose text, as symbols, they are themselves.
-use Rattle.std.proofs.Common.{◌≡◌, ℕ, zero, suc, ◌<◌, Bool, true, false, List, [], ◌∷◌, ◌++◌, arith, refl, sym, ap, ◌∙◌}
+use Rattle.std.proofs.Common.{◌≡◌, ℕ, zero, suc, ◌<◌, Bool, true, false, List, [], ◌∷◌, ◌++◌, arith, refl, ap, ◌∙◌}
 use Rattle.std.specs.Prelude.{◌&&◌, ◌||◌, if◌then◌else◌}
 use Rattle.std.specs.List.{list_all}
 use Rattle.std.specs.Str.{IsAscii, chars}
@@ -55,7 +55,7 @@ plain_text (b ∷ bs) h =
     by_either (is_peculiar (b ∷ bs)) (subsequents_text (chars (b ∷ bs))) (name_text (chars (b ∷ bs))) (b ∷ bs)
     (λ e. ap subsequents_text are ∙ all_themselves (b ∷ bs) both.0)
     (λ e. ap name_text are ∙ ap (λ (w : List ℕ). w ++ subsequents_text bs) (first_itself b (left_of (is_initial b) (is_peculiar (b ∷ bs)) both.1 e))
-        ∙ ap (λ (w : List ℕ). b ∷ w) (all_themselves bs others))
+    ∙ ap (λ (w : List ℕ). b ∷ w) (all_themselves bs others))
 
 pub plain_name : (x : List ℕ) → is_plain_name x ≡ true → IsName x
 plain_name [] h = absurd (cc)

@@ -1,19 +1,18 @@
 -- A spelling can be read where the constants of its code can be, and it has no spans.
-use Rattle.std.proofs.Common.{◌≡◌, ℕ, zero, suc, ◌+◌, ◌≤◌, Bool, true, false, List, [], ◌∷◌, ◌++◌, map, arith, refl, sym, ap, ◌∙◌, Option, Some, None}
+use Rattle.std.proofs.Common.{◌≡◌, ℕ, zero, suc, ◌+◌, Bool, true, false, List, [], ◌∷◌, ◌++◌, map, arith, refl, Option, None}
 use Rattle.std.specs.Prelude.{codes}
 use Rattle.sx_base.specs.Datum as datum
 use Rattle.sx_base.specs.Datum.{PlainDatum, nil, unspanned}
 use Rattle.sx_base.specs.Op.{op_text}
 use Rattle.sx_base.specs.declared.atom.Atom.TheVariants as a
 use Rattle.sx_base.specs.declared.name.Label.{Label}
-use Rattle.sx_core.specs.Core as core
 use Rattle.sx_core.specs.Core.{PlainCore, PlainCores, PlainInits, PlainCases}
 use Rattle.sx_core.specs.declared.record.Line.{Line}
 use Rattle.sx_core_laws.specs.Words.{Each}
 use Rattle.sx_core_laws.specs.Parts.{parts, all_parts, init_parts, case_parts}
 use Rattle.sx_core_laws.specs.Records.{line_core}
 use Rattle.sx_core_text.specs.CoreText.{Names}
-use Rattle.sx_round.specs.Readable.{inside, IsReadable, IsRest, AreElements, IsName}
+use Rattle.sx_round.specs.Readable.{IsReadable, IsRest, AreElements, IsName}
 use Rattle.sx_round.proofs.Reading.{more, rest_more}
 use Rattle.sx_core_grammar.specs.Names.{IsCalled, AreGenerated}
 use Rattle.sx_core_grammar.specs.Spells.{word, before, form, one, two, three, letrec_keyword, SpellsFormals, no_rest, rest, required}

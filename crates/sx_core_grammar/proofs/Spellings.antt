@@ -1,8 +1,7 @@
 -- The spelling of core code: it is one, and there is no other.
-use Rattle.std.proofs.Common.{◌≡◌, ℕ, zero, suc, Bool, true, false, List, [], ◌∷◌, ◌++◌, arith, refl, sym, ap, ◌∙◌, Option, Some, None, Result, Ok, Err}
-use Rattle.std.specs.Prelude.{codes, if◌then◌else◌, unwrap_or}
+use Rattle.std.proofs.Common.{◌≡◌, ℕ, Bool, true, false, List, [], ◌∷◌, ◌++◌, arith, refl, sym, ap, ◌∙◌, Option, Some, None, Ok, Err}
+use Rattle.std.specs.Prelude.{codes, if◌then◌else◌}
 use Rattle.std.specs.List.{flat_map}
-use Rattle.std.specs.Map.{lookup}
 use Rattle.sx_base.specs.Gives.{◌>>=◌}
 use Rattle.sx_base.specs.Datum.{PlainDatum, nil, unspanned}
 use Rattle.sx_base.specs.Op.{op_text}
@@ -11,21 +10,19 @@ use Rattle.sx_base.specs.declared.name.CodeNo.{CodeNo}
 use Rattle.sx_base.specs.declared.name.Label.{Label}
 use Rattle.sx_core.specs.Core as core
 use Rattle.sx_core.specs.Core.{PlainCore, PlainCores, PlainInits, PlainCases}
-use Rattle.sx_core.specs.Labels.{same_label}
 use Rattle.sx_core.specs.References.{rest_labels, formals_labels, binders, all_binders, init_binders, case_binders, mentions, all_mentions, init_mentions, case_mentions}
-use Rattle.sx_core.specs.declared.record.Line.{Line}
 use Rattle.sx_core.specs.declared.record.Line.TheVariants as line
 use Rattle.sx_core_laws.specs.Words.{Each}
 use Rattle.sx_core_laws.specs.Parts.{parts, all_parts, init_parts, case_parts, own_op, case_count}
 use Rattle.sx_core_laws.specs.WellMade.{HasForm}
 use Rattle.sx_core_text.specs.CoreText.{Names, name_of}
-use Rattle.sx_core_text.specs.Syntax.{Checked, written, checked, all_checked, inits_checked, cases_checked, line_checked}
+use Rattle.sx_core_text.specs.Syntax.{Checked, written, checked, all_checked, inits_checked, cases_checked}
 use Rattle.sx_core_grammar.specs.Names.{IsCalled, IsPrimitive}
 use Rattle.sx_core_grammar.specs.Spells.{word, before, form, one, two, three, is_itself, letrec_keyword, SpellsFormals, no_rest, rest, required}
 use Rattle.sx_core_grammar.specs.Spells as s
 use Rattle.sx_core_grammar.specs.Spells.{Spells, SpellsAll, SpellsInits, SpellsCases}
-use Rattle.sx_core_grammar.specs.Lines.{SpellsLine, definition, expression}
-use Rattle.sx_core_grammar.specs.Spellable.{HasName, IsSpellable, IsLineSpellable}
+use Rattle.sx_core_grammar.specs.Lines.{definition, expression}
+use Rattle.sx_core_grammar.specs.Spellable.{HasName, IsSpellable}
 use Rattle.sx_core_grammar.specs.Laws.{OneSpelling, CodeIsSpelled, LinesAreSpelled}
 use Rattle.sx_core_grammar.proofs.Called.{called_is}
 

@@ -1,5 +1,5 @@
 -- The text of core code is that of the datum that spells it.
-use Rattle.std.proofs.Common.{◌≡◌, ℕ, Bool, true, false, List, [], ◌∷◌, ◌++◌, refl, sym, ap, ◌∙◌, append_assoc, Option, Some, None}
+use Rattle.std.proofs.Common.{◌≡◌, ℕ, true, false, List, [], ◌∷◌, ◌++◌, refl, sym, ap, ◌∙◌, append_assoc, Option}
 use Rattle.std.proofs.lemmas.List.{append-nil}
 use Rattle.std.specs.Prelude.{codes}
 use Rattle.sx_base.specs.Datum as datum
@@ -7,7 +7,6 @@ use Rattle.sx_base.specs.Datum.{PlainDatum, nil, unspanned}
 use Rattle.sx_base.specs.Op.{op_text, name_count}
 use Rattle.sx_base.specs.declared.atom.Atom.TheVariants as a
 use Rattle.sx_base.specs.declared.name.Label.{Label}
-use Rattle.sx_core.specs.Core as core
 use Rattle.sx_core.specs.Core.{PlainCore, PlainCores, PlainInits, PlainCases}
 use Rattle.sx_core.specs.declared.record.Line.{Line}
 use Rattle.sx_core_text.specs.CoreText.{Names, name_of, report_name, quote_text, quoted_text, further_names, rest_name, formals_of, text, further_text, inits_text, further_inits, cases_text, line_text}
@@ -16,7 +15,7 @@ use Rattle.sx_printer.specs.Symbols.{symbol_text}
 use Rattle.std.proofs.lemmas.Bool.Decides.{nat_tests}
 use Rattle.std.proofs.Common.{arith, ◌<◌}
 use Rattle.std.specs.Prelude.{nat_lt}
-use Rattle.sx_core_grammar.specs.Names.{IsCalled, IsPrimitive, AreGenerated}
+use Rattle.sx_core_grammar.specs.Names.{IsCalled, AreGenerated}
 use Rattle.sx_core_grammar.specs.Spells.{word, before, form, one, two, three, is_itself, SpellsFormals, no_rest, rest, required}
 use Rattle.sx_core_grammar.specs.Spells as s
 use Rattle.sx_core_grammar.specs.Spells.{Spells, SpellsAll, SpellsInits, SpellsCases}
@@ -202,7 +201,7 @@ module _ (names : Names) (good : AreGenerated names) where
     inits_datum (s.init {l} {x} {c} {is} {d} {e} h p ps) =
         ap (λ w. 0x28 ∷ (w ++ 0x29 ∷ []))
         (sym ((λ i. codes "(" ++ called l x h i ++ codes " " ++ spelled_text p i ++ codes ")" ++ inits_rest ps i)
-            ∙ ap (λ w. codes "(" ++ w) (case_parts (symbol_text x) (datum_text d) (rest_text e))))
+        ∙ ap (λ w. codes "(" ++ w) (case_parts (symbol_text x) (datum_text d) (rest_text e))))
 
   spelled_line : {l : Line} {d : PlainDatum} → SpellsLine names l d → line_text names l ≡ datum_text d ++ codes "\n"
   spelled_line (expression p) = λ i. spelled_text p i ++ codes "\n"

@@ -8,10 +8,9 @@ use Rattle.sx_base.specs.declared.fault.Fault.{Fault}
 use Rattle.sx_core.specs.declared.record.LibRecord.{LibRecord}
 use Rattle.sx_core.specs.declared.record.Line.{Line}
 use Rattle.sx_core_laws.specs.Words.{Each}
-use Rattle.sx_core_laws.specs.Records.{line_core}
 use Rattle.sx_core_text.specs.CoreText.{Names, line_text, lines_text}
 use Rattle.sx_core_text.specs.Syntax.{Checked, written, line_checked, lines_checked}
-use Rattle.sx_core_text.specs.Whole.{record_checked, plan_checked, record_text, plan_text, all_names, all_text, core_text}
+use Rattle.sx_core_text.specs.Whole.{record_checked, plan_checked, record_text, plan_text, all_names, all_text}
 use Rattle.sx_printer.specs.DatumText.{datum_text}
 use Rattle.sx_printer.specs.Symbols.{symbol_text}
 use Rattle.sx_reader.specs.Read.{data_of}
@@ -22,10 +21,10 @@ use Rattle.sx_round.proofs.Reading.{more}
 use Rattle.sx_core_grammar.specs.Names.{AreGenerated}
 use Rattle.sx_core_grammar.specs.Spells.{word, one}
 use Rattle.sx_core_grammar.specs.Lines.{import_form, SpellsLine, SpellLines, no_line, further, record_lines, all_lines}
-use Rattle.sx_core_grammar.specs.Spellable.{CanBeRead, IsLineSpellable, constants}
-use Rattle.sx_core_grammar.specs.ReadBack.{IsReadAs, IsReadBack}
+use Rattle.sx_core_grammar.specs.Spellable.{CanBeRead, IsLineSpellable}
+use Rattle.sx_core_grammar.specs.ReadBack.{IsReadAs}
 use Rattle.sx_core_grammar.specs.SameCode.{line_by_names}
-use Rattle.sx_core_grammar.specs.Laws.{IsCoreText, CoreTextIsReadBack, CoreTextTellsItsLines}
+use Rattle.sx_core_grammar.specs.Laws.{CoreTextIsReadBack, CoreTextTellsItsLines}
 use Rattle.sx_core_grammar.proofs.Plain.{plain_text, plain_name}
 use Rattle.sx_core_grammar.proofs.Spellings.{lines_are_spelled}
 use Rattle.sx_core_grammar.proofs.Codes.{one_line_by_names}
@@ -169,10 +168,10 @@ core_text_back records plan program whole h =
     let q = bind_gives (lines_checked program.run) (Ok (all_text names records plan program)) whole p.1 in
     let lines = spell_lines names ls (plan_checked_is records plan program p.0 q.0) h.spellable in
     let text : whole ≡ printed.lines_text (import_form ∷ lines.ds) =
-        sym (ok_same (all_text names records plan program) whole q.1)
-        ∙ append_assoc (codes "(import (rnrs))\n") (plan_text records names plan) (lines_text names program.run)
-        ∙ ap (λ w. codes "(import (rnrs))\n" ++ w) (plan_text_is records names plan program ∙ spelled_text names h.generated lines.spelled)
-        ∙ (λ i. (sym import_text i ++ codes "\n") ++ printed.lines_text lines.ds) in
+    sym (ok_same (all_text names records plan program) whole q.1)
+    ∙ append_assoc (codes "(import (rnrs))\n") (plan_text records names plan) (lines_text names program.run)
+    ∙ ap (λ w. codes "(import (rnrs))\n" ++ w) (plan_text_is records names plan program ∙ spelled_text names h.generated lines.spelled)
+    ∙ (λ i. (sym import_text i ++ codes "\n") ++ printed.lines_text lines.ds) in
     let most = enough_for (import_form ∷ lines.ds) (import_reads, lines_read names h.generated lines.spelled h.readable) in
     record { enough = most.enough; read = λ file nesting l. read_as names ls lines.ds file whole nesting h.generated lines.spelled text (most.read nesting l) }
 

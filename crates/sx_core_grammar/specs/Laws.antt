@@ -12,7 +12,7 @@ use Rattle.sx_core_text.specs.Whole.{all_names, core_text}
 use Rattle.sx_printer.specs.DatumText.{datum_text}
 use Rattle.sx_core_grammar.specs.Names.{AreGenerated, TellApart}
 use Rattle.sx_core_grammar.specs.Spells.{Spells}
-use Rattle.sx_core_grammar.specs.Lines.{SpellsLine, SpellLines, all_lines}
+use Rattle.sx_core_grammar.specs.Lines.{SpellsLine, all_lines}
 use Rattle.sx_core_grammar.specs.SameCode.{by_names, line_by_names, bare, bare_line}
 use Rattle.sx_core_grammar.specs.Spellable.{IsSpellable, IsLineSpellable, CanBeRead, constants}
 use Rattle.sx_core_grammar.specs.ReadBack.{IsReadBack}

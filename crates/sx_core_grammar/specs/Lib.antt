@@ -5,4 +5,5 @@ pub mod SameCode
 pub mod Spellable
 pub mod ReadBack
 pub mod Bound
+pub mod Examples
 pub mod Laws

@@ -1,5 +1,5 @@
 -- Which names variables and primitives have in core text.
-use Rattle.std.specs.Prelude.{◌≡◌, ℕ, ◌<◌, Bool, false, List, map, Some}
+use Rattle.std.specs.Prelude.{◌≡◌, ℕ, ◌<◌, false, List, Some}
 use Rattle.std.specs.Map.{lookup}
 use Rattle.sx_base.specs.Op.{name_count, is_keyword}
 use Rattle.sx_base.specs.declared.name.Label.{Label}

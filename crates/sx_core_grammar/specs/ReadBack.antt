@@ -1,7 +1,6 @@
 -- What core text is read as.
-use Rattle.std.specs.Prelude.{◌≡◌, ℕ, ◌≤◌, List, [], ◌∷◌, map, Ok}
+use Rattle.std.specs.Prelude.{◌≡◌, ℕ, ◌≤◌, List, ◌∷◌, map, Ok}
 use Rattle.sx_base.specs.Datum.{PlainDatum, unspanned}
-use Rattle.sx_core.specs.Core.{PlainCore}
 use Rattle.sx_core.specs.declared.record.Line.{Line}
 use Rattle.sx_core_text.specs.CoreText.{Names}
 use Rattle.sx_reader.specs.Read.{data_of}

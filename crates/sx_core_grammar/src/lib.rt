@@ -1,7 +1,7 @@
 //! The grammar of core text (R6RS 9.1 and 11).
 //!
-//! The line `(define %/f/0 (lambda (%/x/1) (if %/x/1 (quote ()) 5)))` is the text of core code: a definition of the
-//! variable of one label, whose value is a procedure with one formal, and so on. `sx_core_text` writes it byte for byte
+//! The line `(define %/f/0 (lambda (%/x/1 . %/y/2) (if %/x/1 (quote ()) #t)))` is the text of core code: a definition of the
+//! variable of one label, whose value is a procedure with a formal and a rest, and so on. `sx_core_text` writes it byte for byte
 //! as its definition says. Here it is said what the line means, in the words of R6RS: a relation by cases has for
 //! each form of core code the datum that spells it.
 //!
@@ -14,6 +14,7 @@
 #![tactic(auto)]
 
 ghost use Rattle.sx_core_grammar.specs.Bound.{NamesAreGenerated, NamesTellApart};
+ghost use Rattle.sx_core_grammar.specs.Examples.{SpellingExamples};
 ghost use Rattle.sx_core_grammar.specs.Laws.{TextsAreSpellings, LineTextsAreSpellings, CodeIsSpelled, LinesAreSpelled, OneSpelling, OneCodeByNames, OneLineByNames, OneCode, OneLine, SpellingsCanBeRead, CoreTextIsReadBack, CoreTextTellsItsLines};
 
 /// Core code without forms of `syntax` and `syntax-case` whose variables have names has a spelling, and so has a line.
@@ -61,4 +62,9 @@ pub fn core_text_tells_its_lines()
 pub fn names_are_told_by_bindings()
     ensures generated { NamesAreGenerated }
     ensures apart { NamesTellApart }
+{}
+
+/// Small examples, of what is spelled and of what is not.
+pub fn examples_are_spelled()
+    ensures { SpellingExamples }
 {}
