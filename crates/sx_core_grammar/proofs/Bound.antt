@@ -31,7 +31,7 @@ named_by_is : (names : Names) (r : Option LibRecord) → named_by names r ≡ wi
 named_by_is names None = refl
 named_by_is names (Some r) = refl
 
-all_names_are : (records : List LibRecord) (plan : List ℕ) (program : LibRecord) (names : Names)
+pub all_names_are : (records : List LibRecord) (plan : List ℕ) (program : LibRecord) (names : Names)
     → with_names (plan_names records names plan) program.bindings ≡ with_names names (all_bindings records plan program)
 all_names_are records [] program names = refl
 all_names_are records (p ∷ ps) program names =

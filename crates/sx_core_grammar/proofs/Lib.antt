@@ -7,3 +7,4 @@ mod Readable
 mod Whole
 mod Bound
 mod Examples
+mod Given

@@ -11,6 +11,7 @@ use Rattle.sx_core_laws.specs.Words.{Each}
 use Rattle.sx_core_text.specs.CoreText.{Names, line_text, lines_text}
 use Rattle.sx_core_text.specs.Syntax.{Checked, written, line_checked, lines_checked}
 use Rattle.sx_core_text.specs.Whole.{record_checked, plan_checked, record_text, plan_text, all_names, all_text}
+use Rattle.sx_grammar.specs.Reads.{Reads, SpellingsAre}
 use Rattle.sx_printer.specs.DatumText.{datum_text}
 use Rattle.sx_printer.specs.Symbols.{symbol_text}
 use Rattle.sx_reader.specs.Read.{data_of}
@@ -146,9 +147,9 @@ like (f ∷ fs) d ds h =
     let p = data_parts (unspanned f) d (map unspanned fs) ds h in
     record { first = f; others = fs; same = refl; head = p.0; tail = p.1 }
 
-read_as : (names : Names) (ls : List Line) (ds : List PlainDatum) (file text : List ℕ) (nesting : ℕ) → AreGenerated names → SpellLines names ls ds
+read_as : SpellingsAre → (names : Names) (ls : List Line) (ds : List PlainDatum) (file text : List ℕ) (nesting : ℕ) → AreGenerated names → SpellLines names ls ds
     → text ≡ printed.lines_text (import_form ∷ ds) → All (IsReadable nesting) (import_form ∷ ds) → IsReadAs names ls file text nesting
-read_as names ls ds file text nesting good spelled is all =
+read_as spellings_are names ls ds file text nesting good spelled is all =
     let back = lines_back file nesting (import_form ∷ ds) all in
     let p = like back.found import_form (map unspanned ds) back.same in
     let bare : map unspanned p.others ≡ ds = p.tail ∙ lines_bare names good spelled in
@@ -156,12 +157,13 @@ read_as names ls ds file text nesting good spelled is all =
       first = p.first;
       others = p.others;
       read = ap (λ w. data_of file w nesting) is ∙ back.read ∙ ap Ok p.same;
+      reads = subst (λ es. Reads file text nesting es) p.same (subst (λ w. Reads file w nesting back.found) (sym is) ((spellings_are file (printed.lines_text (import_form ∷ ds)) nesting back.found).0 back.spelt));
       import = p.head;
       spelled = subst (λ es. SpellLines names ls es) (sym bare) spelled;
     }
 
-pub core_text_back : CoreTextIsReadBack
-core_text_back records plan program whole h =
+pub core_text_back : SpellingsAre → CoreTextIsReadBack
+core_text_back spellings_are records plan program whole h =
     let names : Names = all_names records plan program in
     let ls : List Line = all_lines records plan program in
     let p = bind_gives (plan_checked records plan) (lines_checked program.run >>= λ _. Ok (all_text names records plan program)) whole h.given in
@@ -173,7 +175,7 @@ core_text_back records plan program whole h =
     ∙ ap (λ w. codes "(import (rnrs))\n" ++ w) (plan_text_is records names plan program ∙ spelled_text names h.generated lines.spelled)
     ∙ (λ i. (sym import_text i ++ codes "\n") ++ printed.lines_text lines.ds) in
     let most = enough_for (import_form ∷ lines.ds) (import_reads, lines_read names h.generated lines.spelled h.readable) in
-    record { enough = most.enough; read = λ file nesting l. read_as names ls lines.ds file whole nesting h.generated lines.spelled text (most.read nesting l) }
+    record { enough = most.enough; read = λ file nesting l. read_as spellings_are names ls lines.ds file whole nesting h.generated lines.spelled text (most.read nesting l) }
 
 -- what the same data spell is the same by names
 lines_told : (names others : Names) → AreGenerated names → AreGenerated others → {ks ls : List Line} {ds es : List PlainDatum} → SpellLines names ks ds → SpellLines others ls es → ds ≡ es
@@ -190,10 +192,10 @@ lines_told names others good fine (further {l = k} {ls = ks} {d} {ds} p ps) (fur
 data_same : (d e : PlainDatum) (ds es : List PlainDatum) → ◌≡◌ {A = Result (List PlainDatum) Fault} (Ok (d ∷ ds)) (Ok (e ∷ es)) → ds ≡ es
 data_same d e ds es h = cc
 
-pub lines_by_text : CoreTextTellsItsLines
-lines_by_text records others plan way program other whole h k =
-    let a = core_text_back records plan program whole h in
-    let b = core_text_back others way other whole k in
+pub lines_by_text : SpellingsAre → CoreTextTellsItsLines
+lines_by_text spellings_are records others plan way program other whole h k =
+    let a = core_text_back spellings_are records plan program whole h in
+    let b = core_text_back spellings_are others way other whole k in
     let n : ℕ = a.enough + b.enough in
     let r = a.read [] n (omega arith) in
     let s = b.read [] n (omega arith) in

@@ -6,10 +6,11 @@ use Rattle.sx_base.specs.declared.name.Label.{Label}
 use Rattle.sx_core.specs.declared.binding.Binding.{Binding}
 use Rattle.sx_core.specs.declared.binding.Binding.TheVariants as binding
 use Rattle.sx_core.specs.declared.record.LibRecord.{LibRecord}
-use Rattle.sx_core_laws.specs.Words.{Each, Once}
+use Rattle.sx_core_laws.specs.Words.{Each, Among, Once}
 use Rattle.sx_core_text.specs.Whole.{all_names}
 use Rattle.sx_name_laws.specs.Variable.{Variable, IsVariable}
 use Rattle.sx_core_grammar.specs.Names.{AreGenerated, TellApart}
+use Rattle.sx_core_grammar.specs.Spellable.{HasName}
 
 -- a label, and the variable that its name tells
 pub record Bound : Type 0 where
@@ -42,6 +43,11 @@ all_bound records plan program = flat_map bound_in (all_bindings records plan pr
 -- the library and the number of a variable
 abbrev pub place : Bound → LibName × ℕ
 place b = (b.variable.library, b.variable.number)
+
+-- each variable that is bound with an index has a name
+abbrev pub BoundHaveNames : Type 0
+BoundHaveNames = (records : List LibRecord) (plan : List ℕ) (program : LibRecord) (b : Bound) → Among (all_bound records plan program) b
+    → HasName (all_names records plan program) b.label
 
 -- names are generated ones where each is of a variable, and tell variables apart where no two share library and number
 abbrev pub NamesAreGenerated : Type 0

@@ -8,14 +8,17 @@
 //! The promise: the text of core code is the text of the datum that spells it; there is one such datum; and one
 //! datum spells one code, but for the numbers of its procedures, the spans of its constants, and the labels of its
 //! variables, of which it tells the names. The core text of a program, read as a file, is `(import (rnrs))` and one
-//! datum for each line, which spells that line.
+//! datum for each line, which spells that line: the bytes spell the data by the grammar of `sx_grammar`, and the data
+//! spell core code by this one.
 //!
 //! Here are no calls to make: each function stands for the law that it ensures.
 #![tactic(auto)]
 
-ghost use Rattle.sx_core_grammar.specs.Bound.{NamesAreGenerated, NamesTellApart};
+ghost use Rattle.sx_core_grammar.specs.Bound.{BoundHaveNames, NamesAreGenerated, NamesTellApart};
 ghost use Rattle.sx_core_grammar.specs.Examples.{SpellingExamples};
 ghost use Rattle.sx_core_grammar.specs.Laws.{TextsAreSpellings, LineTextsAreSpellings, CodeIsSpelled, LinesAreSpelled, OneSpelling, OneCodeByNames, OneLineByNames, OneCode, OneLine, SpellingsCanBeRead, CoreTextIsReadBack, CoreTextTellsItsLines};
+
+use sx_grammar::spellings_are_read_by_the_grammar;
 
 /// Core code without forms of `syntax` and `syntax-case` whose variables have names has a spelling, and so has a line.
 pub fn core_code_is_spelled()
@@ -50,16 +53,21 @@ pub fn a_datum_spells_one_code()
 pub fn core_text_is_read_back()
     ensures spellings { SpellingsCanBeRead }
     ensures whole { CoreTextIsReadBack }
-{}
+{
+    spellings_are_read_by_the_grammar();
+}
 
 /// One core text is of one list of lines, but for their variables, and these have the same names.
 pub fn core_text_tells_its_lines()
     ensures { CoreTextTellsItsLines }
-{}
+{
+    spellings_are_read_by_the_grammar();
+}
 
-/// The names of a program's variables are generated ones, where each is of a variable; and they tell variables apart,
-/// where no two of them share library and number.
+/// Each variable that is bound with an index has a name. These names are generated ones, where each is of a variable; and
+/// they tell variables apart, where no two of these share library and number.
 pub fn names_are_told_by_bindings()
+    ensures given { BoundHaveNames }
     ensures generated { NamesAreGenerated }
     ensures apart { NamesTellApart }
 {}

@@ -6,4 +6,4 @@ pub returns-clause-spellings : goal.returns-clause-spellings
 returns-clause-spellings c = spellings_can_be_read
 
 pub returns-clause-whole : goal.returns-clause-whole
-returns-clause-whole c = core_text_back
+returns-clause-whole c = core_text_back c.spellings_are_read_by_the_grammar.ensures
