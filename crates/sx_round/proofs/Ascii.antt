@@ -74,12 +74,16 @@ pub gap_space : (bs file : List ℕ) (at : ℕ) → atmosphere_end file (0x20 �
 unfolding atmosphere_end
 gap_space bs file at = rw (characters-ascii 0x20 bs (omega arith)) refl
 
--- what stands behind a token in the text of a datum: nothing, a space or a close
+pub gap_newline : (bs file : List ℕ) (at : ℕ) → atmosphere_end file (0x0A ∷ bs) at ≡ Ok (at + 1)
+unfolding atmosphere_end
+gap_newline bs file at = rw (characters-ascii 0x0A bs (omega arith)) refl
+
+-- what stands behind a token in the text of a datum, or behind it on its line: nothing, a space, a close or the line's end
 abbrev pub ends : List ℕ → Bool
 ends [] = true
-ends (b ∷ bs) = b == 0x20 || b == 0x29
+ends (b ∷ bs) = b == 0x20 || b == 0x29 || b == 0x0A
 
-ends_is : (b : ℕ) → (b == 0x20 || b == 0x29) ≡ true → (b < 0x80) × (is_delimiter b ≡ true)
+ends_is : (b : ℕ) → (b == 0x20 || b == 0x29 || b == 0x0A) ≡ true → (b < 0x80) × (is_delimiter b ≡ true)
 ends_is b h = (grind (arith, nat_tests), grind (arith, nat_tests))
 
 pub delimits : (rest : List ℕ) → ends rest ≡ true → is_delimited (characters rest) ≡ true

@@ -38,7 +38,7 @@ itself at = grind (arith, nat_tests)
 ahead : (at n : ℕ) → at + n - at ≡ n
 ahead at n = omega arith
 
-end_is : (b : ℕ) → (b == 0x20 || b == 0x29) ≡ true → (b < 0x80) × (b == 0x5C ≡ false) × (is_delimiter b ≡ true)
+end_is : (b : ℕ) → (b == 0x20 || b == 0x29 || b == 0x0A) ≡ true → (b < 0x80) × (b == 0x5C ≡ false) × (is_delimiter b ≡ true)
 end_is b h = (grind (arith, nat_tests), grind (arith, nat_tests), grind (arith, nat_tests))
 
 both : (a b : Bool) → (a && b) ≡ true → (a ≡ true) × (b ≡ true)

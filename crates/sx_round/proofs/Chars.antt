@@ -44,7 +44,7 @@ plain_is b h = (small (left (nat_lt b 0x80) (not (b == 0x5C)) (left (nat_lt b 0x
   free true e = absurd (cc)
   free false e = refl
 
-end_is : (b : ℕ) → (b == 0x20 || b == 0x29) ≡ true → (b < 0x80) × (is_delimiter b ≡ true)
+end_is : (b : ℕ) → (b == 0x20 || b == 0x29 || b == 0x0A) ≡ true → (b < 0x80) × (is_delimiter b ≡ true)
 end_is b h = (grind (arith, nat_tests), grind (arith, nat_tests))
 
 run_end-plain : (w rest : List ℕ) (at there : ℕ) → there ≡ at + length w → list_all plain w ≡ true → ends rest ≡ true → run_end at (characters (w ++ rest)) ≡ there

@@ -3,7 +3,7 @@ use Rattle.std.proofs.Common.{◌≡◌, ℕ, zero, suc, ◌+◌, ◌<◌, ◌�
 use Rattle.std.specs.Prelude.{◌==◌}
 use Rattle.std.proofs.Math.Seq.{drop-append_seam}
 use Rattle.std.proofs.lemmas.Bool.Decides.{nat_tests}
-use Rattle.sx_round.proofs.Ascii.{gap_nil, gap_space}
+use Rattle.sx_round.proofs.Ascii.{gap_nil, gap_space, gap_newline}
 use Rattle.sx_lexer.specs.Gap.{atmosphere_end, gap_end}
 use Rattle.sx_lexer.specs.Repeat.{repeated}
 use Rattle.sx_lexer.specs.Start.{start_of}
@@ -71,16 +71,26 @@ module _ (file bytes : List ℕ) where
         let next = next_is (w ++ rest) at (lexeme k at (at + length w)) is (reads.begins file at) pos (reads.token file at) in
         rw (next, others.same j (omega (arith, reads.some))) refl
 
-  space_first : (rest : List ℕ) (at : ℕ) → gap_end file (0x20 ∷ rest) at ≡ gap_end file rest (at + 1)
+  -- a byte that is a gap by itself
+  abbrev IsBlank : ℕ → Type 0
+  IsBlank b = (rest : List ℕ) (at : ℕ) → atmosphere_end file (b ∷ rest) at ≡ Ok (at + 1)
+
+  blank_first : (b : ℕ) → IsBlank b → (rest : List ℕ) (at : ℕ) → gap_end file (b ∷ rest) at ≡ gap_end file rest (at + 1)
   unfolding repeated
-  space_first rest at = rw (gap_space rest file at, moved at, one_more at) refl
+  blank_first b blank rest at = rw (blank rest at, moved at, one_more at) refl
 
-  next_behind : (rest : List ℕ) (at : ℕ) → drop at bytes ≡ 0x20 ∷ rest → drop (at + 1) bytes ≡ rest → next_lexeme file bytes at ≡ next_lexeme file bytes (at + 1)
-  next_behind rest at is others = rw (is, others, space_first rest at) refl
+  next_behind : (b : ℕ) → IsBlank b → (rest : List ℕ) (at : ℕ) → drop at bytes ≡ b ∷ rest → drop (at + 1) bytes ≡ rest → next_lexeme file bytes at ≡ next_lexeme file bytes (at + 1)
+  next_behind b blank rest at is others = rw (is, others, blank_first b blank rest at) refl
 
-  pub lex_space : (rest : List ℕ) (at : ℕ) (ls : List Lexeme) → drop at bytes ≡ 0x20 ∷ rest → drop (at + 1) bytes ≡ rest → Lexes (at + 1) ls → Lexes at ls
+  lex_blank : (b : ℕ) → IsBlank b → (rest : List ℕ) (at : ℕ) (ls : List Lexeme) → drop at bytes ≡ b ∷ rest → drop (at + 1) bytes ≡ rest → Lexes (at + 1) ls → Lexes at ls
   unfolding lexed_from
-  lex_space rest at ls is behind others = record { same = turn } where
+  lex_blank b blank rest at ls is behind others = record { same = turn } where
     turn : (j : ℕ) → length bytes < at + j → lexed_from (next_lexeme file bytes) j at ≡ alone ls
     turn zero h = absurd (omega (arith, ap length is, length-drop at bytes))
-    turn (suc j) h = rw (next_behind rest at is behind) (others.same (suc j) (omega arith))
+    turn (suc j) h = rw (next_behind b blank rest at is behind) (others.same (suc j) (omega arith))
+
+  pub lex_space : (rest : List ℕ) (at : ℕ) (ls : List Lexeme) → drop at bytes ≡ 0x20 ∷ rest → drop (at + 1) bytes ≡ rest → Lexes (at + 1) ls → Lexes at ls
+  lex_space = lex_blank 0x20 (λ bs at. gap_space bs file at)
+
+  pub lex_newline : (rest : List ℕ) (at : ℕ) (ls : List Lexeme) → drop at bytes ≡ 0x0A ∷ rest → drop (at + 1) bytes ≡ rest → Lexes (at + 1) ls → Lexes at ls
+  lex_newline = lex_blank 0x0A (λ bs at. gap_newline bs file at)

@@ -13,3 +13,4 @@ pub mod Round
 pub mod Scalars
 pub mod Tokens
 pub mod Reading
+pub mod Lines

@@ -39,19 +39,19 @@ atom_more m n (a.Str x) h p = p
 atom_more m n (a.Bytes ns) h p = p
 
 mutual
-  more : (d : PlainDatum) (m n : ℕ) → m ≤ n → IsReadable m d → IsReadable n d
+  pub more : (d : PlainDatum) (m n : ℕ) → m ≤ n → IsReadable m d → IsReadable n d
   more (atom s c) m n h p = atom_more m n c h p
   more (symbol s x) m n h p = p
   more (pair s d e) m n h p = inside_more (λ i. IsReadable i d × IsRest i e) m n h (λ i j le q. (more d i j le q.0, rest_more e i j le q.1)) p
   more (vector s d) m n h p = inside_more (λ i. AreElements i d) m n h (λ i j le q. elements_more d i j le q) p
 
-  rest_more : (d : PlainDatum) (m n : ℕ) → m ≤ n → IsRest m d → IsRest n d
+  pub rest_more : (d : PlainDatum) (m n : ℕ) → m ≤ n → IsRest m d → IsRest n d
   rest_more (atom s c) m n h p = p
   rest_more (symbol s x) m n h p = p
   rest_more (pair s d e) m n h p = (more d m n h p.0, rest_more e m n h p.1)
   rest_more (vector s d) m n h p = inside_more (λ i. AreElements i d) m n h (λ i j le q. elements_more d i j le q) p
 
-  elements_more : (d : PlainDatum) (m n : ℕ) → m ≤ n → AreElements m d → AreElements n d
+  pub elements_more : (d : PlainDatum) (m n : ℕ) → m ≤ n → AreElements m d → AreElements n d
   elements_more (atom s a.Nil) m n h p = p
   elements_more (atom s (a.Bool b)) m n h p = p
   elements_more (atom s (a.Int z)) m n h p = p

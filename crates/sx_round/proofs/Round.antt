@@ -101,7 +101,7 @@ at_from from to = record { from = from; to = to }
 
 module _ (file source : List ℕ) where
   -- what stands behind some bytes
-  behind : (w rest : List ℕ) (at : ℕ) → drop at source ≡ w ++ rest → drop (at + length w) source ≡ rest
+  pub behind : (w rest : List ℕ) (at : ℕ) → drop at source ≡ w ++ rest → drop (at + length w) source ≡ rest
   behind w rest at is = sym (drop-drop (length w) at source) ∙ ap (λ b. drop (length w) b) is ∙ drop-append_seam w rest
 
   word : (w rest : List ℕ) (at end : ℕ) (k : Token) (ls : List Lexeme) → Reads w rest k → end ≡ at + length w → drop at source ≡ w ++ rest
@@ -109,13 +109,13 @@ module _ (file source : List ℕ) where
   word w rest at end k ls reads so is others = rw so (lex_token file source w rest at k ls is reads (rw so at others))
 
   -- a datum like this is spelt from an offset on, up to these lexemes
-  record Spelled (n : ℕ) (d : PlainDatum) (at : ℕ) (ls : List Lexeme) : Type 0 where
-    us : List Lexeme
-    e : PlainDatum
-    x : Extent
-    lexes : Lexes file source at (us ++ ls)
-    is : IsDatum file n us e x
-    same : unspanned e ≡ unspanned d
+  pub record Spelled (n : ℕ) (d : PlainDatum) (at : ℕ) (ls : List Lexeme) : Type 0 where
+    pub us : List Lexeme
+    pub e : PlainDatum
+    pub x : Extent
+    pub lexes : Lexes file source at (us ++ ls)
+    pub is : IsDatum file n us e x
+    pub same : unspanned e ≡ unspanned d
 
   -- elements like those of this list, which has an empty tail
   record AreSpelled (n : ℕ) (d : PlainDatum) (at : ℕ) (ls : List Lexeme) : Type 0 where
@@ -361,7 +361,7 @@ module _ (file source : List ℕ) where
       join_vector n m s d behind_open at last end ls is_one text (items first closes)
 
   mutual
-    spell : (n : ℕ) (d : PlainDatum) → IsReadable n d → (rest : List ℕ) → ends rest ≡ true → (at end : ℕ) (ls : List Lexeme) → end ≡ at + length (datum_text d) → drop at source ≡ datum_text d ++ rest
+    pub spell : (n : ℕ) (d : PlainDatum) → IsReadable n d → (rest : List ℕ) → ends rest ≡ true → (at end : ℕ) (ls : List Lexeme) → end ≡ at + length (datum_text d) → drop at source ≡ datum_text d ++ rest
         → Lexes file source end ls → Spelled n d at ls
     spell n (atom s c) h rest e at end ls so is others = spell_any n s c rest at end ls h e so is others
     spell n (symbol s x) h rest e at end ls so is others = spell_symbol n s x rest at end ls h e so is others
@@ -468,17 +468,17 @@ atom_starts n (a.Char c) h file rest e = (char_reads c rest h e).starts file
 atom_starts n (a.Str x) h file rest e = (string_reads x rest h).starts file
 atom_starts n (a.Bytes ns) h file rest e = no_start_hash 0x76 (0x75 ∷ 0x38 ∷ 0x28 ∷ ((bytes_text ns ++ 0x29 ∷ []) ++ rest)) refl file
 
-starts : (n : ℕ) (d : PlainDatum) → IsReadable n d → (file rest : List ℕ) → ends rest ≡ true → start_of file (datum_text d ++ rest) ≡ Ok 0
+pub starts : (n : ℕ) (d : PlainDatum) → IsReadable n d → (file rest : List ℕ) → ends rest ≡ true → start_of file (datum_text d ++ rest) ≡ Ok 0
 starts n (atom s c) h file rest e = atom_starts n c h file rest e
 starts n (symbol s x) h file rest e = (symbol_reads x rest h e).starts file
 starts n (pair s d f) h file rest e = no_start 0x28 (((datum_text d ++ rest_text f) ++ 0x29 ∷ []) ++ rest) refl file
 starts n (vector s d) h file rest e = no_start_hash 0x28 ((elements_text d ++ 0x29 ∷ []) ++ rest) refl file
 
-lexed_is : (file source : List ℕ) (ls : List Lexeme) → start_of file source ≡ Ok 0 → Lexes file source 0 ls → lexed file source ≡ alone ls
+pub lexed_is : (file source : List ℕ) (ls : List Lexeme) → start_of file source ≡ Ok 0 → Lexes file source 0 ls → lexed file source ≡ alone ls
 unfolding lexed
 lexed_is file source ls start others = rw start (others.same (suc (length source)) (omega arith))
 
-read_is : (file source : List ℕ) (nesting : ℕ) (ls : List Lexeme) (ds : List PlainDatum) → lexed file source ≡ alone ls → AreItems file nesting ls ds → data_of file source nesting ≡ Ok ds
+pub read_is : (file source : List ℕ) (nesting : ℕ) (ls : List Lexeme) (ds : List PlainDatum) → lexed file source ≡ alone ls → AreItems file nesting ls ds → data_of file source nesting ≡ Ok ds
 unfolding data_of
 read_is file source nesting ls ds is items = rw is (reads_all file nesting items)
 

@@ -10,9 +10,11 @@
 //! printer, since these give what their definitions give.
 //!
 //! Here are no calls to make: each function stands for the law that it ensures. The first says which
-//! data are read back, the second that only such data are read, and the third joins the two.
+//! data are read back, the second that only such data are read, and the third joins the two. The last
+//! is on files of one datum a line.
 #![tactic(auto)]
 
+ghost use Rattle.sx_round.specs.Lines.{LinesAreReadBack};
 ghost use Rattle.sx_round.specs.ReadBack.{ReadableAreReadBack, OnlyReadableAreRead, ReadAreReadBack};
 
 /// The text of a readable datum, as a file, has this datum alone, but for the spans. Readable is what
@@ -30,4 +32,10 @@ pub fn only_readable_are_read()
 /// What a file has is read back from its text.
 pub fn read_are_read_back()
     ensures { ReadAreReadBack }
+{}
+
+/// The texts of readable data, each on a line of its own, as a file, have these data in order, but for
+/// the spans.
+pub fn lines_are_read_back()
+    ensures { LinesAreReadBack }
 {}

@@ -1,0 +1,10 @@
+mod Plain
+mod Called
+mod Texts
+mod Spellings
+mod Codes
+mod Readable
+mod Whole
+mod Bound
+mod Examples
+mod Given

@@ -1,0 +1,9 @@
+pub mod Names
+pub mod Spells
+pub mod Lines
+pub mod SameCode
+pub mod Spellable
+pub mod ReadBack
+pub mod Bound
+pub mod Examples
+pub mod Laws

@@ -1,0 +1,32 @@
+-- Which names variables and primitives have in core text.
+use Rattle.std.specs.Prelude.{◌≡◌, ℕ, ◌<◌, false, List, Some}
+use Rattle.std.specs.Map.{lookup}
+use Rattle.sx_base.specs.Op.{name_count, is_keyword}
+use Rattle.sx_base.specs.declared.name.Label.{Label}
+use Rattle.sx_core.specs.Labels.{same_label}
+use Rattle.sx_core_laws.specs.Words.{Each}
+use Rattle.sx_core_text.specs.CoreText.{Names}
+use Rattle.sx_name_laws.specs.Variable.{Variable, IsVariable}
+use Rattle.sx_name_laws.specs.Variable as variables
+
+-- the variable of this label is called so
+abbrev pub IsCalled : Names → Label → List ℕ → Type 0
+IsCalled names l x = lookup (same_label l) names ≡ Some x
+
+-- a name that this implementation gives, of a procedure or another value, and no keyword
+abbrev pub IsPrimitive : ℕ → Type 0
+IsPrimitive o = (o < name_count) × (is_keyword o ≡ false)
+
+-- the generated name of a variable
+pub record IsGenerated (x : List ℕ) : Type 0 where
+  pub of : Variable
+  pub variable : IsVariable of
+  pub same : x ≡ variables.name_of of
+
+-- each name is a generated one
+abbrev pub AreGenerated : Names → Type 0
+AreGenerated names = Each (λ (r : Label × List ℕ). IsGenerated r.1) names
+
+-- no two variables are called the same
+abbrev pub TellApart : Names → Type 0
+TellApart names = (l m : Label) (x : List ℕ) → IsCalled names l x → IsCalled names m x → l ≡ m
