@@ -1,0 +1,75 @@
+-- What a call of `apply` gives: what the call that it stands for gives.
+use Rattle.std.proofs.Common.{◌≡◌, ◌≤◌, ◌<◌, ◌+◌, ◌-◌, ℕ, zero, suc, List, [], ◌∷◌, ◌++◌, Option, Some, None, length, length-append, refl, ap, sym, ◌∙◌, inl, inr, arith}
+use Rattle.sx_value.specs.declared.value.Value.{Value}
+use Rattle.sx_value.specs.declared.value.Value.TheVariants as value
+use Rattle.sx_prims.specs.Chains.{list_elements}
+use Rattle.sx_eval.specs.Meaning.{eval_of, first_called, applied}
+use Rattle.sx_eval.specs.Setting.{PlainSetting}
+use Rattle.sx_eval.specs.Spread.{Call, apply_args, parted, with_elements, with_front, on_parts, spread_once, spread_on, spread_to, spread}
+use Rattle.sx_eval.specs.State.{State, Outcome, done, charged}
+use Rattle.sx_eval.specs.declared.spread.TheConstants.{APPLY}
+use Rattle.sx_eval.proofs.Paid.{within_or_past, charged_paid, charged_short}
+use Rattle.sx_eval.proofs.Spreading.{parted_last, args_shorter}
+use Rattle.sx_eval_laws.proofs.Carried.{front_shorter}
+use Rattle.sx_given_laws.specs.Calls.{Gives, call_of, Calls}
+
+module _ (s : State) where
+  -- two ways to go on are the same where there is so much fuel and so many values
+  abbrev SameBelow : ℕ → ℕ → Call → Call → Type 0
+  SameBelow i j g h = (ws : List Value) (m : ℕ) → m + length ws < i → m + length ws < j → g ws m ≡ h ws m
+
+  module _ (i j : ℕ) (g h : Call) (same : SameBelow i j g h) where
+    same-elements : (front : List Value) (n : ℕ) (o : Option (List Value)) → n + length front < i → n + length front < j → with_elements front s g n o ≡ with_elements front s h n o
+    same-elements front n None k l = refl
+    same-elements front n (Some xs) k l = elim (within_or_past (length xs) n) [
+      | inl p ↦ charged_paid s (g (front ++ xs)) (length xs) n p
+          ∙ same (front ++ xs) (n - length xs) (omega (arith, p, k, length-append front xs)) (omega (arith, p, l, length-append front xs))
+          ∙ sym (charged_paid s (h (front ++ xs)) (length xs) n p)
+      | inr p ↦ charged_short s (g (front ++ xs)) (length xs) n p ∙ sym (charged_short s (h (front ++ xs)) (length xs) n p)
+    ]
+
+    same-front : (front : List Value) (last : Value) (n : ℕ) → n + length front < i → n + length front < j → with_front front last s g n ≡ with_front front last s h n
+    same-front [] last n k l = refl
+    same-front (x ∷ xs) last n k l = same-elements (x ∷ xs) n (list_elements s.cells last) k l
+
+    same-parts : (args : List Value) (n : ℕ) (o : Option (List Value × Value)) → parted args ≡ o → n + length args < suc i → n + length args < suc j → on_parts s g n o ≡ on_parts s h n o
+    same-parts args n None e k l = refl
+    same-parts args n (Some p) e k l = let shorter = front_shorter args p e in same-front p.0 p.1 n (omega (arith, k, shorter)) (omega (arith, l, shorter))
+
+    same-once : (args : List Value) (n : ℕ) → n + length args < suc i → n + length args < suc j → spread_once args s g n ≡ spread_once args s h n
+    unfolding spread_once
+    same-once args n k l = same-parts args n (parted args) refl k l
+
+    same-on : (go : Call) (vs : List Value) (n : ℕ) (o : Option (List Value)) → apply_args vs ≡ o → n + length vs < suc i → n + length vs < suc j → spread_on s g go vs n o ≡ spread_on s h go vs n o
+    same-on go vs n None e k l = refl
+    same-on go vs n (Some args) e k l = let shorter = args_shorter vs args e in same-once args n (omega (arith, k, shorter)) (omega (arith, l, shorter))
+
+  -- turns that are enough are as good as others
+  pub turns-same : (i j : ℕ) (go : Call) → SameBelow i j (spread_to i s go) (spread_to j s go)
+  turns-same zero j go vs n k l = absurd (omega (arith, k))
+  turns-same (suc i) zero go vs n k l = absurd (omega (arith, l))
+  turns-same (suc i) (suc j) go vs n k l = same-on i j (spread_to i s go) (spread_to j s go) (turns-same i j go) go vs n (apply_args vs) refl k l
+
+module _ (w : PlainSetting) where
+  pub apply-called : (f : Value) (front xs : List Value) (l : Value) (s : State) (v : Value) (t : State)
+      → list_elements s.cells l ≡ Some xs → Calls w f (front ++ xs) s v t → Calls w (value.Prim (record { 0 = APPLY })) (f ∷ (front ++ l ∷ [])) s v t
+  unfolding applied spread spread_once
+  apply-called f front xs l s v t e h = (h.0 + length xs, by)
+    where
+      go : Call
+      go = first_called w (eval_of w) s
+
+      args : List Value
+      args = f ∷ (front ++ l ∷ [])
+
+      by : (left : ℕ) → call_of w (value.Prim (record { 0 = APPLY })) args s (left + (h.0 + length xs)) ≡ done v t left
+      by left =
+          let n : ℕ = left + (h.0 + length xs) in
+          let turns : ℕ = n + suc (length args) in
+          let again : Call = spread_to turns s go in
+          let paid : n - length xs ≡ left + h.0 = omega arith in
+          let long : length args ≡ suc (length front + 1) = omega (arith, length-append front (l ∷ [])) in
+          let enough : (left + h.0) + length (f ∷ (front ++ xs)) < turns = omega (arith, long, length-append front xs) in
+          ap (on_parts s again n) (parted_last (f ∷ front) l) ∙ ap (with_elements (f ∷ front) s again n) e
+          ∙ charged_paid s (again (f ∷ (front ++ xs))) (length xs) n (omega arith) ∙ ap (again (f ∷ (front ++ xs))) paid
+          ∙ turns-same s turns (suc ((left + h.0) + length (f ∷ (front ++ xs)))) go (f ∷ (front ++ xs)) (left + h.0) enough (omega arith) ∙ h.1 left

@@ -1,0 +1,90 @@
+-- `for-each` on one list: its text calls `map` and gives nothing of it.
+use Rattle.std.proofs.Common.{◌≡◌, ℕ, zero, suc, List, [], ◌∷◌, ◌++◌, Option, Some, None, Bool, true, false, length, refl, ap, if◌then◌else◌}
+use Rattle.sx_base.specs.declared.atom.Atom.TheVariants as a
+use Rattle.sx_region.specs.declared.region.Place.{Place}
+use Rattle.sx_region.proofs.Laws.{slice_get-added}
+use Rattle.sx_core.specs.Core.{PlainCore}
+use Rattle.sx_value.specs.declared.value.Value.{Value}
+use Rattle.sx_value.specs.declared.value.Value.TheVariants as value
+use Rattle.sx_value.specs.declared.cell.Cell.{Cell}
+use Rattle.sx_value.specs.declared.cell.Cell.TheVariants as cell
+use Rattle.sx_prims.specs.Answers.{truth}
+use Rattle.sx_prims.specs.Chains.{Chain, ended, chain_to, chain, list_elements, is_nil}
+use Rattle.sx_prims.specs.Lists.{nil}
+use Rattle.sx_eval.specs.Codes.{procedure_code}
+use Rattle.sx_eval.specs.Procedures.{has_text}
+use Rattle.sx_eval.specs.Setting.{PlainSetting}
+use Rattle.sx_eval.specs.State.{State, next_place, with_cell}
+use Rattle.sx_eval.specs.Variables.{Entries}
+use Rattle.sx_eval_laws.specs.Kept.{Later}
+use Rattle.sx_list_laws.specs.Runs.{IsList}
+use Rattle.sx_given_laws.specs.Calls.{Calls}
+use Rattle.sx_given_laws.specs.Codes.{label, code_no, var, prim, formals, one_case, app, datum_at, text_code, for_each_body, for_each_text}
+use Rattle.sx_given_laws.specs.Given.{Maps, Visits}
+use Rattle.sx_given_laws.specs.InTurn.{AllGive}
+use Rattle.sx_given_laws.proofs.Giving.{Evaluates, procedure-is, primitive-is, call-four, sequence-two, no-arm}
+use Rattle.sx_given_laws.proofs.Applying.{apply-called}
+use Rattle.sx_given_laws.proofs.Calling.{case-called, text-called}
+use Rattle.sx_given_laws.proofs.Inside.{Inside, entered-inside, own}
+use Rattle.sx_given_laws.proofs.Knows.{Knows}
+use Rattle.sx_given_laws.proofs.Later.{later-then, later-with, list-later, in-turn-from, all-give-later}
+use Rattle.sx_given_laws.proofs.MapText.{map-given}
+use Rattle.sx_given_laws.proofs.Primitives.{bool-is}
+
+-- the empty list has no elements
+chain-of-nil : (n : ℕ) (cells : List Cell) → chain_to n cells nil ≡ ended nil
+unfolding chain_to
+chain-of-nil zero cells = refl
+chain-of-nil (suc n) cells = refl
+
+pub nil-elements : (cells : List Cell) → list_elements cells nil ≡ Some []
+unfolding chain
+nil-elements cells = ap (λ (c : Chain). if is_nil c.end then Some c.elements else None) (chain-of-nil (length cells) cells)
+
+module _ (w : PlainSetting) (knows : Knows w.codes) (f l : Value) (s : State) where
+  abbrev outside : State
+  outside = with_cell (cell.Scope [] None) s
+
+  abbrev p : Place
+  p = next_place s
+
+  abbrev vars : Entries
+  vars = (label 23, Some f) ∷ (label 24, Some l) ∷ (label 25, Some nil) ∷ []
+
+  abbrev inner : State
+  inner = with_cell (cell.Scope vars (Some p)) outside
+
+  abbrev q : Place
+  q = next_place outside
+
+  called-by-body : (v : Value) (t : State) → Evaluates w for_each_body q inner v t → Calls w (value.Prim (record { 0 = 110 })) (f ∷ l ∷ []) s v t
+  unfolding has_text
+  called-by-body v t h =
+      text-called w (record { 0 = 110 }) (f ∷ l ∷ []) s outside t (text_code 110 for_each_text) for_each_text (code_no 21) p v refl refl knows.for_each_text refl
+      (procedure-is w (code_no 21) (one_case (23 ∷ 24 ∷ []) (Some 25) for_each_body) true p outside)
+      (case-called w (code_no 21) p (f ∷ l ∷ []) outside (procedure_code (code_no 21) (one_case (23 ∷ 24 ∷ []) (Some 25) for_each_body) true) (formals (23 ∷ 24 ∷ []) (Some 25)) for_each_body v t knows.for_each_body refl h)
+
+  inside : Inside inner.cells q vars p []
+  inside = entered-inside outside vars p [] (record { around = None; is = slice_get-added s.cells (cell.Scope [] None) })
+
+  behind : Later s inner
+  behind = later-then s outside inner (later-with s (cell.Scope [] None)) (later-with outside (cell.Scope vars (Some p)))
+
+  pub for-each-given : (xs : List Value) → IsList s.cells xs l → AllGive w f xs s → Visits w (value.Prim (record { 0 = 110 })) (f ∷ l ∷ []) f xs s value.Unspecified
+  for-each-given xs r give = record {
+    state = m.state;
+    called = called-by-body value.Unspecified m.state (sequence-two w _ _ q inner m.state m.state m.value value.Unspecified mapping (no-arm w _ _ q m.state m.state (truth false) (bool-is w _ false q m.state) refl));
+    answers = m.answers;
+    in_turn = in-turn-from w f xs m.answers s inner m.state behind m.in_turn;
+  }
+    where
+      m : Maps w (value.Prim (record { 0 = 133 })) (f ∷ l ∷ []) f xs inner
+      m = map-given w inner knows f l xs (list-later s inner behind xs l r) (all-give-later w f xs s inner behind give)
+
+      mapping : Evaluates w (app (prim 42) (prim 133 ∷ var 23 ∷ var 24 ∷ var 25 ∷ [])) q inner m.value m.state
+      mapping =
+          call-four w (prim 42) (prim 133) (var 23) (var 24) (var 25) q inner inner inner inner inner inner m.state
+          (value.Prim (record { 0 = 42 })) (value.Prim (record { 0 = 133 })) f l nil m.value
+          (primitive-is w (record { 0 = 42 }) q inner) (primitive-is w (record { 0 = 133 }) q inner)
+          (own w inner q vars p [] inside (label 23) f refl) (own w inner q vars p [] inside (label 24) l refl) (own w inner q vars p [] inside (label 25) nil refl)
+          (apply-called w (value.Prim (record { 0 = 133 })) (f ∷ l ∷ []) [] nil inner m.value m.state (nil-elements inner.cells) m.called)

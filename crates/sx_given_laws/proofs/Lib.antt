@@ -1,0 +1,9 @@
+pub mod Giving
+pub mod Looking
+pub mod Calling
+pub mod Applying
+pub mod Primitives
+pub mod Later
+pub mod Inside
+pub mod MapOne
+pub mod MapText

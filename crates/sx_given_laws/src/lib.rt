@@ -1,0 +1,2 @@
+//! Cut.
+#![tactic(auto)]
