@@ -32,7 +32,7 @@ use Rattle.sx_given_laws.proofs.MapText.{map-given}
 use Rattle.sx_given_laws.proofs.Primitives.{bool-is}
 
 -- the empty list has no elements
-chain-of-nil : (n : ℕ) (cells : List Cell) → chain_to n cells nil ≡ ended nil
+pub chain-of-nil : (n : ℕ) (cells : List Cell) → chain_to n cells nil ≡ ended nil
 unfolding chain_to
 chain-of-nil zero cells = refl
 chain-of-nil (suc n) cells = refl

@@ -8,7 +8,7 @@ use Rattle.sx_eval.specs.Setting.{PlainSetting}
 use Rattle.sx_eval.specs.State.{State}
 use Rattle.sx_list_laws.specs.Runs.{Runs, IsList}
 use Rattle.sx_given_laws.specs.Calls.{Calls}
-use Rattle.sx_given_laws.specs.InTurn.{InTurn, Search}
+use Rattle.sx_given_laws.specs.InTurn.{InTurn, Search, ForAll, Exists}
 
 -- `map` g on f and a list: f is called on each element, in their order, and the list of the answers is given.
 pub record Maps (w : PlainSetting) (g : Value) (args : List Value) (f : Value) (xs : List Value) (s : State) : Type 0 where
@@ -60,3 +60,16 @@ pub record FindsTail (w : PlainSetting) (g : Value) (args : List Value) (f : Val
   pub rest : List Value
   pub search : Search w f xs s rest state
   pub tail : IsTail state.cells l rest value
+
+-- `for-all` and `exists` of a list: what their calls in turn tell
+pub record ForAlls (w : PlainSetting) (g : Value) (args : List Value) (f : Value) (xs : List Value) (s : State) : Type 0 where
+  pub value : Value
+  pub state : State
+  pub called : Calls w g args s value state
+  pub all : ForAll w f xs s value state
+
+pub record Existences (w : PlainSetting) (g : Value) (args : List Value) (f : Value) (xs : List Value) (s : State) : Type 0 where
+  pub value : Value
+  pub state : State
+  pub called : Calls w g args s value state
+  pub exists : Exists w f xs s value state

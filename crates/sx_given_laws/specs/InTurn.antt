@@ -1,6 +1,7 @@
 -- Calls of a procedure that are made one after another. Between them nothing happens but that cells are added.
 use Rattle.std.specs.Prelude.{◌≡◌, Bool, true, false, List, [], ◌∷◌, if◌then◌else◌}
 use Rattle.sx_value.specs.declared.value.Value.{Value}
+use Rattle.sx_prims.specs.Answers.{truth}
 use Rattle.sx_eval.specs.Procedures.{truth_of}
 use Rattle.sx_eval.specs.Setting.{PlainSetting}
 use Rattle.sx_eval.specs.State.{State}
@@ -66,3 +67,22 @@ others (x ∷ xs) (y ∷ ys) = if truth_of y then others xs ys else x ∷ others
 abbrev pub AllGiveBy : PlainSetting → Value → (Value → Value) → List Value → State → Type 0
 AllGiveBy w f g [] s = Unit {0}
 AllGiveBy w f g (x ∷ xs) s = ((t : State) → Later s t → (u : State) × Calls w f (x ∷ []) t (g x) u) × AllGiveBy w f g xs s
+
+-- `for-all`: calls in their order until one answers `#f`. The answer of the last call, or `#f`, or `#t` where there is no call.
+pub data ForAll (w : PlainSetting) (f : Value) : List Value → State → Value → State → Type 0 where
+  all_none : {s t : State} → Later s t → ForAll w f [] s (truth true) t
+  all_last : {x y : Value} {s t u v : State} → Later s t → Calls w f (x ∷ []) t y u → Later u v → ForAll w f (x ∷ []) s y v
+  all_but : {x z y : Value} {xs : List Value} {s t u v : State} → Later s t → Calls w f (x ∷ []) t y u → truth_of y ≡ false → Later u v → ForAll w f (x ∷ z ∷ xs) s (truth false) v
+  all_so_far : {x z y r : Value} {xs : List Value} {s t u v : State} → Later s t → Calls w f (x ∷ []) t y u → truth_of y ≡ true → ForAll w f (z ∷ xs) u r v → ForAll w f (x ∷ z ∷ xs) s r v
+
+-- Each call until then gives a value.
+abbrev pub ForAllGives : PlainSetting → Value → List Value → State → Type 0
+ForAllGives w f [] s = Unit {0}
+ForAllGives w f (x ∷ xs) s = (t : State) → Later s t → (y : Value) × (u : State) × Calls w f (x ∷ []) t y u × (truth_of y ≡ true → ForAllGives w f xs u)
+
+-- `exists`: calls in their order until one answers true. Its answer, or that of the last call, or `#f` where there is no call.
+pub data Exists (w : PlainSetting) (f : Value) : List Value → State → Value → State → Type 0 where
+  some_none : {s t : State} → Later s t → Exists w f [] s (truth false) t
+  some_last : {x y : Value} {s t u v : State} → Later s t → Calls w f (x ∷ []) t y u → Later u v → Exists w f (x ∷ []) s y v
+  some_here : {x z y : Value} {xs : List Value} {s t u v : State} → Later s t → Calls w f (x ∷ []) t y u → truth_of y ≡ true → Later u v → Exists w f (x ∷ z ∷ xs) s y v
+  some_behind : {x z y r : Value} {xs : List Value} {s t u v : State} → Later s t → Calls w f (x ∷ []) t y u → truth_of y ≡ false → Exists w f (z ∷ xs) u r v → Exists w f (x ∷ z ∷ xs) s r v
