@@ -8,7 +8,7 @@ use Rattle.sx_eval.specs.Setting.{PlainSetting}
 use Rattle.sx_eval.specs.State.{State}
 use Rattle.sx_list_laws.specs.Runs.{Runs, IsList}
 use Rattle.sx_given_laws.specs.Calls.{Calls}
-use Rattle.sx_given_laws.specs.InTurn.{InTurn, Search, ForAll, Exists}
+use Rattle.sx_given_laws.specs.InTurn.{InTurn, Search, FoldLeft, FoldRight, ForAll, Exists}
 
 -- `map` g on f and a list: f is called on each element, in their order, and the list of the answers is given.
 pub record Maps (w : PlainSetting) (g : Value) (args : List Value) (f : Value) (xs : List Value) (s : State) : Type 0 where
@@ -73,3 +73,17 @@ pub record Existences (w : PlainSetting) (g : Value) (args : List Value) (f : Va
   pub state : State
   pub called : Calls w g args s value state
   pub exists : Exists w f xs s value state
+
+-- `fold-left` of a value and a list
+pub record FoldsLeft (w : PlainSetting) (g : Value) (args : List Value) (f z : Value) (xs : List Value) (s : State) : Type 0 where
+  pub value : Value
+  pub state : State
+  pub called : Calls w g args s value state
+  pub fold : FoldLeft w f z xs s value state
+
+-- `fold-right` of a value and a list
+pub record FoldsRight (w : PlainSetting) (g : Value) (args : List Value) (f z : Value) (xs : List Value) (s : State) : Type 0 where
+  pub value : Value
+  pub state : State
+  pub called : Calls w g args s value state
+  pub fold : FoldRight w f z xs s value state
