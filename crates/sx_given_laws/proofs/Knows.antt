@@ -3,6 +3,8 @@ use Rattle.std.proofs.Common.{◌≡◌, ℕ, List, [], ◌∷◌, Option, Some,
 use Rattle.sx_core.specs.Core.{PlainCore, PlainCode}
 use Rattle.sx_eval.specs.Codes.{Codes, code_at, procedure_code}
 use Rattle.sx_eval.specs.Procedures.{text_number}
+use Rattle.sx_eval.specs.Setting.{PlainSetting}
+use Rattle.sx_given_laws.specs.Texts.{HasTexts}
 use Rattle.sx_given_laws.specs.Codes.{code_no, one_case, text_code, map_one, map_body, map_text, for_each_body, for_each_text, for_all_loop, for_all_text, exists_next, exists_loop, exists_text, filter_loop, filter_text, remp_test, remp_body, remp_text, find_loop, find_text, memp_loop, memp_text, fold_left_loop, fold_left_text, fold_right_loop, fold_right_text, enter_list, enter_fold}
 
 -- the table has a text's code
@@ -41,3 +43,34 @@ pub record Knows (cs : Codes) : Type 0 where
   pub fold_right_text : HasText cs 197 fold_right_text
   pub fold_right_loop : HasCase cs 110 (112 ∷ 113 ∷ 114 ∷ []) None fold_right_loop
   pub fold_right_body : HasCase cs 117 (119 ∷ 120 ∷ 121 ∷ []) (Some 122) (enter_fold 109 119 120 121 122)
+
+pub knows : (w : PlainSetting) → HasTexts w → Knows w.codes
+knows w has = record {
+  map_text = has (text_number 133) _ refl;
+  map_one = has (code_no 4) _ refl;
+  map_body = has (code_no 15) _ refl;
+  for_each_text = has (text_number 110) _ refl;
+  for_each_body = has (code_no 21) _ refl;
+  for_all_text = has (text_number 192) _ refl;
+  for_all_loop = has (code_no 29) _ refl;
+  for_all_body = has (code_no 35) _ refl;
+  exists_text = has (text_number 193) _ refl;
+  exists_loop = has (code_no 43) _ refl;
+  exists_next = has (code_no 48) _ refl;
+  exists_body = has (code_no 53) _ refl;
+  filter_text = has (text_number 194) _ refl;
+  filter_loop = has (code_no 61) _ refl;
+  remp_text = has (text_number 198) _ refl;
+  remp_body = has (code_no 67) _ refl;
+  remp_test = has (code_no 72) _ refl;
+  find_text = has (text_number 191) _ refl;
+  find_loop = has (code_no 78) _ refl;
+  memp_text = has (text_number 202) _ refl;
+  memp_loop = has (code_no 86) _ refl;
+  fold_left_text = has (text_number 196) _ refl;
+  fold_left_loop = has (code_no 94) _ refl;
+  fold_left_body = has (code_no 101) _ refl;
+  fold_right_text = has (text_number 197) _ refl;
+  fold_right_loop = has (code_no 110) _ refl;
+  fold_right_body = has (code_no 117) _ refl;
+}

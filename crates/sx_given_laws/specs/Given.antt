@@ -1,7 +1,8 @@
 -- What calls of the procedures that are given as texts come to, in the report's words (R6RS 11.9 and libraries 3), where they take one
 -- list.
-use Rattle.std.specs.Prelude.{◌≡◌, false, List, [], ◌∷◌}
+use Rattle.std.specs.Prelude.{◌≡◌, ℕ, false, List, [], ◌∷◌, map}
 use Rattle.sx_value.specs.declared.value.Value.{Value}
+use Rattle.sx_value.specs.declared.value.Value.TheVariants as value
 use Rattle.sx_value.specs.declared.cell.Cell.{Cell}
 use Rattle.sx_prims.specs.Answers.{truth}
 use Rattle.sx_eval.specs.Setting.{PlainSetting}
@@ -9,6 +10,10 @@ use Rattle.sx_eval.specs.State.{State}
 use Rattle.sx_list_laws.specs.Runs.{Runs, IsList}
 use Rattle.sx_given_laws.specs.Calls.{Calls}
 use Rattle.sx_given_laws.specs.InTurn.{InTurn, Search, FoldLeft, FoldRight, ForAll, Exists}
+
+-- a procedure that is given, by its number
+abbrev pub given : ℕ → Value
+given op = value.Prim (record { 0 = op })
 
 -- `map` g on f and a list: f is called on each element, in their order, and the list of the answers is given.
 pub record Maps (w : PlainSetting) (g : Value) (args : List Value) (f : Value) (xs : List Value) (s : State) : Type 0 where
@@ -18,6 +23,13 @@ pub record Maps (w : PlainSetting) (g : Value) (args : List Value) (f : Value) (
   pub answers : List Value
   pub in_turn : InTurn w f xs s answers state
   pub list : IsList state.cells answers value
+
+-- likewise, where the answers are what a function says
+pub record MapsBy (w : PlainSetting) (g : Value) (args : List Value) (answer : Value → Value) (xs : List Value) (s : State) : Type 0 where
+  pub value : Value
+  pub state : State
+  pub called : Calls w g args s value state
+  pub list : IsList state.cells (map answer xs) value
 
 -- f is called on each element, in their order, and this value is given
 pub record Visits (w : PlainSetting) (g : Value) (args : List Value) (f : Value) (xs : List Value) (s : State) (v : Value) : Type 0 where

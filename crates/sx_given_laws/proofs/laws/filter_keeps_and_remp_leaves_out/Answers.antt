@@ -1,0 +1,10 @@
+use Rattle.sx_given_laws.proofs.Knows.{knows}
+use Rattle.sx_given_laws.proofs.Remp.{remp-given}
+use Rattle.sx_given_laws.proofs.Texts.{filter-given}
+use Rattle.sx_given_laws.proofs.laws.filter_keeps_and_remp_leaves_out.Goals as goal
+
+pub returns : goal.returns
+returns c = record {
+  filter = λ w f l xs s has r give. filter-given w (knows w has) f l xs s r give;
+  remp = λ w f l xs s has r give. remp-given w (knows w has) f l s xs r give;
+}

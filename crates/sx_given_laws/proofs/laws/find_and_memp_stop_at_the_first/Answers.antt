@@ -1,0 +1,9 @@
+use Rattle.sx_given_laws.proofs.Knows.{knows}
+use Rattle.sx_given_laws.proofs.Texts.{find-given, memp-given}
+use Rattle.sx_given_laws.proofs.laws.find_and_memp_stop_at_the_first.Goals as goal
+
+pub returns : goal.returns
+returns c = record {
+  find = λ w f l xs s has r give. find-given w (knows w has) f l xs s r give;
+  memp = λ w f l xs s has r give. memp-given w (knows w has) f l xs s r give;
+}

@@ -1,0 +1,6 @@
+use Rattle.sx_given_laws.proofs.ForEach.{for-each-given}
+use Rattle.sx_given_laws.proofs.Knows.{knows}
+use Rattle.sx_given_laws.proofs.laws.for_each_calls_in_order.Goals as goal
+
+pub returns : goal.returns
+returns c = λ w f l xs s has r give. for-each-given w (knows w has) f l s xs r give
