@@ -8,14 +8,14 @@ ghost use Rattle.sx_list_laws.specs.Runs.{IsList};
 ghost use Rattle.sx_value.specs.declared.value.Value.{Value};
 ghost use Rattle.sx_value.specs.declared.value.Value.TheVariants as value;
 ghost use Rattle.sx_given_laws.specs.Calls.{call_of, Calls};
-ghost use Rattle.sx_given_laws.specs.Given.{given, Maps, MapsBy, Visits, Filters, Finds, FindsTail, ForAlls, Existences, FoldsLeft};
-ghost use Rattle.sx_given_laws.specs.InTurn.{AllGive, AllGiveBy, SearchGives, ForAllGives, FoldLeftGives, chosen, others};
+ghost use Rattle.sx_given_laws.specs.Given.{given, Maps, MapsBy, Visits, Filters, Finds, FindsTail, ForAlls, Existences, FoldsLeft, FoldsRight};
+ghost use Rattle.sx_given_laws.specs.InTurn.{AllGive, AllGiveBy, SearchGives, ForAllGives, FoldLeftGives, FoldRightGives, chosen, others};
 ghost use Rattle.sx_given_laws.specs.Texts.{HasTexts};
 
 /// The numbers of the procedures of which the laws speak, by their report names.
 pub fn numbers_are_by_name()
-    ensures { map op_named (codes "map" ∷ codes "for-each" ∷ codes "filter" ∷ codes "remp" ∷ codes "find" ∷ codes "memp" ∷ codes "for-all" ∷ codes "exists" ∷ codes "fold-left" ∷ []) ≡
-        Some 133 ∷ Some 110 ∷ Some 194 ∷ Some 198 ∷ Some 191 ∷ Some 202 ∷ Some 192 ∷ Some 193 ∷ Some 196 ∷ [] }
+    ensures { map op_named (codes "map" ∷ codes "for-each" ∷ codes "filter" ∷ codes "remp" ∷ codes "find" ∷ codes "memp" ∷ codes "for-all" ∷ codes "exists" ∷ codes "fold-left" ∷ codes "fold-right" ∷ []) ≡
+        Some 133 ∷ Some 110 ∷ Some 194 ∷ Some 198 ∷ Some 191 ∷ Some 202 ∷ Some 192 ∷ Some 193 ∷ Some 196 ∷ Some 197 ∷ [] }
 {}
 
 /// A call that gives a value with some fuel gives it with all that is more, and no other value and no other state.
@@ -64,4 +64,10 @@ pub fn for_all_and_exists_ask_in_order()
 /// gives what the last call gave (R6RS libraries 3).
 pub fn fold_left_goes_from_the_left()
     ensures { (w : PlainSetting) (f z l : Value) (xs : List Value) (s : State) → HasTexts w → IsList s.cells xs l → FoldLeftGives w f z xs s → FoldsLeft w (given 196) (f ∷ z ∷ l ∷ []) f z xs s }
+{}
+
+/// `fold-right` calls its procedure on the last element and a value, then on the element before and what that gave, and so
+/// on to the first, and gives what the last call gave (R6RS libraries 3).
+pub fn fold_right_goes_from_the_right()
+    ensures { (w : PlainSetting) (f z l : Value) (xs : List Value) (s : State) → HasTexts w → IsList s.cells xs l → FoldRightGives w f z xs s → FoldsRight w (given 197) (f ∷ z ∷ l ∷ []) f z xs s }
 {}
