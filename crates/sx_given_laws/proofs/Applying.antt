@@ -50,26 +50,20 @@ module _ (s : State) where
   turns-same (suc i) zero go vs n k l = absurd (omega (arith, l))
   turns-same (suc i) (suc j) go vs n k l = same-on i j (spread_to i s go) (spread_to j s go) (turns-same i j go) go vs n (apply_args vs) refl k l
 
-module _ (w : PlainSetting) where
-  pub apply-called : (f : Value) (front xs : List Value) (l : Value) (s : State) (v : Value) (t : State)
-      → list_elements s.cells l ≡ Some xs → Calls w f (front ++ xs) s v t → Calls w (value.Prim (record { 0 = APPLY })) (f ∷ (front ++ l ∷ [])) s v t
+module _ (w : PlainSetting) (f : Value) (front xs : List Value) (l : Value) (s : State) where
+  -- with so much fuel beside the cost of the elements
+  applies : (n m : ℕ) → n ≡ m + length xs → list_elements s.cells l ≡ Some xs → call_of w (value.Prim (record { 0 = APPLY })) (f ∷ (front ++ l ∷ [])) s n ≡ call_of w f (front ++ xs) s m
   unfolding applied spread spread_once
-  apply-called f front xs l s v t e h = (h.0 + length xs, by)
+  applies n m e has =
+      let again : Call = spread_to (n + suc (suc (length (front ++ l ∷ [])))) s (first_called w (eval_of w) s) in
+      let left : n - length xs ≡ m = omega (arith, e) in
+      ap (on_parts s again n) (parted_last (f ∷ front) l) ∙ ap (with_elements (f ∷ front) s again n) has
+      ∙ charged_paid s (again (f ∷ (front ++ xs))) (length xs) n (omega (arith, e)) ∙ ap (again (f ∷ (front ++ xs))) left
+      ∙ turns-same s (n + suc (suc (length (front ++ l ∷ [])))) (suc (m + suc (length (front ++ xs)))) (first_called w (eval_of w) s) (f ∷ (front ++ xs)) m
+      (omega (arith, e, length-append front (l ∷ []), length-append front xs)) (omega arith)
+
+  pub apply-called : (v : Value) (t : State) → list_elements s.cells l ≡ Some xs → Calls w f (front ++ xs) s v t → Calls w (value.Prim (record { 0 = APPLY })) (f ∷ (front ++ l ∷ [])) s v t
+  apply-called v t has h = (h.0 + length xs, by)
     where
-      go : Call
-      go = first_called w (eval_of w) s
-
-      args : List Value
-      args = f ∷ (front ++ l ∷ [])
-
-      by : (left : ℕ) → call_of w (value.Prim (record { 0 = APPLY })) args s (left + (h.0 + length xs)) ≡ done v t left
-      by left =
-          let n : ℕ = left + (h.0 + length xs) in
-          let turns : ℕ = n + suc (length args) in
-          let again : Call = spread_to turns s go in
-          let paid : n - length xs ≡ left + h.0 = omega arith in
-          let long : length args ≡ suc (length front + 1) = omega (arith, length-append front (l ∷ [])) in
-          let enough : (left + h.0) + length (f ∷ (front ++ xs)) < turns = omega (arith, long, length-append front xs) in
-          ap (on_parts s again n) (parted_last (f ∷ front) l) ∙ ap (with_elements (f ∷ front) s again n) e
-          ∙ charged_paid s (again (f ∷ (front ++ xs))) (length xs) n (omega arith) ∙ ap (again (f ∷ (front ++ xs))) paid
-          ∙ turns-same s turns (suc ((left + h.0) + length (f ∷ (front ++ xs)))) go (f ∷ (front ++ xs)) (left + h.0) enough (omega arith) ∙ h.1 left
+      by : (left : ℕ) → call_of w (value.Prim (record { 0 = APPLY })) (f ∷ (front ++ l ∷ [])) s (left + (h.0 + length xs)) ≡ done v t left
+      by left = applies (left + (h.0 + length xs)) (left + h.0) (omega arith) has ∙ h.1 left

@@ -16,7 +16,7 @@ use Rattle.sx_eval.specs.Variables.{Entries}
 use Rattle.sx_eval_laws.specs.Kept.{Later}
 use Rattle.sx_list_laws.specs.Runs.{IsList}
 use Rattle.sx_given_laws.specs.Calls.{Calls}
-use Rattle.sx_given_laws.specs.Codes.{label, code_no, var, formals, one_case, lambda, app, cdrs, on_cars, exists_loop, exists_next}
+use Rattle.sx_given_laws.specs.Codes.{label, code_no, var, formals, one_case, lambda, app, cdrs, on_cars, exists_next, exists_asked, exists_some, exists_loop}
 use Rattle.sx_given_laws.specs.Given.{Existences}
 use Rattle.sx_given_laws.specs.InTurn.{Exists, some_none, some_last, some_here, some_behind, SearchGives}
 use Rattle.sx_given_laws.proofs.Giving.{Evaluates, procedure-is, call-one, call-two, if-true, if-false}
@@ -77,11 +77,11 @@ module _ (w : PlainSetting) (knows : Knows w.codes) (f : Value) (p : Place) wher
       till-first : Later s first.state
       till-first = later-then s at first.state enter (calls-later w (value.Prim (record { 0 = 133 })) _ at first.value first.state first.called)
 
-      testing : (y : Value) (u : State) → Calls w f (x ∷ []) first.state y u → Evaluates w _ (next_place s) at y u
+      testing : (y : Value) (u : State) → Calls w f (x ∷ []) first.state y u → Evaluates w (on_cars (var 45) (var 46)) (next_place s) at y u
       testing y u h = lists.on-cars w knows 43 42 45 46 exists_loop knows.exists_loop p home names f ls s round l one at (later-refl at) x d pair y u h
 
-      some : (b : Bool) → is_nil d ≡ b → (v : Value) (t : State) → Evaluates w _ (next_place s) at v t → Calls w g (f ∷ ls ∷ []) s v t
-      some b e v t h =
+      some : (v : Value) (t : State) → Evaluates w exists_some (next_place s) at v t → Calls w g (f ∷ ls ∷ []) s v t
+      some v t h =
           by-body v t
           (if-false w _ _ _ (next_place s) at at t (truth false) v
           (lists.first-null w knows 43 42 45 46 exists_loop knows.exists_loop p home names f ls s round l one at (later-refl at) false (pair-not-nil s.cells l x d pair)) refl h)
@@ -90,7 +90,7 @@ module _ (w : PlainSetting) (knows : Knows w.codes) (f : Value) (p : Place) wher
       last e y u h = record {
         value = y;
         state = u;
-        called = some true (ap is_nil e) y u
+        called = some y u
         (if-true w _ _ _ (next_place s) at at u (truth true) y
         (lists.rest-null w knows 43 42 45 46 exists_loop knows.exists_loop p home names f ls s round l one at (later-refl at) x d pair true (ap is_nil e)) refl (testing y u h));
         exists = some_last till-first h (later-refl u);
@@ -101,9 +101,9 @@ module _ (w : PlainSetting) (knows : Knows w.codes) (f : Value) (p : Place) wher
         behind =
             later-then at first.state u (calls-later w (value.Prim (record { 0 = 133 })) _ at first.value first.state first.called) (calls-later w f (x ∷ []) first.state y u h)
 
-        inner : (v : Value) (t : State) → Evaluates w _ (next_place s) at v t → Calls w g (f ∷ ls ∷ []) s v t
+        inner : (v : Value) (t : State) → Evaluates w exists_asked (next_place s) at v t → Calls w g (f ∷ ls ∷ []) s v t
         inner v t k =
-            some false more v t
+            some v t
             (if-false w _ _ _ (next_place s) at at t (truth false) v
             (lists.rest-null w knows 43 42 45 46 exists_loop knows.exists_loop p home names f ls s round l one at (later-refl at) x d pair false more) refl k)
 

@@ -16,7 +16,7 @@ use Rattle.sx_eval.specs.Variables.{Entries}
 use Rattle.sx_eval_laws.specs.Kept.{Later}
 use Rattle.sx_list_laws.specs.Runs.{here, IsList}
 use Rattle.sx_given_laws.specs.Calls.{Calls}
-use Rattle.sx_given_laws.specs.Codes.{label, code_no, var, one_case, app, car, cdr, filter_loop}
+use Rattle.sx_given_laws.specs.Codes.{label, code_no, var, one_case, app, car, cdr, filter_some, filter_loop}
 use Rattle.sx_given_laws.specs.Given.{Filters}
 use Rattle.sx_given_laws.specs.InTurn.{no_call, one_call, AllGive, when_true, chosen}
 use Rattle.sx_given_laws.proofs.Giving.{Evaluates, if-true, if-false}
@@ -76,7 +76,7 @@ module _ (w : PlainSetting) (known : code_at w.codes (code_no 61) ≡ Some (proc
         others : Evaluates w (app (var 60) (var 63 ∷ cdr (var 64) ∷ [])) q u rest.value rest.state
         others = loop.loop-again w 61 60 63 64 filter_loop known p home names f l s round u behind x d pair rest.value rest.state rest.called
 
-        with-null : (v : Value) (t : State) → Evaluates w _ q s1 v t → Calls w g (f ∷ l ∷ []) s v t
+        with-null : (v : Value) (t : State) → Evaluates w filter_some q s1 v t → Calls w g (f ∷ l ∷ []) s v t
         with-null v t h =
             loop.loop-called w 61 60 63 64 filter_loop known p home names f l s round v t
             (if-false w _ _ _ q s1 s1 t (truth false) v (loop.not-null w 61 60 63 64 filter_loop known p home names f l s round s1 (later-refl s1) x d pair) refl h)

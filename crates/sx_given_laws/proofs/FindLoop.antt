@@ -16,7 +16,7 @@ use Rattle.sx_eval.specs.Variables.{Entries}
 use Rattle.sx_eval_laws.specs.Kept.{Later}
 use Rattle.sx_list_laws.specs.Runs.{here, IsList}
 use Rattle.sx_given_laws.specs.Calls.{Calls}
-use Rattle.sx_given_laws.specs.Codes.{label, code_no, var, one_case, app, car, cdr, find_loop}
+use Rattle.sx_given_laws.specs.Codes.{label, code_no, var, one_case, app, car, cdr, find_some, find_loop}
 use Rattle.sx_given_laws.specs.Given.{Finds, first_or_false}
 use Rattle.sx_given_laws.specs.InTurn.{Search, not_there, passed, there, SearchGives}
 use Rattle.sx_given_laws.proofs.Giving.{Evaluates, if-true, if-false}
@@ -66,7 +66,7 @@ module _ (w : PlainSetting) (known : code_at w.codes (code_no 78) ≡ Some (proc
     enter = loop.entered-later w 78 77 80 81 find_loop known p home names f l s round
 
     with-test : (y : Value) (u : State) (v : Value) (t : State) → Calls w f (x ∷ []) s1 y u
-        → (Evaluates w (app (var 80) (car (var 81) ∷ [])) (next_place s) s1 y u → Evaluates w _ (next_place s) s1 v t) → Calls w g (f ∷ l ∷ []) s v t
+        → (Evaluates w (app (var 80) (car (var 81) ∷ [])) (next_place s) s1 y u → Evaluates w find_some (next_place s) s1 v t) → Calls w g (f ∷ l ∷ []) s v t
     with-test y u v t called h =
         loop.loop-called w 78 77 80 81 find_loop known p home names f l s round v t
         (if-false w _ _ _ (next_place s) s1 s1 t (truth false) v (loop.not-null w 78 77 80 81 find_loop known p home names f l s round s1 (later-refl s1) x d pair) refl

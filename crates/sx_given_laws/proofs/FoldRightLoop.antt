@@ -19,7 +19,7 @@ use Rattle.sx_eval_laws.specs.Kept.{Later}
 use Rattle.sx_list_laws.specs.Runs.{Runs, here, next, IsList}
 use Rattle.sx_list_laws.proofs.RunLemmas.{pair_still}
 use Rattle.sx_given_laws.specs.Calls.{Calls}
-use Rattle.sx_given_laws.specs.Codes.{label, code_no, var, prim, formals, one_case, lambda, app, car, cars, cdrs, first_is_null, fold_right_loop, enter_fold}
+use Rattle.sx_given_laws.specs.Codes.{label, code_no, var, prim, formals, one_case, lambda, app, car, cars, cdrs, first_is_null, fold_right_args, fold_right_loop, enter_fold}
 use Rattle.sx_given_laws.specs.Given.{FoldsRight}
 use Rattle.sx_given_laws.specs.InTurn.{FoldRight, right_end, right_step, FoldRightGives}
 use Rattle.sx_given_laws.proofs.Giving.{Evaluates, procedure-is, primitive-is, call-two, call-three, if-true, if-false}
@@ -145,7 +145,7 @@ module _ (w : PlainSetting) (knows : Knows w.codes) (f z : Value) (p : Place) wh
         elements-first : list_elements listed.cells first.value ≡ Some (x ∷ [])
         elements-first = one-elements listed.cells x first.value (pair_still first.state.cells listed.cells (later-stay first.state listed beyond) first.value x nil first.is)
 
-        gathered : Evaluates w _ q at (next_pair w listed) joined
+        gathered : Evaluates w fold_right_args q at (next_pair w listed) joined
         gathered =
             call-two w (prim 41) (cars (var 114)) (app (prim 121) (app (var 109) (var 112 ∷ var 113 ∷ cdrs (var 114) ∷ []) ∷ [])) q at at first.state listed joined (value.Prim (record { 0 = 41 })) first.value (next_pair w r.state) (next_pair w listed)
             (primitive-is w (record { 0 = 41 }) q at)

@@ -13,7 +13,7 @@ use Rattle.sx_eval.specs.Variables.{Entries}
 use Rattle.sx_eval_laws.specs.Kept.{Later}
 use Rattle.sx_list_laws.specs.Runs.{IsList}
 use Rattle.sx_given_laws.specs.Calls.{Calls}
-use Rattle.sx_given_laws.specs.Codes.{label, code_no, for_all_loop}
+use Rattle.sx_given_laws.specs.Codes.{label, code_no, var, on_cars, for_all_next, for_all_some, for_all_loop}
 use Rattle.sx_given_laws.specs.Given.{ForAlls}
 use Rattle.sx_given_laws.specs.InTurn.{ForAll, all_none, all_last, all_but, all_so_far, ForAllGives}
 use Rattle.sx_given_laws.proofs.Giving.{Evaluates, if-true, if-false}
@@ -72,11 +72,11 @@ module _ (w : PlainSetting) (knows : Knows w.codes) (f : Value) (p : Place) wher
       till-first : Later s first.state
       till-first = later-then s at first.state enter (calls-later w (value.Prim (record { 0 = 133 })) _ at first.value first.state first.called)
 
-      testing : (y : Value) (u : State) → Calls w f (x ∷ []) first.state y u → Evaluates w _ (next_place s) at y u
+      testing : (y : Value) (u : State) → Calls w f (x ∷ []) first.state y u → Evaluates w (on_cars (var 31) (var 32)) (next_place s) at y u
       testing y u h = lists.on-cars w knows 29 28 31 32 for_all_loop knows.for_all_loop p home names f ls s round l one at (later-refl at) x d pair y u h
 
-      some : (b : Bool) → is_nil d ≡ b → (v : Value) (t : State) → Evaluates w _ (next_place s) at v t → Calls w g (f ∷ ls ∷ []) s v t
-      some b e v t h =
+      some : (v : Value) (t : State) → Evaluates w for_all_some (next_place s) at v t → Calls w g (f ∷ ls ∷ []) s v t
+      some v t h =
           by-body v t
           (if-false w _ _ _ (next_place s) at at t (truth false) v
           (lists.first-null w knows 29 28 31 32 for_all_loop knows.for_all_loop p home names f ls s round l one at (later-refl at) false (pair-not-nil s.cells l x d pair)) refl h)
@@ -85,7 +85,7 @@ module _ (w : PlainSetting) (knows : Knows w.codes) (f : Value) (p : Place) wher
       last e y u h = record {
         value = y;
         state = u;
-        called = some true (ap is_nil e) y u
+        called = some y u
         (if-true w _ _ _ (next_place s) at at u (truth true) y
         (lists.rest-null w knows 29 28 31 32 for_all_loop knows.for_all_loop p home names f ls s round l one at (later-refl at) x d pair true (ap is_nil e)) refl (testing y u h));
         all = all_last till-first h (later-refl u);
@@ -96,9 +96,9 @@ module _ (w : PlainSetting) (knows : Knows w.codes) (f : Value) (p : Place) wher
         behind =
             later-then at first.state u (calls-later w (value.Prim (record { 0 = 133 })) _ at first.value first.state first.called) (calls-later w f (x ∷ []) first.state y u h)
 
-        inner : (v : Value) (t : State) → Evaluates w _ (next_place s) at v t → Calls w g (f ∷ ls ∷ []) s v t
+        inner : (v : Value) (t : State) → Evaluates w for_all_next (next_place s) at v t → Calls w g (f ∷ ls ∷ []) s v t
         inner v t k =
-            some false more v t
+            some v t
             (if-false w _ _ _ (next_place s) at at t (truth false) v
             (lists.rest-null w knows 29 28 31 32 for_all_loop knows.for_all_loop p home names f ls s round l one at (later-refl at) x d pair false more) refl k)
 

@@ -22,15 +22,15 @@ use Rattle.sx_given_laws.proofs.Giving.{gives-same, gives-then, Evaluates, evalu
 use Rattle.sx_given_laws.proofs.Looking.{get-below, later-stay, Looks, in_cell, in_parent, variable-is, assigned-last}
 
 -- the cell of a call at q has these variables, and lies in the cell at p, which has those
-pub record Inside (cells : List Cell) (q : Place) (es : Entries) (p : Place) (home : Entries) : Type 0 where
+pub record Inside (cells : List Cell) (q : Place) (es : Entries) (p : Place) (hs : Entries) : Type 0 where
   pub frame : slice_get cells q.0 ≡ Some (cell.Scope es (Some p))
   pub around : Option Place
-  pub home : slice_get cells p.0 ≡ Some (cell.Scope home around)
+  pub home : slice_get cells p.0 ≡ Some (cell.Scope hs around)
 
 -- the cell of a `letrec`
-pub record Home (cells : List Cell) (p : Place) (home : Entries) : Type 0 where
+pub record Home (cells : List Cell) (p : Place) (hs : Entries) : Type 0 where
   pub around : Option Place
-  pub is : slice_get cells p.0 ≡ Some (cell.Scope home around)
+  pub is : slice_get cells p.0 ≡ Some (cell.Scope hs around)
 
 pub home-later : (s t : State) → Later s t → (p : Place) (home : Entries) → Home s.cells p home → Home t.cells p home
 home-later s t k p home h = record { around = h.around; is = later-stay s t k p.0 (cell.Scope home h.around) h.is }

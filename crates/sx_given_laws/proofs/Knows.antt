@@ -5,7 +5,8 @@ use Rattle.sx_eval.specs.Codes.{Codes, code_at, procedure_code}
 use Rattle.sx_eval.specs.Procedures.{text_number}
 use Rattle.sx_eval.specs.Setting.{PlainSetting}
 use Rattle.sx_given_laws.specs.Texts.{HasTexts}
-use Rattle.sx_given_laws.specs.Codes.{code_no, one_case, text_code, map_one, map_body, map_text, for_each_body, for_each_text, for_all_loop, for_all_text, exists_next, exists_loop, exists_text, filter_loop, filter_text, remp_test, remp_body, remp_text, find_loop, find_text, memp_loop, memp_text, fold_left_loop, fold_left_text, fold_right_loop, fold_right_text, enter_list, enter_fold}
+use Rattle.sx_given_laws.specs.Codes as c
+use Rattle.sx_given_laws.specs.Codes.{code_no, one_case, text_code, enter_list, enter_fold}
 
 -- the table has a text's code
 abbrev pub HasText : Codes → ℕ → PlainCore → Type 0
@@ -16,32 +17,32 @@ abbrev pub HasCase : Codes → ℕ → List ℕ → Option ℕ → PlainCore →
 HasCase cs n formals rest body = code_at cs (code_no n) ≡ Some (procedure_code (code_no n) (one_case formals rest body) true)
 
 pub record Knows (cs : Codes) : Type 0 where
-  pub map_text : HasText cs 133 map_text
-  pub map_one : HasCase cs 4 (6 ∷ 7 ∷ []) None map_one
-  pub map_body : HasCase cs 15 (17 ∷ 18 ∷ []) (Some 19) map_body
-  pub for_each_text : HasText cs 110 for_each_text
-  pub for_each_body : HasCase cs 21 (23 ∷ 24 ∷ []) (Some 25) for_each_body
-  pub for_all_text : HasText cs 192 for_all_text
-  pub for_all_loop : HasCase cs 29 (31 ∷ 32 ∷ []) None for_all_loop
+  pub map_text : HasText cs 133 c.map_text
+  pub map_one : HasCase cs 4 (6 ∷ 7 ∷ []) None c.map_one
+  pub map_body : HasCase cs 15 (17 ∷ 18 ∷ []) (Some 19) c.map_body
+  pub for_each_text : HasText cs 110 c.for_each_text
+  pub for_each_body : HasCase cs 21 (23 ∷ 24 ∷ []) (Some 25) c.for_each_body
+  pub for_all_text : HasText cs 192 c.for_all_text
+  pub for_all_loop : HasCase cs 29 (31 ∷ 32 ∷ []) None c.for_all_loop
   pub for_all_body : HasCase cs 35 (37 ∷ 38 ∷ []) (Some 39) (enter_list 28 37 38 39)
-  pub exists_text : HasText cs 193 exists_text
-  pub exists_loop : HasCase cs 43 (45 ∷ 46 ∷ []) None exists_loop
-  pub exists_next : HasCase cs 48 (50 ∷ []) None exists_next
+  pub exists_text : HasText cs 193 c.exists_text
+  pub exists_loop : HasCase cs 43 (45 ∷ 46 ∷ []) None c.exists_loop
+  pub exists_next : HasCase cs 48 (50 ∷ []) None c.exists_next
   pub exists_body : HasCase cs 53 (55 ∷ 56 ∷ []) (Some 57) (enter_list 42 55 56 57)
-  pub filter_text : HasText cs 194 filter_text
-  pub filter_loop : HasCase cs 61 (63 ∷ 64 ∷ []) None filter_loop
-  pub remp_text : HasText cs 198 remp_text
-  pub remp_body : HasCase cs 67 (69 ∷ 70 ∷ []) None remp_body
-  pub remp_test : HasCase cs 72 (74 ∷ []) None remp_test
-  pub find_text : HasText cs 191 find_text
-  pub find_loop : HasCase cs 78 (80 ∷ 81 ∷ []) None find_loop
-  pub memp_text : HasText cs 202 memp_text
-  pub memp_loop : HasCase cs 86 (88 ∷ 89 ∷ []) None memp_loop
-  pub fold_left_text : HasText cs 196 fold_left_text
-  pub fold_left_loop : HasCase cs 94 (96 ∷ 97 ∷ 98 ∷ []) None fold_left_loop
+  pub filter_text : HasText cs 194 c.filter_text
+  pub filter_loop : HasCase cs 61 (63 ∷ 64 ∷ []) None c.filter_loop
+  pub remp_text : HasText cs 198 c.remp_text
+  pub remp_body : HasCase cs 67 (69 ∷ 70 ∷ []) None c.remp_body
+  pub remp_test : HasCase cs 72 (74 ∷ []) None c.remp_test
+  pub find_text : HasText cs 191 c.find_text
+  pub find_loop : HasCase cs 78 (80 ∷ 81 ∷ []) None c.find_loop
+  pub memp_text : HasText cs 202 c.memp_text
+  pub memp_loop : HasCase cs 86 (88 ∷ 89 ∷ []) None c.memp_loop
+  pub fold_left_text : HasText cs 196 c.fold_left_text
+  pub fold_left_loop : HasCase cs 94 (96 ∷ 97 ∷ 98 ∷ []) None c.fold_left_loop
   pub fold_left_body : HasCase cs 101 (103 ∷ 104 ∷ 105 ∷ []) (Some 106) (enter_fold 93 103 104 105 106)
-  pub fold_right_text : HasText cs 197 fold_right_text
-  pub fold_right_loop : HasCase cs 110 (112 ∷ 113 ∷ 114 ∷ []) None fold_right_loop
+  pub fold_right_text : HasText cs 197 c.fold_right_text
+  pub fold_right_loop : HasCase cs 110 (112 ∷ 113 ∷ 114 ∷ []) None c.fold_right_loop
   pub fold_right_body : HasCase cs 117 (119 ∷ 120 ∷ 121 ∷ []) (Some 122) (enter_fold 109 119 120 121 122)
 
 pub knows : (w : PlainSetting) → HasTexts w → Knows w.codes

@@ -13,7 +13,7 @@ pub mod FilterLoop
 pub mod FindLoop
 pub mod MempLoop
 pub mod LoopText
-pub mod Texts
+pub mod ListTexts
 pub mod ForEach
 pub mod Unique
 pub mod Enough

@@ -50,13 +50,13 @@ module _ (globals : List (Label × Value)) (cells : List Cell) where
       ap (λ c. here_or_up (entry_in l) (found m globals cells l) c) e ∙ ap (λ o. or_else o (found m globals cells l (Some q))) f ∙ looks-found m r (omega (arith, h))
 
 module _ (w : PlainSetting) where
+  value-read : (l : Label) (p : Place) (s : State) (v : Value) (n : ℕ) → Looks s.cells l v n p → n ≤ suc (length s.cells) → (m : ℕ) → variable_value w l p s m ≡ done v s m
+  unfolding variable_value
+  value-read l p s v n r h m = ap (variable_read w l s m) (looks-found w.globals s.cells (suc (length s.cells)) r h)
+
   pub variable-is : (l : Label) (p : Place) (s : State) (v : Value) (n : ℕ) → Looks s.cells l v n p → n ≤ suc (length s.cells) → Evaluates w (variable l) p s v s
   variable-is l p s v n r h =
-      evaluates-step w (variable l) p s v s (gives-same (λ n. done v s n) (λ n. variable_value w l p s n) v s by (gives-done v s))
-    where
-      by : (n : ℕ) → variable_value w l p s n ≡ done v s n
-      unfolding variable_value
-      by m = ap (variable_read w l s m) (looks-found w.globals s.cells (suc (length s.cells)) r h)
+      evaluates-step w (variable l) p s v s (gives-same (λ m. done v s m) (λ m. variable_value w l p s m) v s (value-read l p s v n r h) (gives-done v s))
 
 -- A variable of the last cell gets its value.
 

@@ -16,7 +16,7 @@ use Rattle.sx_eval.specs.Variables.{Entries}
 use Rattle.sx_eval_laws.specs.Kept.{Later}
 use Rattle.sx_list_laws.specs.Runs.{here, IsList}
 use Rattle.sx_given_laws.specs.Calls.{Calls}
-use Rattle.sx_given_laws.specs.Codes.{label, code_no, var, one_case, app, car, cdr, memp_loop}
+use Rattle.sx_given_laws.specs.Codes.{label, code_no, var, one_case, app, car, cdr, memp_some, memp_loop}
 use Rattle.sx_given_laws.specs.Given.{FindsTail}
 use Rattle.sx_given_laws.specs.InTurn.{Search, not_there, passed, there, SearchGives}
 use Rattle.sx_given_laws.proofs.Giving.{Evaluates, if-true, if-false}
@@ -72,7 +72,7 @@ module _ (w : PlainSetting) (known : code_at w.codes (code_no 86) ≡ Some (proc
     enter = loop.entered-later w 86 85 88 89 memp_loop known p home names f l s round
 
     with-test : (y : Value) (u : State) (v : Value) (t : State) → Calls w f (x ∷ []) s1 y u
-        → (Evaluates w (app (var 88) (car (var 89) ∷ [])) (next_place s) s1 y u → Evaluates w _ (next_place s) s1 v t) → Calls w g (f ∷ l ∷ []) s v t
+        → (Evaluates w (app (var 88) (car (var 89) ∷ [])) (next_place s) s1 y u → Evaluates w memp_some (next_place s) s1 v t) → Calls w g (f ∷ l ∷ []) s v t
     with-test y u v t called h =
         loop.loop-called w 86 85 88 89 memp_loop known p home names f l s round v t
         (if-false w _ _ _ (next_place s) s1 s1 t (truth false) v (loop.not-null w 86 85 88 89 memp_loop known p home names f l s round s1 (later-refl s1) x d pair) refl

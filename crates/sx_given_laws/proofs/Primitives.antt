@@ -151,16 +151,16 @@ module _ (w : PlainSetting) where
 
   -- Constants.
 
+  nil-quoted : (span : Option Span) (s : State) → Gives (λ n. quoted_value (datum.atom span a.Nil) s n) nil s
+  unfolding quoted_value
+  nil-quoted span s = gives-charged 0 s (λ n. done nil s n) nil s (gives-done nil s)
+
   pub nil-is : (span : Option Span) (scope : Place) (s : State) → Evaluates w (quoted (datum.atom span a.Nil)) scope s nil s
-  nil-is span scope s = evaluates-step w (quoted (datum.atom span a.Nil)) scope s nil s by
-    where
-      by : Gives (λ n. quoted_value (datum.atom span a.Nil) s n) nil s
-      unfolding quoted_value
-      by = gives-charged 0 s (λ n. done nil s n) nil s (gives-done nil s)
+  nil-is span scope s = evaluates-step w (quoted (datum.atom span a.Nil)) scope s nil s (nil-quoted span s)
+
+  bool-quoted : (span : Option Span) (b : Bool) (s : State) → Gives (λ n. quoted_value (datum.atom span (a.Bool b)) s n) (truth b) s
+  unfolding quoted_value
+  bool-quoted span b s = gives-charged 0 s (λ n. done (truth b) s n) (truth b) s (gives-done (truth b) s)
 
   pub bool-is : (span : Option Span) (b : Bool) (scope : Place) (s : State) → Evaluates w (quoted (datum.atom span (a.Bool b))) scope s (truth b) s
-  bool-is span b scope s = evaluates-step w (quoted (datum.atom span (a.Bool b))) scope s (truth b) s by
-    where
-      by : Gives (λ n. quoted_value (datum.atom span (a.Bool b)) s n) (truth b) s
-      unfolding quoted_value
-      by = gives-charged 0 s (λ n. done (truth b) s n) (truth b) s (gives-done (truth b) s)
+  bool-is span b scope s = evaluates-step w (quoted (datum.atom span (a.Bool b))) scope s (truth b) s (bool-quoted span b s)

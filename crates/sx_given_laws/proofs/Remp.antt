@@ -25,7 +25,7 @@ use Rattle.sx_given_laws.proofs.Inside.{Inside, Home, home-later, entered-inside
 use Rattle.sx_given_laws.proofs.Knows.{Knows}
 use Rattle.sx_given_laws.proofs.Later.{later-refl, later-then, later-with, calls-later, list-later, in-turn-from, all-give-later}
 use Rattle.sx_given_laws.proofs.Primitives.{not-is, not-turns}
-use Rattle.sx_given_laws.proofs.Texts.{filter-given}
+use Rattle.sx_given_laws.proofs.ListTexts.{filter-given}
 use Rattle.sx_given_laws.proofs.Unique.{gives-one-value, gives-one-state}
 
 -- whom the turned answer chooses, the answer leaves out

@@ -107,10 +107,14 @@ for_each_text = lambda 21 (23 ∷ 24 ∷ []) (Some 25) for_each_body
 
 -- `for-all`
 
+abbrev pub for_all_next : PlainCore
+for_all_next = two_armed (on_cars (var 31) (var 32)) (app (var 28) (var 31 ∷ cdrs (var 32) ∷ [])) (datum_at 192 163 165 (a.Bool false))
+
+abbrev pub for_all_some : PlainCore
+for_all_some = two_armed (is_null (cdr (car (var 32)))) (on_cars (var 31) (var 32)) for_all_next
+
 abbrev pub for_all_loop : PlainCore
-for_all_loop = two_armed (first_is_null (var 32)) (datum_at 192 50 52 (a.Bool true))
-    (two_armed (is_null (cdr (car (var 32)))) (on_cars (var 31) (var 32))
-    (two_armed (on_cars (var 31) (var 32)) (app (var 28) (var 31 ∷ cdrs (var 32) ∷ [])) (datum_at 192 163 165 (a.Bool false))))
+for_all_loop = two_armed (first_is_null (var 32)) (datum_at 192 50 52 (a.Bool true)) for_all_some
 
 abbrev pub for_all_text : PlainCore
 for_all_text = letrec false (init (label 28) (lambda 29 (31 ∷ 32 ∷ []) None for_all_loop) no_init)
@@ -121,10 +125,14 @@ for_all_text = letrec false (init (label 28) (lambda 29 (31 ∷ 32 ∷ []) None 
 abbrev pub exists_next : PlainCore
 exists_next = two_armed (var 50) (var 50) (app (var 42) (var 45 ∷ cdrs (var 46) ∷ []))
 
+abbrev pub exists_asked : PlainCore
+exists_asked = app (lambda 48 (50 ∷ []) None exists_next) (on_cars (var 45) (var 46) ∷ [])
+
+abbrev pub exists_some : PlainCore
+exists_some = two_armed (is_null (cdr (car (var 46)))) (on_cars (var 45) (var 46)) exists_asked
+
 abbrev pub exists_loop : PlainCore
-exists_loop = two_armed (first_is_null (var 46)) (datum_at 193 50 52 (a.Bool false))
-    (two_armed (is_null (cdr (car (var 46)))) (on_cars (var 45) (var 46))
-    (app (lambda 48 (50 ∷ []) None exists_next) (on_cars (var 45) (var 46) ∷ [])))
+exists_loop = two_armed (first_is_null (var 46)) (datum_at 193 50 52 (a.Bool false)) exists_some
 
 abbrev pub exists_text : PlainCore
 exists_text = letrec false (init (label 42) (lambda 43 (45 ∷ 46 ∷ []) None exists_loop) no_init)
@@ -132,9 +140,11 @@ exists_text = letrec false (init (label 42) (lambda 43 (45 ∷ 46 ∷ []) None e
 
 -- `filter`
 
+abbrev pub filter_some : PlainCore
+filter_some = two_armed (app (var 63) (car (var 64) ∷ [])) (cons (car (var 64)) (app (var 60) (var 63 ∷ cdr (var 64) ∷ []))) (app (var 60) (var 63 ∷ cdr (var 64) ∷ []))
+
 abbrev pub filter_loop : PlainCore
-filter_loop = two_armed (is_null (var 64)) (datum_at 194 42 44 a.Nil)
-    (two_armed (app (var 63) (car (var 64) ∷ [])) (cons (car (var 64)) (app (var 60) (var 63 ∷ cdr (var 64) ∷ []))) (app (var 60) (var 63 ∷ cdr (var 64) ∷ [])))
+filter_loop = two_armed (is_null (var 64)) (datum_at 194 42 44 a.Nil) filter_some
 
 abbrev pub filter_text : PlainCore
 filter_text = letrec false (init (label 60) (lambda 61 (63 ∷ 64 ∷ []) None filter_loop) no_init) (var 60)
@@ -152,18 +162,22 @@ remp_text = lambda 67 (69 ∷ 70 ∷ []) None remp_body
 
 -- `find`
 
+abbrev pub find_some : PlainCore
+find_some = two_armed (app (var 80) (car (var 81) ∷ [])) (car (var 81)) (app (var 77) (var 80 ∷ cdr (var 81) ∷ []))
+
 abbrev pub find_loop : PlainCore
-find_loop = two_armed (is_null (var 81)) (datum_at 191 41 43 (a.Bool false))
-    (two_armed (app (var 80) (car (var 81) ∷ [])) (car (var 81)) (app (var 77) (var 80 ∷ cdr (var 81) ∷ [])))
+find_loop = two_armed (is_null (var 81)) (datum_at 191 41 43 (a.Bool false)) find_some
 
 abbrev pub find_text : PlainCore
 find_text = letrec false (init (label 77) (lambda 78 (80 ∷ 81 ∷ []) None find_loop) no_init) (var 77)
 
 -- `memp`
 
+abbrev pub memp_some : PlainCore
+memp_some = two_armed (app (var 88) (car (var 89) ∷ [])) (var 89) (app (var 85) (var 88 ∷ cdr (var 89) ∷ []))
+
 abbrev pub memp_loop : PlainCore
-memp_loop = two_armed (is_null (var 89)) (datum_at 202 41 43 (a.Bool false))
-    (two_armed (app (var 88) (car (var 89) ∷ [])) (var 89) (app (var 85) (var 88 ∷ cdr (var 89) ∷ [])))
+memp_loop = two_armed (is_null (var 89)) (datum_at 202 41 43 (a.Bool false)) memp_some
 
 abbrev pub memp_text : PlainCore
 memp_text = letrec false (init (label 85) (lambda 86 (88 ∷ 89 ∷ []) None memp_loop) no_init) (var 85)
@@ -180,9 +194,13 @@ fold_left_text = letrec false (init (label 93) (lambda 94 (96 ∷ 97 ∷ 98 ∷ 
 
 -- `fold-right`
 
+-- the first element, before what the fold of the rest gives
+abbrev pub fold_right_args : PlainCore
+fold_right_args = app (prim 41) (cars (var 114) ∷ app (prim 121) (app (var 109) (var 112 ∷ var 113 ∷ cdrs (var 114) ∷ []) ∷ []) ∷ [])
+
 abbrev pub fold_right_loop : PlainCore
 fold_right_loop = two_armed (first_is_null (var 114)) (var 113)
-    (app (prim 42) (var 112 ∷ app (prim 41) (cars (var 114) ∷ app (prim 121) (app (var 109) (var 112 ∷ var 113 ∷ cdrs (var 114) ∷ []) ∷ []) ∷ []) ∷ []))
+    (app (prim 42) (var 112 ∷ fold_right_args ∷ []))
 
 abbrev pub fold_right_text : PlainCore
 fold_right_text = letrec false (init (label 109) (lambda 110 (112 ∷ 113 ∷ 114 ∷ []) None fold_right_loop) no_init)

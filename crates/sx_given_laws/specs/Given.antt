@@ -12,8 +12,8 @@ use Rattle.sx_given_laws.specs.Calls.{Calls}
 use Rattle.sx_given_laws.specs.InTurn.{InTurn, Search, FoldLeft, FoldRight, ForAll, Exists}
 
 -- a procedure that is given, by its number
-abbrev pub given : ℕ → Value
-given op = value.Prim (record { 0 = op })
+abbrev pub built_in : ℕ → Value
+built_in op = value.Prim (record { 0 = op })
 
 -- `map` g on f and a list: f is called on each element, in their order, and the list of the answers is given.
 pub record Maps (w : PlainSetting) (g : Value) (args : List Value) (f : Value) (xs : List Value) (s : State) : Type 0 where

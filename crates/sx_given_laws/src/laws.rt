@@ -8,7 +8,7 @@ ghost use Rattle.sx_list_laws.specs.Runs.{IsList};
 ghost use Rattle.sx_value.specs.declared.value.Value.{Value};
 ghost use Rattle.sx_value.specs.declared.value.Value.TheVariants as value;
 ghost use Rattle.sx_given_laws.specs.Calls.{call_of, Calls};
-ghost use Rattle.sx_given_laws.specs.Given.{given, Maps, MapsBy, Visits, Filters, Finds, FindsTail, ForAlls, Existences, FoldsLeft, FoldsRight};
+ghost use Rattle.sx_given_laws.specs.Given.{built_in, Maps, MapsBy, Visits, Filters, Finds, FindsTail, ForAlls, Existences, FoldsLeft, FoldsRight};
 ghost use Rattle.sx_given_laws.specs.InTurn.{AllGive, AllGiveBy, SearchGives, ForAllGives, FoldLeftGives, FoldRightGives, chosen, others};
 ghost use Rattle.sx_given_laws.specs.Texts.{HasTexts};
 
@@ -27,47 +27,47 @@ pub fn some_fuel_is_enough()
 /// `map` calls its procedure on each element of a list, from the first to the last, and gives the list of the answers
 /// (R6RS 11.9). Where each answer is what a function says, it is the list of what that says.
 pub fn map_gives_the_answers()
-    ensures answers { (w : PlainSetting) (f l : Value) (xs : List Value) (s : State) → HasTexts w → IsList s.cells xs l → AllGive w f xs s → Maps w (given 133) (f ∷ l ∷ []) f xs s }
+    ensures answers { (w : PlainSetting) (f l : Value) (xs : List Value) (s : State) → HasTexts w → IsList s.cells xs l → AllGive w f xs s → Maps w (built_in 133) (f ∷ l ∷ []) f xs s }
     ensures said { (w : PlainSetting) (f l : Value) (g : Value → Value) (xs : List Value) (s : State) → HasTexts w → IsList s.cells xs l → AllGiveBy w f g xs s →
-        MapsBy w (given 133) (f ∷ l ∷ []) g xs s }
+        MapsBy w (built_in 133) (f ∷ l ∷ []) g xs s }
 {}
 
 /// `for-each` calls its procedure on each element of a list, from the first to the last, and gives nothing of it
 /// (R6RS 11.9).
 pub fn for_each_calls_in_order()
     ensures { (w : PlainSetting) (f l : Value) (xs : List Value) (s : State) → HasTexts w → IsList s.cells xs l → AllGive w f xs s →
-        Visits w (given 110) (f ∷ l ∷ []) f xs s value.Unspecified }
+        Visits w (built_in 110) (f ∷ l ∷ []) f xs s value.Unspecified }
 {}
 
 /// `filter` gives the list of the elements whose answer is not `#f`, and `remp` of those whose answer is `#f`, in their
 /// order; each is asked once, from the first to the last (R6RS libraries 3).
 pub fn filter_keeps_and_remp_leaves_out()
-    ensures filter { (w : PlainSetting) (f l : Value) (xs : List Value) (s : State) → HasTexts w → IsList s.cells xs l → AllGive w f xs s → Filters w (given 194) (f ∷ l ∷ []) f chosen xs s }
-    ensures remp { (w : PlainSetting) (f l : Value) (xs : List Value) (s : State) → HasTexts w → IsList s.cells xs l → AllGive w f xs s → Filters w (given 198) (f ∷ l ∷ []) f others xs s }
+    ensures filter { (w : PlainSetting) (f l : Value) (xs : List Value) (s : State) → HasTexts w → IsList s.cells xs l → AllGive w f xs s → Filters w (built_in 194) (f ∷ l ∷ []) f chosen xs s }
+    ensures remp { (w : PlainSetting) (f l : Value) (xs : List Value) (s : State) → HasTexts w → IsList s.cells xs l → AllGive w f xs s → Filters w (built_in 198) (f ∷ l ∷ []) f others xs s }
 {}
 
 /// `find` gives the first element whose answer is not `#f`, and `memp` what is left of the list itself from there on; both
 /// give `#f` where there is none, and ask no element behind the first (R6RS libraries 3).
 pub fn find_and_memp_stop_at_the_first()
-    ensures find { (w : PlainSetting) (f l : Value) (xs : List Value) (s : State) → HasTexts w → IsList s.cells xs l → SearchGives w f xs s → Finds w (given 191) (f ∷ l ∷ []) f xs s }
-    ensures memp { (w : PlainSetting) (f l : Value) (xs : List Value) (s : State) → HasTexts w → IsList s.cells xs l → SearchGives w f xs s → FindsTail w (given 202) (f ∷ l ∷ []) f l xs s }
+    ensures find { (w : PlainSetting) (f l : Value) (xs : List Value) (s : State) → HasTexts w → IsList s.cells xs l → SearchGives w f xs s → Finds w (built_in 191) (f ∷ l ∷ []) f xs s }
+    ensures memp { (w : PlainSetting) (f l : Value) (xs : List Value) (s : State) → HasTexts w → IsList s.cells xs l → SearchGives w f xs s → FindsTail w (built_in 202) (f ∷ l ∷ []) f l xs s }
 {}
 
 /// `for-all` gives `#f` at the first answer that is `#f`, else the last answer, and `#t` of the empty list; `exists` gives
 /// the first answer that is not `#f`, else the last, and `#f` of the empty list (R6RS libraries 3).
 pub fn for_all_and_exists_ask_in_order()
-    ensures all { (w : PlainSetting) (f l : Value) (xs : List Value) (s : State) → HasTexts w → IsList s.cells xs l → ForAllGives w f xs s → ForAlls w (given 192) (f ∷ l ∷ []) f xs s }
-    ensures exists { (w : PlainSetting) (f l : Value) (xs : List Value) (s : State) → HasTexts w → IsList s.cells xs l → SearchGives w f xs s → Existences w (given 193) (f ∷ l ∷ []) f xs s }
+    ensures all { (w : PlainSetting) (f l : Value) (xs : List Value) (s : State) → HasTexts w → IsList s.cells xs l → ForAllGives w f xs s → ForAlls w (built_in 192) (f ∷ l ∷ []) f xs s }
+    ensures exists { (w : PlainSetting) (f l : Value) (xs : List Value) (s : State) → HasTexts w → IsList s.cells xs l → SearchGives w f xs s → Existences w (built_in 193) (f ∷ l ∷ []) f xs s }
 {}
 
 /// `fold-left` calls its procedure on a value and the first element, then on what that gave and the second, and so on, and
 /// gives what the last call gave (R6RS libraries 3).
 pub fn fold_left_goes_from_the_left()
-    ensures { (w : PlainSetting) (f z l : Value) (xs : List Value) (s : State) → HasTexts w → IsList s.cells xs l → FoldLeftGives w f z xs s → FoldsLeft w (given 196) (f ∷ z ∷ l ∷ []) f z xs s }
+    ensures { (w : PlainSetting) (f z l : Value) (xs : List Value) (s : State) → HasTexts w → IsList s.cells xs l → FoldLeftGives w f z xs s → FoldsLeft w (built_in 196) (f ∷ z ∷ l ∷ []) f z xs s }
 {}
 
 /// `fold-right` calls its procedure on the last element and a value, then on the element before and what that gave, and so
 /// on to the first, and gives what the last call gave (R6RS libraries 3).
 pub fn fold_right_goes_from_the_right()
-    ensures { (w : PlainSetting) (f z l : Value) (xs : List Value) (s : State) → HasTexts w → IsList s.cells xs l → FoldRightGives w f z xs s → FoldsRight w (given 197) (f ∷ z ∷ l ∷ []) f z xs s }
+    ensures { (w : PlainSetting) (f z l : Value) (xs : List Value) (s : State) → HasTexts w → IsList s.cells xs l → FoldRightGives w f z xs s → FoldsRight w (built_in 197) (f ∷ z ∷ l ∷ []) f z xs s }
 {}

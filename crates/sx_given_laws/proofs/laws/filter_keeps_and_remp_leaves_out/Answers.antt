@@ -1,6 +1,6 @@
 use Rattle.sx_given_laws.proofs.Knows.{knows}
 use Rattle.sx_given_laws.proofs.Remp.{remp-given}
-use Rattle.sx_given_laws.proofs.Texts.{filter-given}
+use Rattle.sx_given_laws.proofs.ListTexts.{filter-given}
 use Rattle.sx_given_laws.proofs.laws.filter_keeps_and_remp_leaves_out.Goals as goal
 
 pub returns : goal.returns

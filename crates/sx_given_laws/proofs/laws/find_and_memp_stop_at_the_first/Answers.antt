@@ -1,5 +1,5 @@
 use Rattle.sx_given_laws.proofs.Knows.{knows}
-use Rattle.sx_given_laws.proofs.Texts.{find-given, memp-given}
+use Rattle.sx_given_laws.proofs.ListTexts.{find-given, memp-given}
 use Rattle.sx_given_laws.proofs.laws.find_and_memp_stop_at_the_first.Goals as goal
 
 pub returns : goal.returns
