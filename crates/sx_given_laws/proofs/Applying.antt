@@ -5,13 +5,25 @@ use Rattle.sx_value.specs.declared.value.Value.TheVariants as value
 use Rattle.sx_prims.specs.Chains.{list_elements}
 use Rattle.sx_eval.specs.Meaning.{eval_of, first_called, applied}
 use Rattle.sx_eval.specs.Setting.{PlainSetting}
-use Rattle.sx_eval.specs.Spread.{Call, apply_args, parted, with_elements, with_front, on_parts, spread_once, spread_on, spread_to, spread}
+use Rattle.sx_eval.specs.Spread.{Call, apply_args, before_last, parted, with_elements, with_front, on_parts, spread_once, spread_on, spread_to, spread}
 use Rattle.sx_eval.specs.State.{State, Outcome, done, charged}
 use Rattle.sx_eval.specs.declared.spread.TheConstants.{APPLY}
 use Rattle.sx_eval.proofs.Paid.{within_or_past, charged_paid, charged_short}
 use Rattle.sx_eval.proofs.Spreading.{parted_last, args_shorter}
-use Rattle.sx_eval_laws.proofs.Carried.{front_shorter}
 use Rattle.sx_given_laws.specs.Calls.{Gives, call_of, Calls}
+
+abbrev parts_or : List Value × Value → Option (List Value × Value) → List Value × Value
+parts_or d None = d
+parts_or d (Some p) = p
+
+front_length : (xs : List Value) (x : Value) → suc (length xs) ≡ length (before_last x (parted xs)).0 + 1
+front_length [] x = refl
+front_length (y ∷ ys) x = omega (arith, front_length ys y)
+
+-- all but the last are one less
+front_shorter : (xs : List Value) (p : List Value × Value) → parted xs ≡ Some p → length xs ≡ length p.0 + 1
+front_shorter [] p e = cc
+front_shorter (x ∷ xs) p e = front_length xs x ∙ ap (λ (q : List Value × Value). length q.0 + 1) (ap (parts_or p) e)
 
 module _ (s : State) where
   -- two ways to go on are the same where there is so much fuel and so many values

@@ -76,11 +76,23 @@ module _ (w : PlainSetting) where
   pub primitive-called : (op : Op) (args : List Value) (s : State) (m : Made) → nat_eq op.0 APPLY ≡ false → has_text op.0 ≡ false → delta op.0 args s.cells w.frames ≡ Ok m
       → Calls w (value.Prim op) args s (performed m s.names s.cells).0 (store (performed m s.names s.cells).1 (name_after (names_taken m) s.names))
   unfolding op_called
-  primitive-called op args s m other no e =
+  primitive-called op args s m other none e =
       gives-same (primitive_called w op.0 args s) (call_of w (value.Prim op) args s) (performed m s.names s.cells).0 (store (performed m s.names s.cells).1 (name_after (names_taken m) s.names))
       (λ n. called-at-once (value.Prim op) args s n (not-apply op args other)
-      ∙ ap (λ b. if b then by_text w (eval_of w) args s n (text_body (code_at w.codes (text_number op.0))) else primitive_called w op.0 args s n) no)
+      ∙ ap (λ b. if b then by_text w (eval_of w) args s n (text_body (code_at w.codes (text_number op.0))) else primitive_called w op.0 args s n) none)
       (answer-given op.0 args s m e)
+
+  same-names : (m : Made) (s : State) → names_taken m ≡ 0 → name_after (names_taken m) s.names ≡ s.names
+  same-names m s e =
+      let same : s.names.number + names_taken m ≡ s.names.number = omega (arith, e) in
+      λ i. record { library = s.names.library; number = same i }
+
+  -- a call that takes no name
+  pub plain-called : (op : Op) (args : List Value) (s : State) (m : Made) → nat_eq op.0 APPLY ≡ false → has_text op.0 ≡ false → names_taken m ≡ 0 → delta op.0 args s.cells w.frames ≡ Ok m
+      → Calls w (value.Prim op) args s (performed m s.names s.cells).0 (store (performed m s.names s.cells).1 s.names)
+  plain-called op args s m other none free e =
+      subst (λ names. Calls w (value.Prim op) args s (performed m s.names s.cells).0 (store (performed m s.names s.cells).1 names)) (same-names m s free)
+      (primitive-called op args s m other none e)
 
   -- Procedures that are given as texts: the text gives a procedure, which is called.
 
@@ -90,12 +102,12 @@ module _ (w : PlainSetting) where
       → Gives (procedure_called w (eval_of w) number parent args t) v u
       → Calls w (value.Prim op) args s v u
   unfolding op_called
-  text-called op args s t u code body number parent v other yes is text given h =
+  text-called op args s t u code body number parent v other some is text given h =
       gives-same (λ n. by_text w (eval_of w) args s n (Some body)) (call_of w (value.Prim op) args s) v u by
       (gives-then (eval_of w body (next_place s) (with_cell (cell.Scope [] None) s)) (text_value_called w (eval_of w) args) (value.Closure number parent) t v u given h)
     where
       by : (n : ℕ) → call_of w (value.Prim op) args s n ≡ by_text w (eval_of w) args s n (Some body)
       by n =
           called-at-once (value.Prim op) args s n (not-apply op args other)
-          ∙ ap (λ b. if b then by_text w (eval_of w) args s n (text_body (code_at w.codes (text_number op.0))) else primitive_called w op.0 args s n) yes
+          ∙ ap (λ b. if b then by_text w (eval_of w) args s n (text_body (code_at w.codes (text_number op.0))) else primitive_called w op.0 args s n) some
           ∙ ap (λ o. by_text w (eval_of w) args s n (text_body o)) is ∙ ap (by_text w (eval_of w) args s n) text

@@ -16,7 +16,7 @@ use Rattle.sx_list_laws.specs.Runs.{here, next, IsList}
 use Rattle.sx_list_laws.proofs.RunLemmas.{pair_still}
 use Rattle.sx_given_laws.specs.Calls.{Calls}
 use Rattle.sx_given_laws.specs.Codes.{prim, app, cars, cdrs, on_cars}
-use Rattle.sx_given_laws.specs.Given.{Maps}
+use Rattle.sx_given_laws.specs.Given.{built_in, Maps}
 use Rattle.sx_given_laws.specs.InTurn.{AllGiveBy}
 use Rattle.sx_given_laws.proofs.Giving.{Evaluates, primitive-is, call-two}
 use Rattle.sx_given_laws.proofs.Looking.{later-stay}
@@ -63,7 +63,7 @@ one-elements cells x v e = ap (λ (c : Chain). if is_nil c.end then Some c.eleme
 pub record One (w : PlainSetting) (args : List Value) (s : State) (x : Value) : Type 0 where
   pub value : Value
   pub state : State
-  pub called : Calls w (value.Prim (record { 0 = 133 })) args s value state
+  pub called : Calls w (built_in 133) args s value state
   pub is : pair_of state.cells value ≡ Some (x, nil)
 
 module _ (w : PlainSetting) (knows : Knows w.codes) (s : State) (ls l : Value) (one : pair_of s.cells ls ≡ Some (l, nil)) where

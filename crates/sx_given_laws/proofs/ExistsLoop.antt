@@ -161,7 +161,7 @@ module _ (w : PlainSetting) (knows : Knows w.codes) (f : Value) (p : Place) wher
             let far = get-below asked.cells (next_place u).0 (cell.Scope frame (Some (next_place s))) inside-asked.frame in
             let near = get-below u.cells (next_place s).0 (cell.Scope (two_vars 45 46 f ls) (Some p)) around.frame in
             variable-is w (label 42) (next_place u) asked g 3
-            (in_parent inside-asked.frame refl (in_parent inside-asked.home refl (in_cell (later-stay u asked ask-later p.0 (cell.Scope home around.around) around.home) refl)))
+            (in_parent inside-asked.frame refl (in_parent (later-stay u asked ask-later (next_place s).0 (cell.Scope (two_vars 45 46 f ls) (Some p)) around.frame) refl (in_cell (later-stay u asked ask-later p.0 (cell.Scope home around.around) around.home) refl)))
             (omega (arith, far, near))
 
         no : truth_of y ≡ false → Holds (z ∷ xs) rest.value rest.state → Holds (x ∷ z ∷ xs) ls s

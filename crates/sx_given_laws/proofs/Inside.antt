@@ -57,9 +57,9 @@ module _ (w : PlainSetting) (s : State) (q : Place) (es : Entries) (p : Place) (
 
   -- one of the `letrec`
   pub outer : (l : Label) (v : Value) → lookup (same_label l) es ≡ None → lookup (same_label l) home ≡ Some (Some v) → Evaluates w (variable l) q s v s
-  outer l v no e =
+  outer l v none e =
       let some = get-below s.cells q.0 (cell.Scope es (Some p)) h.frame in
-      variable-is w l q s v 2 (in_parent h.frame no (in_cell h.home e)) (omega (arith, some))
+      variable-is w l q s v 2 (in_parent h.frame none (in_cell h.home e)) (omega (arith, some))
 
 -- A `letrec` of one procedure.
 

@@ -25,7 +25,7 @@ use Rattle.sx_eval.specs.State.{State, done, store, with_cell}
 use Rattle.sx_given_laws.specs.Calls.{Gives, Calls}
 use Rattle.sx_given_laws.specs.Codes.{prim, app, car, cdr, is_null, cons}
 use Rattle.sx_given_laws.proofs.Giving.{gives-done, gives-charged, Evaluates, evaluates-step, primitive-is, call-one, call-two}
-use Rattle.sx_given_laws.proofs.Calling.{primitive-called}
+use Rattle.sx_given_laws.proofs.Calling.{plain-called}
 
 -- a pair is not the empty list
 pub pair-not-nil : (cells : List Cell) (x y d : Value) → pair_of cells x ≡ Some (y, d) → is_nil x ≡ false
@@ -92,19 +92,19 @@ module _ (w : PlainSetting) where
   -- a call of a primitive of one argument that makes no cell
   pub null-called : (x : Value) (s : State) → Calls w (value.Prim (record { 0 = 141 })) (x ∷ []) s (truth (is_nil x)) s
   unfolding has_text
-  null-called x s = primitive-called w (record { 0 = 141 }) (x ∷ []) s (made.Value (truth (is_nil x))) refl refl (null-answer s.cells w.frames x)
+  null-called x s = plain-called w (record { 0 = 141 }) (x ∷ []) s (made.Value (truth (is_nil x))) refl refl refl (null-answer s.cells w.frames x)
 
   pub not-called : (x : Value) (s : State) → Calls w (value.Prim (record { 0 = 140 })) (x ∷ []) s (truth (is_false x)) s
   unfolding has_text
-  not-called x s = primitive-called w (record { 0 = 140 }) (x ∷ []) s (made.Value (truth (is_false x))) refl refl (not-answer s.cells w.frames x)
+  not-called x s = plain-called w (record { 0 = 140 }) (x ∷ []) s (made.Value (truth (is_false x))) refl refl refl (not-answer s.cells w.frames x)
 
   pub car-called : (x y d : Value) (s : State) → pair_of s.cells x ≡ Some (y, d) → Calls w (value.Prim (record { 0 = 51 })) (x ∷ []) s y s
   unfolding has_text
-  car-called x y d s e = primitive-called w (record { 0 = 51 }) (x ∷ []) s (made.Value y) refl refl (car-answer s.cells w.frames x y d e)
+  car-called x y d s e = plain-called w (record { 0 = 51 }) (x ∷ []) s (made.Value y) refl refl refl (car-answer s.cells w.frames x y d e)
 
   pub cdr-called : (x y d : Value) (s : State) → pair_of s.cells x ≡ Some (y, d) → Calls w (value.Prim (record { 0 = 52 })) (x ∷ []) s d s
   unfolding has_text
-  cdr-called x y d s e = primitive-called w (record { 0 = 52 }) (x ∷ []) s (made.Value d) refl refl (cdr-answer s.cells w.frames x y d e)
+  cdr-called x y d s e = plain-called w (record { 0 = 52 }) (x ∷ []) s (made.Value d) refl refl refl (cdr-answer s.cells w.frames x y d e)
 
   -- the place of the pair that is made next
   abbrev pub next_pair : State → Value
@@ -112,17 +112,17 @@ module _ (w : PlainSetting) where
 
   pub cons-called : (x y : Value) (s : State) → Calls w (value.Prim (record { 0 = 90 })) (x ∷ y ∷ []) s (next_pair s) (with_cell (cell.Pair x y) s)
   unfolding has_text
-  cons-called x y s = primitive-called w (record { 0 = 90 }) (x ∷ y ∷ []) s (made.List (x ∷ []) y) refl refl (cons-answer s.cells w.frames x y)
+  cons-called x y s = plain-called w (record { 0 = 90 }) (x ∷ y ∷ []) s (made.List (x ∷ []) y) refl refl refl (cons-answer s.cells w.frames x y)
 
   pub list-called : (x : Value) (s : State) → Calls w (value.Prim (record { 0 = 121 })) (x ∷ []) s (next_pair s) (with_cell (cell.Pair x nil) s)
   unfolding has_text
-  list-called x s = primitive-called w (record { 0 = 121 }) (x ∷ []) s (made.List (x ∷ []) nil) refl refl (list-answer s.cells w.frames x)
+  list-called x s = plain-called w (record { 0 = 121 }) (x ∷ []) s (made.List (x ∷ []) nil) refl refl refl (list-answer s.cells w.frames x)
 
   -- `append` of a list of one element and a list
   pub append-called : (x y z : Value) (s : State) → list_elements s.cells x ≡ Some (z ∷ [])
       → Calls w (value.Prim (record { 0 = 41 })) (x ∷ y ∷ []) s (next_pair s) (with_cell (cell.Pair z y) s)
   unfolding has_text
-  append-called x y z s e = primitive-called w (record { 0 = 41 }) (x ∷ y ∷ []) s (made.List (z ∷ []) y) refl refl (append-answer s.cells w.frames x y (z ∷ []) e)
+  append-called x y z s e = plain-called w (record { 0 = 41 }) (x ∷ y ∷ []) s (made.List (z ∷ []) y) refl refl refl (append-answer s.cells w.frames x y (z ∷ []) e)
 
   -- Expressions that call them.
 

@@ -71,16 +71,17 @@ module _ (w : PlainSetting) (knows : Knows w.codes) (f l : Value) where
     abbrev Behind : List Value → List Value → State → State → Type 0
     Behind xs zs s t = (ys : List Value) × InTurn w f xs s ys t × (chosen xs zs ≡ others xs ys)
 
-    turned-back : (xs zs : List Value) (s t : State) → Home s.cells p vars → AllGive w f xs s → InTurn w turned xs s zs t → Behind xs zs s t
-    turned-back xs zs s t round give (no_call k) = ([], no_call k, refl)
-    turned-back xs zs s t round give (one_call {x = x} {y = z} {xs = xs'} {ys = zs'} {t = r} {u = u} k c i) =
-        let around = home-later s r k p vars round in
-        let enter = later-then s r (tested x r) k (later-with r (cell.Scope ((label 74, Some x) ∷ []) (Some p))) in
+    turned-back : (xs zs : List Value) (o s t : State) → o ≡ s → Home s.cells p vars → AllGive w f xs s → InTurn w turned xs o zs t → Behind xs zs s t
+    turned-back xs zs o s t e round give (no_call k) = ([], no_call (subst (λ a. Later a t) e k), refl)
+    turned-back xs zs o s t e round give (one_call {x = x} {y = z} {xs = xs'} {ys = zs'} {t = r} {u = u} k c i) =
+        let from : Later s r = subst (λ a. Later a r) e k in
+        let around = home-later s r from p vars round in
+        let enter = later-then s r (tested x r) from (later-with r (cell.Scope ((label 74, Some x) ∷ []) (Some p))) in
         let made = give (tested x r) enter in
         let called = turned-called x r around made.0 made.1 made.2 in
         let value_is : truth (is_false made.0) ≡ z = gives-one-value (call_of w turned (x ∷ []) r) (truth (is_false made.0)) z made.1 u called c in
         let state_is : made.1 ≡ u = gives-one-state (call_of w turned (x ∷ []) r) (truth (is_false made.0)) z made.1 u called c in
-        let rest = turned-back xs' zs' made.1 t (home-later r made.1 (far x r made.0 made.1 made.2) p vars around) made.3 (subst (λ o. InTurn w turned xs' o zs' t) (sym state_is) i) in
+        let rest = turned-back xs' zs' u made.1 t (sym state_is) (home-later r made.1 (far x r made.0 made.1 made.2) p vars around) made.3 i in
         (made.0 ∷ rest.0, one_call enter made.2 rest.1,
         ap (λ v. when_true (truth_of v) x (chosen xs' zs')) (sym value_is) ∙ ap (λ b. when_true b x (chosen xs' zs')) (not-turns made.0)
         ∙ turned-choice (truth_of made.0) x (chosen xs' zs') (others xs' rest.0) rest.2)
@@ -131,4 +132,4 @@ module _ (w : PlainSetting) (knows : Knows w.codes) (f l : Value) where
         m = filter-given w knows (turned q) l xs inner (list-later s inner behind xs l r) (turned-gives q xs inner round gives)
 
         back : Behind q xs m.answers inner m.state
-        back = turned-back q xs m.answers inner m.state round gives m.in_turn
+        back = turned-back q xs m.answers inner inner m.state refl round gives m.in_turn

@@ -9,12 +9,12 @@ use Rattle.sx_given_laws.specs.Calls.{Gives, call_of, Calls}
 use Rattle.sx_given_laws.specs.InTurn.{InTurn, no_call, one_call, AllGive, AllGiveBy}
 use Rattle.sx_given_laws.proofs.Later.{later-then, calls-later}
 
-abbrev value_or : Value → Outcome → Value
+abbrev pub value_or : Value → Outcome → Value
 value_or d (done v s n) = v
 value_or d (faulted f s n) = d
 value_or d unfit = d
 
-abbrev state_or : State → Outcome → State
+abbrev pub state_or : State → Outcome → State
 state_or d (done v s n) = s
 state_or d (faulted f s n) = d
 state_or d unfit = d
