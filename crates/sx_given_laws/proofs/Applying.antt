@@ -1,16 +1,16 @@
 -- What a call of `apply` gives: what the call that it stands for gives.
-use Rattle.std.proofs.Common.{◌≡◌, ◌≤◌, ◌<◌, ◌+◌, ◌-◌, ℕ, zero, suc, List, [], ◌∷◌, ◌++◌, Option, Some, None, length, length-append, refl, ap, sym, ◌∙◌, inl, inr, arith}
+use Rattle.std.proofs.Common.{◌≡◌, ◌<◌, ◌+◌, ◌-◌, ℕ, zero, suc, List, [], ◌∷◌, ◌++◌, Option, Some, None, Ok, length, length-append, refl, ap, sym, ◌∙◌, inl, inr, arith}
 use Rattle.sx_value.specs.declared.value.Value.{Value}
 use Rattle.sx_value.specs.declared.value.Value.TheVariants as value
 use Rattle.sx_prims.specs.Chains.{list_elements}
 use Rattle.sx_eval.specs.Meaning.{eval_of, first_called, applied}
 use Rattle.sx_eval.specs.Setting.{PlainSetting}
 use Rattle.sx_eval.specs.Spread.{Call, apply_args, before_last, parted, with_elements, with_front, on_parts, spread_once, spread_on, spread_to, spread}
-use Rattle.sx_eval.specs.State.{State, Outcome, done, charged}
+use Rattle.sx_eval.specs.State.{State}
 use Rattle.sx_eval.specs.declared.spread.TheConstants.{APPLY}
 use Rattle.sx_eval.proofs.Paid.{within_or_past, charged_paid, charged_short}
 use Rattle.sx_eval.proofs.Spreading.{parted_last, args_shorter}
-use Rattle.sx_given_laws.specs.Calls.{Gives, call_of, Calls}
+use Rattle.sx_given_laws.specs.Calls.{End, ended, call_of, CallEnds, Calls}
 
 abbrev parts_or : List Value × Value → Option (List Value × Value) → List Value × Value
 parts_or d None = d
@@ -74,8 +74,11 @@ module _ (w : PlainSetting) (f : Value) (front xs : List Value) (l : Value) (s :
       ∙ turns-same s (n + suc (suc (length (front ++ l ∷ [])))) (suc (m + suc (length (front ++ xs)))) (first_called w (eval_of w) s) (f ∷ (front ++ xs)) m
       (omega (arith, e, length-append front (l ∷ []), length-append front xs)) (omega arith)
 
-  pub apply-called : (v : Value) (t : State) → list_elements s.cells l ≡ Some xs → Calls w f (front ++ xs) s v t → Calls w (value.Prim (record { 0 = APPLY })) (f ∷ (front ++ l ∷ [])) s v t
-  apply-called v t has h = (h.0 + length xs, by)
+  pub apply-ends : (r : End) (t : State) → list_elements s.cells l ≡ Some xs → CallEnds w f (front ++ xs) s r t → CallEnds w (value.Prim (record { 0 = APPLY })) (f ∷ (front ++ l ∷ [])) s r t
+  apply-ends r t has h = (h.0 + length xs, by)
     where
-      by : (left : ℕ) → call_of w (value.Prim (record { 0 = APPLY })) (f ∷ (front ++ l ∷ [])) s (left + (h.0 + length xs)) ≡ done v t left
+      by : (left : ℕ) → call_of w (value.Prim (record { 0 = APPLY })) (f ∷ (front ++ l ∷ [])) s (left + (h.0 + length xs)) ≡ ended r t left
       by left = applies (left + (h.0 + length xs)) (left + h.0) (omega arith) has ∙ h.1 left
+
+  pub apply-called : (v : Value) (t : State) → list_elements s.cells l ≡ Some xs → Calls w f (front ++ xs) s v t → Calls w (value.Prim (record { 0 = APPLY })) (f ∷ (front ++ l ∷ [])) s v t
+  apply-called v t has h = apply-ends (Ok v) t has h

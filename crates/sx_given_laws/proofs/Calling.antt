@@ -1,15 +1,13 @@
 -- What calls of each kind of procedure give.
-use Rattle.std.proofs.Common.{◌≡◌, ◌≤◌, ◌<◌, ◌+◌, ◌-◌, ℕ, zero, suc, List, [], ◌∷◌, ◌++◌, Option, Some, None, Bool, true, false, Result, Ok, Err, length, length-append, refl, ap, sym, subst, ◌∙◌, arith, if◌then◌else◌, nat_eq}
+use Rattle.std.proofs.Common.{◌≡◌, ◌+◌, ℕ, List, [], ◌∷◌, Some, None, true, false, Ok, length, refl, ap, subst, ◌∙◌, arith, if◌then◌else◌, nat_eq}
 use Rattle.sx_base.specs.declared.name.CodeNo.{CodeNo}
 use Rattle.sx_base.specs.declared.op.Op.{Op}
 use Rattle.sx_region.specs.declared.region.Place.{Place}
-use Rattle.sx_core.specs.Core.{PlainCore, PlainCode, PlainCases}
+use Rattle.sx_core.specs.Core.{PlainCore, PlainCode}
 use Rattle.sx_core.specs.declared.formals.Formals.{Formals}
 use Rattle.sx_value.specs.declared.value.Value.{Value}
 use Rattle.sx_value.specs.declared.value.Value.TheVariants as value
 use Rattle.sx_value.specs.declared.cell.Cell.TheVariants as cell
-use Rattle.sx_prims.specs.Answers.{Answer}
-use Rattle.sx_prims.specs.Chains.{list_elements}
 use Rattle.sx_prims.specs.Cost.{cost}
 use Rattle.sx_prims.specs.Delta.{delta}
 use Rattle.sx_prims.specs.Perform.{performed, names_taken, name_after}
@@ -18,22 +16,23 @@ use Rattle.sx_eval.specs.Codes.{code_at}
 use Rattle.sx_eval.specs.Meaning.{eval_of, answer_made, primitive_called, entered, by_case, by_code, procedure_called, text_value_called, by_text, op_called, value_called, first_called, applied}
 use Rattle.sx_eval.specs.Procedures.{first_case, bindings, has_text, text_number, text_body}
 use Rattle.sx_eval.specs.Setting.{PlainSetting}
-use Rattle.sx_eval.specs.Spread.{Call, apply_args, parted, with_elements, with_front, on_parts, spread_once, spread_on, spread_to, spread}
-use Rattle.sx_eval.specs.State.{State, Outcome, done, charged, store, next_place, with_cell}
+use Rattle.sx_eval.specs.Spread.{apply_args, spread_on, spread_to, spread}
+use Rattle.sx_eval.specs.State.{State, done, store, next_place, with_cell}
 use Rattle.sx_eval.specs.declared.spread.TheConstants.{APPLY}
-use Rattle.sx_eval.proofs.Paid.{within_or_past, charged_paid, charged_short}
-use Rattle.sx_eval.proofs.Spreading.{parted_last, args_shorter}
-use Rattle.sx_eval_laws.specs.Runs.{ByFuel}
-use Rattle.sx_given_laws.specs.Calls.{Gives, call_of, Calls}
-use Rattle.sx_given_laws.proofs.Giving.{gives-done, gives-same, gives-then, gives-charged, Evaluates}
+use Rattle.sx_given_laws.specs.Calls.{End, Ends, Gives, call_of, CallEnds, Calls}
+use Rattle.sx_given_laws.proofs.Giving.{gives-done, ends-same, gives-same, ends-then, gives-charged, Evaluates}
 
 module _ (w : PlainSetting) where
   -- Procedures that a `lambda` made.
 
+  pub closure-ends : (number : CodeNo) (parent : Place) (args : List Value) (s : State) (r : End) (t : State)
+      → Ends (procedure_called w (eval_of w) number parent args s) r t → CallEnds w (value.Closure number parent) args s r t
+  unfolding applied spread first_called
+  closure-ends number parent args s r t h = ends-same (procedure_called w (eval_of w) number parent args s) (call_of w (value.Closure number parent) args s) r t (λ n. refl) h
+
   pub closure-called : (number : CodeNo) (parent : Place) (args : List Value) (s : State) (v : Value) (t : State)
       → Gives (procedure_called w (eval_of w) number parent args s) v t → Calls w (value.Closure number parent) args s v t
-  unfolding applied spread first_called
-  closure-called number parent args s v t h = gives-same (procedure_called w (eval_of w) number parent args s) (call_of w (value.Closure number parent) args s) v t (λ n. refl) h
+  closure-called number parent args s v t h = closure-ends number parent args s (Ok v) t h
 
   pub closure-back : (number : CodeNo) (parent : Place) (args : List Value) (s : State) (v : Value) (t : State)
       → Calls w (value.Closure number parent) args s v t → Gives (procedure_called w (eval_of w) number parent args s) v t
@@ -41,14 +40,20 @@ module _ (w : PlainSetting) where
   closure-back number parent args s v t h = gives-same (call_of w (value.Closure number parent) args s) (procedure_called w (eval_of w) number parent args s) v t (λ n. refl) h
 
   -- the body of the case that takes the arguments, in a new cell with these variables
+  pub case-ends : (number : CodeNo) (parent : Place) (args : List Value) (s : State) (code : PlainCode) (f : Formals) (body : PlainCore) (r : End) (t : State)
+      → code_at w.codes number ≡ Some code → first_case code.cases (length args) ≡ Some (f, body)
+      → Ends (λ n. entered w (eval_of w) body parent s.names n (bindings f.rest f.required args s.cells)) r t
+      → Ends (procedure_called w (eval_of w) number parent args s) r t
+  unfolding procedure_called
+  case-ends number parent args s code f body r t is takes h =
+      ends-same (λ n. entered w (eval_of w) body parent s.names n (bindings f.rest f.required args s.cells)) (procedure_called w (eval_of w) number parent args s) r t
+      (λ n. ap (by_code w (eval_of w) parent args s n) is ∙ ap (by_case w (eval_of w) parent args s n) takes) h
+
   pub case-called : (number : CodeNo) (parent : Place) (args : List Value) (s : State) (code : PlainCode) (f : Formals) (body : PlainCore) (v : Value) (t : State)
       → code_at w.codes number ≡ Some code → first_case code.cases (length args) ≡ Some (f, body)
       → Gives (λ n. entered w (eval_of w) body parent s.names n (bindings f.rest f.required args s.cells)) v t
       → Gives (procedure_called w (eval_of w) number parent args s) v t
-  unfolding procedure_called
-  case-called number parent args s code f body v t is takes h =
-      gives-same (λ n. entered w (eval_of w) body parent s.names n (bindings f.rest f.required args s.cells)) (procedure_called w (eval_of w) number parent args s) v t
-      (λ n. ap (by_code w (eval_of w) parent args s n) is ∙ ap (by_case w (eval_of w) parent args s n) takes) h
+  case-called number parent args s code f body v t is takes h = case-ends number parent args s code f body (Ok v) t is takes h
 
   -- Primitives.
 
@@ -96,18 +101,25 @@ module _ (w : PlainSetting) where
 
   -- Procedures that are given as texts: the text gives a procedure, which is called.
 
-  pub text-called : (op : Op) (args : List Value) (s t u : State) (code : PlainCode) (body : PlainCore) (number : CodeNo) (parent : Place) (v : Value)
+  pub text-ends : (op : Op) (args : List Value) (s t u : State) (code : PlainCode) (body : PlainCore) (number : CodeNo) (parent : Place) (r : End)
       → nat_eq op.0 APPLY ≡ false → has_text op.0 ≡ true → code_at w.codes (text_number op.0) ≡ Some code → text_body (Some code) ≡ Some body
       → Evaluates w body (next_place s) (with_cell (cell.Scope [] None) s) (value.Closure number parent) t
-      → Gives (procedure_called w (eval_of w) number parent args t) v u
-      → Calls w (value.Prim op) args s v u
+      → Ends (procedure_called w (eval_of w) number parent args t) r u
+      → CallEnds w (value.Prim op) args s r u
   unfolding op_called
-  text-called op args s t u code body number parent v other some is text given h =
-      gives-same (λ n. by_text w (eval_of w) args s n (Some body)) (call_of w (value.Prim op) args s) v u by
-      (gives-then (eval_of w body (next_place s) (with_cell (cell.Scope [] None) s)) (text_value_called w (eval_of w) args) (value.Closure number parent) t v u given h)
+  text-ends op args s t u code body number parent r other some is text given h =
+      ends-same (λ n. by_text w (eval_of w) args s n (Some body)) (call_of w (value.Prim op) args s) r u by
+      (ends-then (eval_of w body (next_place s) (with_cell (cell.Scope [] None) s)) (text_value_called w (eval_of w) args) (value.Closure number parent) t r u given h)
     where
       by : (n : ℕ) → call_of w (value.Prim op) args s n ≡ by_text w (eval_of w) args s n (Some body)
       by n =
           called-at-once (value.Prim op) args s n (not-apply op args other)
           ∙ ap (λ b. if b then by_text w (eval_of w) args s n (text_body (code_at w.codes (text_number op.0))) else primitive_called w op.0 args s n) some
           ∙ ap (λ o. by_text w (eval_of w) args s n (text_body o)) is ∙ ap (by_text w (eval_of w) args s n) text
+
+  pub text-called : (op : Op) (args : List Value) (s t u : State) (code : PlainCode) (body : PlainCore) (number : CodeNo) (parent : Place) (v : Value)
+      → nat_eq op.0 APPLY ≡ false → has_text op.0 ≡ true → code_at w.codes (text_number op.0) ≡ Some code → text_body (Some code) ≡ Some body
+      → Evaluates w body (next_place s) (with_cell (cell.Scope [] None) s) (value.Closure number parent) t
+      → Gives (procedure_called w (eval_of w) number parent args t) v u
+      → Calls w (value.Prim op) args s v u
+  text-called op args s t u code body number parent v other some is text given h = text-ends op args s t u code body number parent (Ok v) other some is text given h

@@ -1,13 +1,12 @@
 -- `(map car ls)` and `(map cdr ls)`, where ls is a list of one list.
-use Rattle.std.proofs.Common.{◌≡◌, ℕ, zero, suc, ◌<◌, List, [], ◌∷◌, ◌++◌, Option, Some, None, Bool, true, false, length, map, refl, ap, sym, subst, ◌∙◌, arith, if◌then◌else◌}
+use Rattle.std.proofs.Common.{◌≡◌, ℕ, zero, suc, ◌<◌, List, [], ◌∷◌, Some, None, length, ap, subst, ◌∙◌, arith, if◌then◌else◌}
 use Rattle.sx_base.specs.declared.op.Op.{Op}
 use Rattle.sx_region.specs.declared.region.Place.{Place}
 use Rattle.sx_core.specs.Core.{PlainCore}
-use Rattle.sx_value.specs.Cells.{pair_at}
 use Rattle.sx_value.specs.declared.value.Value.{Value}
 use Rattle.sx_value.specs.declared.value.Value.TheVariants as value
 use Rattle.sx_value.specs.declared.cell.Cell.{Cell}
-use Rattle.sx_prims.specs.Chains.{Chain, ended, linked, chain_on, chain_to, chain, list_elements, pair_of, is_nil}
+use Rattle.sx_prims.specs.Chains.{Chain, linked, chain_on, chain_to, chain, list_elements, pair_of, is_nil}
 use Rattle.sx_prims.specs.Lists.{nil}
 use Rattle.sx_eval.specs.Setting.{PlainSetting}
 use Rattle.sx_eval.specs.State.{State}
@@ -15,7 +14,7 @@ use Rattle.sx_eval_laws.specs.Kept.{Later}
 use Rattle.sx_list_laws.specs.Runs.{here, next, IsList}
 use Rattle.sx_list_laws.proofs.RunLemmas.{pair_still}
 use Rattle.sx_given_laws.specs.Calls.{Calls}
-use Rattle.sx_given_laws.specs.Codes.{prim, app, cars, cdrs, on_cars}
+use Rattle.sx_given_laws.specs.Codes.{prim, cars, cdrs, on_cars}
 use Rattle.sx_given_laws.specs.Given.{built_in, Maps}
 use Rattle.sx_given_laws.specs.InTurn.{AllGiveBy}
 use Rattle.sx_given_laws.proofs.Giving.{Evaluates, primitive-is, call-two}
@@ -23,7 +22,6 @@ use Rattle.sx_given_laws.proofs.Looking.{later-stay}
 use Rattle.sx_given_laws.proofs.Applying.{apply-called}
 use Rattle.sx_given_laws.proofs.Knows.{Knows}
 use Rattle.sx_given_laws.proofs.ForEach.{chain-of-nil}
-use Rattle.sx_given_laws.proofs.Later.{later-refl, later-then, calls-later}
 use Rattle.sx_given_laws.proofs.MapOne.{list-none, list-some}
 use Rattle.sx_given_laws.proofs.MapText.{map-given}
 use Rattle.sx_given_laws.proofs.Primitives.{car-called, cdr-called}

@@ -1,7 +1,6 @@
 -- A call that gives a value with some fuel gives it with all that is more.
-use Rattle.std.proofs.Common.{◌≡◌, ◌≤◌, ◌-◌, ◌+◌, ℕ, List, ◌∷◌, refl, ap, sym, subst, ◌∙◌, arith}
+use Rattle.std.proofs.Common.{◌≡◌, ◌≤◌, ◌-◌, ◌+◌, ℕ, List, ◌∷◌, ap, sym, subst, ◌∙◌, arith}
 use Rattle.sx_value.specs.declared.value.Value.{Value}
-use Rattle.sx_eval.specs.Meaning.{eval_of, applied}
 use Rattle.sx_eval.specs.Setting.{PlainSetting}
 use Rattle.sx_eval.specs.State.{State, Outcome, done, faulted, unfit}
 use Rattle.sx_eval_laws.specs.MoreFuel.{more_left, IsSpent, MoreIsLeft, LeavesAtLeast, LeftIsNotNeeded, LeavesAtMost, FuelFalls}

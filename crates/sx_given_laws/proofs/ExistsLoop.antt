@@ -1,5 +1,5 @@
 -- `exists` on one list, by its text.
-use Rattle.std.proofs.Common.{◌≡◌, ℕ, List, [], ◌∷◌, ◌++◌, Option, Some, None, Bool, true, false, refl, ap, sym, subst, ◌∙◌, arith}
+use Rattle.std.proofs.Common.{◌≡◌, List, [], ◌∷◌, Some, None, true, false, refl, ap, arith}
 use Rattle.sx_region.specs.declared.region.Place.{Place}
 use Rattle.sx_value.specs.declared.value.Value.{Value}
 use Rattle.sx_value.specs.declared.value.Value.TheVariants as value
@@ -16,9 +16,9 @@ use Rattle.sx_eval.specs.Variables.{Entries}
 use Rattle.sx_eval_laws.specs.Kept.{Later}
 use Rattle.sx_list_laws.specs.Runs.{IsList}
 use Rattle.sx_given_laws.specs.Calls.{Calls}
-use Rattle.sx_given_laws.specs.Codes.{label, code_no, var, formals, one_case, lambda, app, cdrs, on_cars, exists_next, exists_asked, exists_some, exists_loop}
+use Rattle.sx_given_laws.specs.Codes.{label, code_no, var, formals, one_case, lambda, cdrs, on_cars, exists_next, exists_asked, exists_some, exists_loop}
 use Rattle.sx_given_laws.specs.Given.{Existences}
-use Rattle.sx_given_laws.specs.InTurn.{Exists, some_none, some_last, some_here, some_behind, SearchGives}
+use Rattle.sx_given_laws.specs.InTurn.{some_none, some_last, some_here, some_behind, SearchGives}
 use Rattle.sx_given_laws.proofs.Giving.{Evaluates, procedure-is, call-one, call-two, if-true, if-false}
 use Rattle.sx_given_laws.proofs.Calling.{closure-called, case-called}
 use Rattle.sx_given_laws.proofs.Looking.{get-below, later-stay, in_cell, in_parent, variable-is}
@@ -64,8 +64,8 @@ module _ (w : PlainSetting) (knows : Knows w.codes) (f : Value) (p : Place) wher
       value = truth false;
       state = at;
       called = by-body (truth false) at
-      (if-true w _ _ _ (next_place s) at at at (truth true) (truth false)
-      (lists.first-null w knows 43 42 45 46 exists_loop knows.exists_loop p home names f ls s round l one at (later-refl at) true (ap is_nil e)) refl (bool-is w _ false (next_place s) at));
+          (if-true w _ _ _ (next_place s) at at at (truth true) (truth false)
+          (lists.first-null w knows 43 42 45 46 exists_loop knows.exists_loop p home names f ls s round l one at (later-refl at) true (ap is_nil e)) refl (bool-is w _ false (next_place s) at));
       exists = some_none enter;
     }
 
@@ -91,8 +91,8 @@ module _ (w : PlainSetting) (knows : Knows w.codes) (f : Value) (p : Place) wher
         value = y;
         state = u;
         called = some y u
-        (if-true w _ _ _ (next_place s) at at u (truth true) y
-        (lists.rest-null w knows 43 42 45 46 exists_loop knows.exists_loop p home names f ls s round l one at (later-refl at) x d pair true (ap is_nil e)) refl (testing y u h));
+            (if-true w _ _ _ (next_place s) at at u (truth true) y
+            (lists.rest-null w knows 43 42 45 46 exists_loop knows.exists_loop p home names f ls s round l one at (later-refl at) x d pair true (ap is_nil e)) refl (testing y u h));
         exists = some_last till-first h (later-refl u);
       }
 
@@ -169,10 +169,10 @@ module _ (w : PlainSetting) (knows : Knows w.codes) (f : Value) (p : Place) wher
           value = r.value;
           state = r.state;
           called = asking r.value r.state (if-false w _ _ _ (next_place u) asked asked r.state y r.value answer-read e
-          (call-two w (var 42) (var 45) (cdrs (var 46)) (next_place u) asked asked asked rest.state r.state g f rest.value r.value loop-read
-          (outer w asked (next_place u) frame (next_place s) (two_vars 45 46 f ls) inside-asked (label 45) f refl refl)
-          (cdrs-is w knows asked ls l one-asked x d pair-asked (var 46) (next_place u) (outer w asked (next_place u) frame (next_place s) (two_vars 45 46 f ls) inside-asked (label 46) ls refl refl))
-          r.called));
+              (call-two w (var 42) (var 45) (cdrs (var 46)) (next_place u) asked asked asked rest.state r.state g f rest.value r.value loop-read
+              (outer w asked (next_place u) frame (next_place s) (two_vars 45 46 f ls) inside-asked (label 45) f refl refl)
+              (cdrs-is w knows asked ls l one-asked x d pair-asked (var 46) (next_place u) (outer w asked (next_place u) frame (next_place s) (two_vars 45 46 f ls) inside-asked (label 46) ls refl refl))
+              r.called));
           exists = some_behind till-first h e (exists-from w f (z ∷ xs) r.value u rest.state r.state till-rest r.exists);
         }
 

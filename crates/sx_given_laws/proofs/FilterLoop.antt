@@ -1,9 +1,8 @@
 -- The loop of `filter`.
-use Rattle.std.proofs.Common.{◌≡◌, ℕ, List, [], ◌∷◌, ◌++◌, Option, Some, None, Bool, true, false, length, refl, ap, sym, subst, ◌∙◌}
+use Rattle.std.proofs.Common.{◌≡◌, List, [], ◌∷◌, ◌++◌, Some, None, Bool, true, false, refl, sym, subst}
 use Rattle.sx_region.specs.declared.region.Place.{Place}
 use Rattle.sx_value.specs.declared.value.Value.{Value}
 use Rattle.sx_value.specs.declared.value.Value.TheVariants as value
-use Rattle.sx_value.specs.declared.cell.Cell.{Cell}
 use Rattle.sx_value.specs.declared.cell.Cell.TheVariants as cell
 use Rattle.sx_prims.specs.Answers.{truth}
 use Rattle.sx_prims.specs.Chains.{pair_of}
@@ -45,7 +44,7 @@ module _ (w : PlainSetting) (known : code_at w.codes (code_no 61) ≡ Some (proc
     value = nil;
     state = s1;
     called = loop.loop-called w 61 60 63 64 filter_loop known p home names f nil s round nil s1
-    (if-true w _ _ _ (next_place s) s1 s1 s1 (truth true) nil (loop.is-null w 61 60 63 64 filter_loop known p home names f nil s round s1 (later-refl s1) refl) refl (nil-is w _ (next_place s) s1));
+        (if-true w _ _ _ (next_place s) s1 s1 s1 (truth true) nil (loop.is-null w 61 60 63 64 filter_loop known p home names f nil s round s1 (later-refl s1) refl) refl (nil-is w _ (next_place s) s1));
     answers = [];
     in_turn = no_call (loop.entered-later w 61 60 63 64 filter_loop known p home names f nil s round);
     list = here;
@@ -86,12 +85,12 @@ module _ (w : PlainSetting) (known : code_at w.codes (code_no 61) ≡ Some (proc
           value = next_pair w rest.state;
           state = with_cell (cell.Pair x rest.value) rest.state;
           called = with-null (next_pair w rest.state) (with_cell (cell.Pair x rest.value) rest.state)
-          (if-true w _ _ _ q s1 u (with_cell (cell.Pair x rest.value) rest.state) y (next_pair w rest.state) test e
-          (cons-is w (car (var 64)) q u u x (loop.first-read w 61 60 63 64 filter_loop known p home names f l s round u behind x d pair) _ rest.value rest.state others));
+              (if-true w _ _ _ q s1 u (with_cell (cell.Pair x rest.value) rest.state) y (next_pair w rest.state) test e
+              (cons-is w (car (var 64)) q u u x (loop.first-read w 61 60 63 64 filter_loop known p home names f l s round u behind x d pair) _ rest.value rest.state others));
           answers = y ∷ rest.answers;
           in_turn = one_call enter called (in-turn-to w f xs rest.answers u rest.state (with_cell (cell.Pair x rest.value) rest.state) rest.in_turn (later-with rest.state (cell.Pair x rest.value)));
           list = subst (λ b. IsList (rest.state.cells ++ cell.Pair x rest.value ∷ []) (when_true b x (chosen xs rest.answers)) (next_pair w rest.state)) (sym e)
-          (list-more rest.state.cells x rest.value (chosen xs rest.answers) rest.list);
+              (list-more rest.state.cells x rest.value (chosen xs rest.answers) rest.list);
         }
         by false e = record {
           value = rest.value;

@@ -1,24 +1,22 @@
 -- The loop of `find`.
-use Rattle.std.proofs.Common.{◌≡◌, ℕ, List, [], ◌∷◌, ◌++◌, Option, Some, None, Bool, true, false, length, refl, ap, sym, subst, ◌∙◌}
+use Rattle.std.proofs.Common.{◌≡◌, List, [], ◌∷◌, Some, None, Bool, true, false, refl, sym, subst}
 use Rattle.sx_region.specs.declared.region.Place.{Place}
 use Rattle.sx_value.specs.declared.value.Value.{Value}
 use Rattle.sx_value.specs.declared.value.Value.TheVariants as value
-use Rattle.sx_value.specs.declared.cell.Cell.{Cell}
-use Rattle.sx_value.specs.declared.cell.Cell.TheVariants as cell
 use Rattle.sx_prims.specs.Answers.{truth}
 use Rattle.sx_prims.specs.Chains.{pair_of}
 use Rattle.sx_prims.specs.Lists.{nil}
 use Rattle.sx_eval.specs.Codes.{code_at, procedure_code}
 use Rattle.sx_eval.specs.Procedures.{truth_of}
 use Rattle.sx_eval.specs.Setting.{PlainSetting}
-use Rattle.sx_eval.specs.State.{State, next_place, with_cell}
+use Rattle.sx_eval.specs.State.{State, next_place}
 use Rattle.sx_eval.specs.Variables.{Entries}
 use Rattle.sx_eval_laws.specs.Kept.{Later}
-use Rattle.sx_list_laws.specs.Runs.{here, IsList}
+use Rattle.sx_list_laws.specs.Runs.{IsList}
 use Rattle.sx_given_laws.specs.Calls.{Calls}
-use Rattle.sx_given_laws.specs.Codes.{label, code_no, var, one_case, app, car, cdr, find_some, find_loop}
+use Rattle.sx_given_laws.specs.Codes.{label, code_no, var, one_case, app, car, find_some, find_loop}
 use Rattle.sx_given_laws.specs.Given.{Finds, first_or_false}
-use Rattle.sx_given_laws.specs.InTurn.{Search, not_there, passed, there, SearchGives}
+use Rattle.sx_given_laws.specs.InTurn.{not_there, passed, there, SearchGives}
 use Rattle.sx_given_laws.proofs.Giving.{Evaluates, if-true, if-false}
 use Rattle.sx_given_laws.proofs.Inside.{Home, home-later, one_home}
 use Rattle.sx_given_laws.proofs.Later.{later-refl, later-then, calls-later, list-later}
@@ -26,7 +24,6 @@ use Rattle.sx_given_laws.proofs.Primitives.{bool-is}
 use Rattle.sx_given_laws.proofs.MapOne.{list-none, list-some}
 use Rattle.sx_given_laws.proofs.Loop as loop
 use Rattle.sx_given_laws.proofs.Loop.{Names}
-
 
 -- either way
 pub by-truth : (b : Bool) (P : Type 0) → (b ≡ true → P) → (b ≡ false → P) → P
@@ -52,7 +49,7 @@ module _ (w : PlainSetting) (known : code_at w.codes (code_no 78) ≡ Some (proc
     rest = [];
     search = not_there (loop.entered-later w 78 77 80 81 find_loop known p home names f nil s round);
     called = loop.loop-called w 78 77 80 81 find_loop known p home names f nil s round (truth false) s1
-    (if-true w _ _ _ (next_place s) s1 s1 s1 (truth true) (truth false) (loop.is-null w 78 77 80 81 find_loop known p home names f nil s round s1 (later-refl s1) refl) refl (bool-is w _ false (next_place s) s1));
+        (if-true w _ _ _ (next_place s) s1 s1 s1 (truth true) (truth false) (loop.is-null w 78 77 80 81 find_loop known p home names f nil s round s1 (later-refl s1) refl) refl (bool-is w _ false (next_place s) s1));
   }
     where
       s1 : State
@@ -78,7 +75,7 @@ module _ (w : PlainSetting) (known : code_at w.codes (code_no 78) ≡ Some (proc
       rest = x ∷ xs;
       search = there enter called e (later-refl u);
       called = with-test y u x u called
-      (λ test. if-true w _ _ _ (next_place s) s1 u u y x test e (loop.first-read w 78 77 80 81 find_loop known p home names f l s round u (calls-later w f (x ∷ []) s1 y u called) x d pair));
+          (λ test. if-true w _ _ _ (next_place s) s1 u u y x test e (loop.first-read w 78 77 80 81 find_loop known p home names f l s round u (calls-later w f (x ∷ []) s1 y u called) x d pair));
     }
 
     missed : (y : Value) (u : State) → Calls w f (x ∷ []) s1 y u → truth_of y ≡ false → Found xs d u → Found (x ∷ xs) l s
@@ -87,8 +84,8 @@ module _ (w : PlainSetting) (known : code_at w.codes (code_no 78) ≡ Some (proc
       rest = rest.rest;
       search = passed enter called e rest.search;
       called = with-test y u (first_or_false rest.rest) rest.state called
-      (λ test. if-false w _ _ _ (next_place s) s1 u rest.state y (first_or_false rest.rest) test e
-      (loop.loop-again w 78 77 80 81 find_loop known p home names f l s round u (calls-later w f (x ∷ []) s1 y u called) x d pair (first_or_false rest.rest) rest.state rest.called));
+          (λ test. if-false w _ _ _ (next_place s) s1 u rest.state y (first_or_false rest.rest) test e
+          (loop.loop-again w 78 77 80 81 find_loop known p home names f l s round u (calls-later w f (x ∷ []) s1 y u called) x d pair (first_or_false rest.rest) rest.state rest.called));
     }
 
   pub find-loop : (xs : List Value) (l : Value) (s : State) → Home s.cells p home → IsList s.cells xs l → SearchGives w f xs s → Found xs l s

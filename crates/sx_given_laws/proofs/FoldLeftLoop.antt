@@ -1,5 +1,5 @@
 -- `fold-left` on one list, by its text.
-use Rattle.std.proofs.Common.{◌≡◌, ℕ, List, [], ◌∷◌, ◌++◌, Option, Some, None, Bool, true, false, refl, ap, sym, subst, ◌∙◌}
+use Rattle.std.proofs.Common.{◌≡◌, List, [], ◌∷◌, Some, None, Bool, true, false, refl, ap}
 use Rattle.sx_region.specs.declared.region.Place.{Place}
 use Rattle.sx_region.proofs.Laws.{slice_get-added}
 use Rattle.sx_value.specs.Cells.{pair_in}
@@ -20,7 +20,7 @@ use Rattle.sx_list_laws.proofs.RunLemmas.{pair_still}
 use Rattle.sx_given_laws.specs.Calls.{Calls}
 use Rattle.sx_given_laws.specs.Codes.{label, code_no, var, prim, formals, one_case, lambda, app, car, cars, cdrs, first_is_null, fold_left_loop, enter_fold}
 use Rattle.sx_given_laws.specs.Given.{FoldsLeft}
-use Rattle.sx_given_laws.specs.InTurn.{FoldLeft, left_end, left_step, FoldLeftGives}
+use Rattle.sx_given_laws.specs.InTurn.{left_end, left_step, FoldLeftGives}
 use Rattle.sx_given_laws.proofs.Giving.{Evaluates, procedure-is, primitive-is, call-three, if-true, if-false}
 use Rattle.sx_given_laws.proofs.Applying.{apply-called}
 use Rattle.sx_given_laws.proofs.Calling.{closure-called, case-called}
@@ -123,10 +123,10 @@ module _ (w : PlainSetting) (knows : Knows w.codes) (f : Value) (p : Place) wher
           value = r.value;
           state = r.state;
           called = by-body r.value r.state
-          (if-false w _ _ _ q at at r.state (truth false) r.value (first-null false (pair-not-nil s.cells l x d pair)) refl
-          (call-three w (var 93) (var 96) _ (cdrs (var 98)) q at at at u rest.state r.state g f y rest.value r.value
-          (outer w at q vars p home inside (label 93) g refl refl) (own w at q vars p home inside (label 96) f refl) step
-          (cdrs-is w knows u ls l one-then x d pair-then (var 98) q (own w u q vars p home inside-then (label 98) ls refl)) r.called));
+              (if-false w _ _ _ q at at r.state (truth false) r.value (first-null false (pair-not-nil s.cells l x d pair)) refl
+              (call-three w (var 93) (var 96) _ (cdrs (var 98)) q at at at u rest.state r.state g f y rest.value r.value
+              (outer w at q vars p home inside (label 93) g refl refl) (own w at q vars p home inside (label 96) f refl) step
+              (cdrs-is w knows u ls l one-then x d pair-then (var 98) q (own w u q vars p home inside-then (label 98) ls refl)) r.called));
           fold = left_step till-first h (fold-from w f y xs r.value u rest.state r.state till-rest r.fold);
         }
 
@@ -165,13 +165,13 @@ module _ (w : PlainSetting) (knows : Knows w.codes) (f z l : Value) (xs : List V
     value = m.value;
     state = m.state;
     called = text-by w s 93 94 196 (96 ∷ 97 ∷ 98 ∷ []) fold_left_loop refl refl refl (lambda 101 (103 ∷ 104 ∷ 105 ∷ []) (Some 106) (enter_fold 93 103 104 105 106)) 101 (f ∷ z ∷ l ∷ []) m.value m.state knows.fold_left_text
-    (procedure-is w (code_no 101) (one_case (103 ∷ 104 ∷ 105 ∷ []) (Some 106) (enter_fold 93 103 104 105 106)) true home_at at_ready)
-    (case-called w (code_no 101) home_at (f ∷ z ∷ l ∷ []) at_ready (procedure_code (code_no 101) (one_case (103 ∷ 104 ∷ 105 ∷ []) (Some 106) (enter_fold 93 103 104 105 106)) true)
-    (formals (103 ∷ 104 ∷ 105 ∷ []) (Some 106)) (enter_fold 93 103 104 105 106) m.value m.state knows.fold_left_body refl
-    (call-three w (var 93) (var 103) (var 104) _ at inner inner inner inner begun m.state (value.Closure (code_no 94) home_at) f z lists m.value
-    (outer w inner at four home_at home inside (label 93) (value.Closure (code_no 94) home_at) refl refl)
-    (own w inner at four home_at home inside (label 103) f refl) (own w inner at four home_at home inside (label 104) z refl)
-    (cons-is w (var 105) at inner inner l (own w inner at four home_at home inside (label 105) l refl) (var 106) nil inner (own w inner at four home_at home inside (label 106) nil refl)) m.called));
+        (procedure-is w (code_no 101) (one_case (103 ∷ 104 ∷ 105 ∷ []) (Some 106) (enter_fold 93 103 104 105 106)) true home_at at_ready)
+        (case-called w (code_no 101) home_at (f ∷ z ∷ l ∷ []) at_ready (procedure_code (code_no 101) (one_case (103 ∷ 104 ∷ 105 ∷ []) (Some 106) (enter_fold 93 103 104 105 106)) true)
+        (formals (103 ∷ 104 ∷ 105 ∷ []) (Some 106)) (enter_fold 93 103 104 105 106) m.value m.state knows.fold_left_body refl
+        (call-three w (var 93) (var 103) (var 104) _ at inner inner inner inner begun m.state (value.Closure (code_no 94) home_at) f z lists m.value
+        (outer w inner at four home_at home inside (label 93) (value.Closure (code_no 94) home_at) refl refl)
+        (own w inner at four home_at home inside (label 103) f refl) (own w inner at four home_at home inside (label 104) z refl)
+        (cons-is w (var 105) at inner inner l (own w inner at four home_at home inside (label 105) l refl) (var 106) nil inner (own w inner at four home_at home inside (label 106) nil refl)) m.called));
     fold = fold-from w f z xs m.value s begun m.state far m.fold;
   }
     where

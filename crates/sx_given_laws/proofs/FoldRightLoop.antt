@@ -1,5 +1,5 @@
 -- `fold-right` on one list, by its text.
-use Rattle.std.proofs.Common.{◌≡◌, ◌≤◌, ◌+◌, ℕ, zero, suc, List, [], ◌∷◌, ◌++◌, Option, Some, None, Bool, true, false, length, length-append, refl, ap, sym, subst, ◌∙◌, arith, if◌then◌else◌}
+use Rattle.std.proofs.Common.{◌≡◌, ◌≤◌, ℕ, zero, suc, List, [], ◌∷◌, Some, None, Bool, true, false, length, length-append, refl, ap, ◌∙◌, arith, if◌then◌else◌}
 use Rattle.sx_region.specs.declared.region.Place.{Place}
 use Rattle.sx_region.proofs.Laws.{slice_get-added}
 use Rattle.sx_value.specs.Cells.{pair_in}
@@ -16,12 +16,12 @@ use Rattle.sx_eval.specs.Setting.{PlainSetting}
 use Rattle.sx_eval.specs.State.{State, next_place, with_cell}
 use Rattle.sx_eval.specs.Variables.{Entries}
 use Rattle.sx_eval_laws.specs.Kept.{Later}
-use Rattle.sx_list_laws.specs.Runs.{Runs, here, next, IsList}
+use Rattle.sx_list_laws.specs.Runs.{here, IsList}
 use Rattle.sx_list_laws.proofs.RunLemmas.{pair_still}
 use Rattle.sx_given_laws.specs.Calls.{Calls}
 use Rattle.sx_given_laws.specs.Codes.{label, code_no, var, prim, formals, one_case, lambda, app, car, cars, cdrs, first_is_null, fold_right_args, fold_right_loop, enter_fold}
 use Rattle.sx_given_laws.specs.Given.{FoldsRight}
-use Rattle.sx_given_laws.specs.InTurn.{FoldRight, right_end, right_step, FoldRightGives}
+use Rattle.sx_given_laws.specs.InTurn.{right_end, right_step, FoldRightGives}
 use Rattle.sx_given_laws.proofs.Giving.{Evaluates, procedure-is, primitive-is, call-two, call-three, if-true, if-false}
 use Rattle.sx_given_laws.proofs.Applying.{apply-called}
 use Rattle.sx_given_laws.proofs.Calling.{closure-called, case-called}
@@ -162,10 +162,10 @@ module _ (w : PlainSetting) (knows : Knows w.codes) (f z : Value) (p : Place) wh
           value = y;
           state = u;
           called = by-body y u
-          (if-false w _ _ _ q at at u (truth false) y (first-null false (pair-not-nil s.cells l x d pair)) refl
-          (call-two w (prim 42) (var 112) _ q at at at joined u (value.Prim (record { 0 = 42 })) f (next_pair w listed) y
-          (primitive-is w (record { 0 = 42 }) q at) (own w at q vars p home inside (label 112) f refl) gathered
-          (apply-called w f [] (x ∷ r.value ∷ []) (next_pair w listed) joined y u arguments h)));
+              (if-false w _ _ _ q at at u (truth false) y (first-null false (pair-not-nil s.cells l x d pair)) refl
+              (call-two w (prim 42) (var 112) _ q at at at joined u (value.Prim (record { 0 = 42 })) f (next_pair w listed) y
+              (primitive-is w (record { 0 = 42 }) q at) (own w at q vars p home inside (label 112) f refl) gathered
+              (apply-called w f [] (x ∷ r.value ∷ []) (next_pair w listed) joined y u arguments h)));
           fold = right_step (right-from w f z xs r.value s rest.state r.state till-rest r.fold) far h;
         }
 
@@ -176,7 +176,7 @@ module _ (w : PlainSetting) (knows : Knows w.codes) (f z : Value) (p : Place) wh
       let next = rest ls l s round one x c.0 c.1 in
       let step = till-rest ls l s round one x c.0 c.1 in
       let folded = fold-right-loop xs next.value c.0 next.state (home-later s next.state step p home round) next.is (list-later s next.state step xs c.0 c.2) (right-gives-later w f z xs s next.state step give.0) in
-      let made = give.1 folded.value folded.state _ (right-from w f z xs folded.value s next.state folded.state step folded.fold) (far ls l s round one x c.0 c.1 xs folded) in
+      let made = give.1 folded.value folded.state (joined ls l s round one x c.0 c.1 xs folded) (right-from w f z xs folded.value s next.state folded.state step folded.fold) (far ls l s round one x c.0 c.1 xs folded) in
       some ls l s round one x c.0 c.1 xs folded made.0 made.1 made.2
 
 module _ (w : PlainSetting) (knows : Knows w.codes) (f z l : Value) (xs : List Value) (s : State) (r : IsList s.cells xs l) where
@@ -201,13 +201,13 @@ module _ (w : PlainSetting) (knows : Knows w.codes) (f z l : Value) (xs : List V
     value = m.value;
     state = m.state;
     called = text-by w s 109 110 197 (112 ∷ 113 ∷ 114 ∷ []) fold_right_loop refl refl refl (lambda 117 (119 ∷ 120 ∷ 121 ∷ []) (Some 122) (enter_fold 109 119 120 121 122)) 117 (f ∷ z ∷ l ∷ []) m.value m.state knows.fold_right_text
-    (procedure-is w (code_no 117) (one_case (119 ∷ 120 ∷ 121 ∷ []) (Some 122) (enter_fold 109 119 120 121 122)) true home_at at_ready)
-    (case-called w (code_no 117) home_at (f ∷ z ∷ l ∷ []) at_ready (procedure_code (code_no 117) (one_case (119 ∷ 120 ∷ 121 ∷ []) (Some 122) (enter_fold 109 119 120 121 122)) true)
-    (formals (119 ∷ 120 ∷ 121 ∷ []) (Some 122)) (enter_fold 109 119 120 121 122) m.value m.state knows.fold_right_body refl
-    (call-three w (var 109) (var 119) (var 120) _ at inner inner inner inner begun m.state (value.Closure (code_no 110) home_at) f z lists m.value
-    (outer w inner at four home_at home inside (label 109) (value.Closure (code_no 110) home_at) refl refl)
-    (own w inner at four home_at home inside (label 119) f refl) (own w inner at four home_at home inside (label 120) z refl)
-    (cons-is w (var 121) at inner inner l (own w inner at four home_at home inside (label 121) l refl) (var 122) nil inner (own w inner at four home_at home inside (label 122) nil refl)) m.called));
+        (procedure-is w (code_no 117) (one_case (119 ∷ 120 ∷ 121 ∷ []) (Some 122) (enter_fold 109 119 120 121 122)) true home_at at_ready)
+        (case-called w (code_no 117) home_at (f ∷ z ∷ l ∷ []) at_ready (procedure_code (code_no 117) (one_case (119 ∷ 120 ∷ 121 ∷ []) (Some 122) (enter_fold 109 119 120 121 122)) true)
+        (formals (119 ∷ 120 ∷ 121 ∷ []) (Some 122)) (enter_fold 109 119 120 121 122) m.value m.state knows.fold_right_body refl
+        (call-three w (var 109) (var 119) (var 120) _ at inner inner inner inner begun m.state (value.Closure (code_no 110) home_at) f z lists m.value
+        (outer w inner at four home_at home inside (label 109) (value.Closure (code_no 110) home_at) refl refl)
+        (own w inner at four home_at home inside (label 119) f refl) (own w inner at four home_at home inside (label 120) z refl)
+        (cons-is w (var 121) at inner inner l (own w inner at four home_at home inside (label 121) l refl) (var 122) nil inner (own w inner at four home_at home inside (label 122) nil refl)) m.called));
     fold = right-from w f z xs m.value s begun m.state far m.fold;
   }
     where

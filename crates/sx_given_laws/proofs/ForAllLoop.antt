@@ -1,5 +1,5 @@
 -- `for-all` on one list, by its text.
-use Rattle.std.proofs.Common.{◌≡◌, ℕ, List, [], ◌∷◌, ◌++◌, Option, Some, None, Bool, true, false, refl, ap, sym, subst, ◌∙◌}
+use Rattle.std.proofs.Common.{◌≡◌, List, [], ◌∷◌, Some, true, false, refl, ap}
 use Rattle.sx_region.specs.declared.region.Place.{Place}
 use Rattle.sx_value.specs.declared.value.Value.{Value}
 use Rattle.sx_value.specs.declared.value.Value.TheVariants as value
@@ -15,7 +15,7 @@ use Rattle.sx_list_laws.specs.Runs.{IsList}
 use Rattle.sx_given_laws.specs.Calls.{Calls}
 use Rattle.sx_given_laws.specs.Codes.{label, code_no, var, on_cars, for_all_next, for_all_some, for_all_loop}
 use Rattle.sx_given_laws.specs.Given.{ForAlls}
-use Rattle.sx_given_laws.specs.InTurn.{ForAll, all_none, all_last, all_but, all_so_far, ForAllGives}
+use Rattle.sx_given_laws.specs.InTurn.{all_none, all_last, all_but, all_so_far, ForAllGives}
 use Rattle.sx_given_laws.proofs.Giving.{Evaluates, if-true, if-false}
 use Rattle.sx_given_laws.proofs.FindLoop.{by-truth}
 use Rattle.sx_given_laws.proofs.Cars.{One}
@@ -59,8 +59,8 @@ module _ (w : PlainSetting) (knows : Knows w.codes) (f : Value) (p : Place) wher
       value = truth true;
       state = at;
       called = by-body (truth true) at
-      (if-true w _ _ _ (next_place s) at at at (truth true) (truth true)
-      (lists.first-null w knows 29 28 31 32 for_all_loop knows.for_all_loop p home names f ls s round l one at (later-refl at) true (ap is_nil e)) refl (bool-is w _ true (next_place s) at));
+          (if-true w _ _ _ (next_place s) at at at (truth true) (truth true)
+          (lists.first-null w knows 29 28 31 32 for_all_loop knows.for_all_loop p home names f ls s round l one at (later-refl at) true (ap is_nil e)) refl (bool-is w _ true (next_place s) at));
       all = all_none enter;
     }
 
@@ -86,8 +86,8 @@ module _ (w : PlainSetting) (knows : Knows w.codes) (f : Value) (p : Place) wher
         value = y;
         state = u;
         called = some y u
-        (if-true w _ _ _ (next_place s) at at u (truth true) y
-        (lists.rest-null w knows 29 28 31 32 for_all_loop knows.for_all_loop p home names f ls s round l one at (later-refl at) x d pair true (ap is_nil e)) refl (testing y u h));
+            (if-true w _ _ _ (next_place s) at at u (truth true) y
+            (lists.rest-null w knows 29 28 31 32 for_all_loop knows.for_all_loop p home names f ls s round l one at (later-refl at) x d pair true (ap is_nil e)) refl (testing y u h));
         all = all_last till-first h (later-refl u);
       }
 
@@ -122,7 +122,7 @@ module _ (w : PlainSetting) (knows : Knows w.codes) (f : Value) (p : Place) wher
           value = r.value;
           state = r.state;
           called = inner r.value r.state (if-true w _ _ _ (next_place s) at u r.state y r.value (testing y u h) e
-          (lists.again w knows 29 28 31 32 for_all_loop knows.for_all_loop p home names f ls s round l one u behind x d pair r.value r.state r.called));
+              (lists.again w knows 29 28 31 32 for_all_loop knows.for_all_loop p home names f ls s round l one u behind x d pair r.value r.state r.called));
           all = all_so_far till-first h e (all-from w f (z ∷ xs) r.value u rest.state r.state till-rest r.all);
         }
 

@@ -1,9 +1,8 @@
 -- `for-each` on one list: its text calls `map` and gives nothing of it.
-use Rattle.std.proofs.Common.{◌≡◌, ℕ, zero, suc, List, [], ◌∷◌, ◌++◌, Option, Some, None, Bool, true, false, length, refl, ap, if◌then◌else◌}
-use Rattle.sx_base.specs.declared.atom.Atom.TheVariants as a
+use Rattle.std.proofs.Common.{◌≡◌, ℕ, zero, suc, List, [], ◌∷◌, Some, None, true, false, length, Ok, Err, refl, ap, inl, inr, if◌then◌else◌}
+use Rattle.std.specs.Prelude.{◌⊎◌}
 use Rattle.sx_region.specs.declared.region.Place.{Place}
 use Rattle.sx_region.proofs.Laws.{slice_get-added}
-use Rattle.sx_core.specs.Core.{PlainCore}
 use Rattle.sx_value.specs.declared.value.Value.{Value}
 use Rattle.sx_value.specs.declared.value.Value.TheVariants as value
 use Rattle.sx_value.specs.declared.cell.Cell.{Cell}
@@ -18,17 +17,17 @@ use Rattle.sx_eval.specs.State.{State, next_place, with_cell}
 use Rattle.sx_eval.specs.Variables.{Entries}
 use Rattle.sx_eval_laws.specs.Kept.{Later}
 use Rattle.sx_list_laws.specs.Runs.{IsList}
-use Rattle.sx_given_laws.specs.Calls.{Calls}
-use Rattle.sx_given_laws.specs.Codes.{label, code_no, var, prim, formals, one_case, app, datum_at, text_code, for_each_body, for_each_text}
-use Rattle.sx_given_laws.specs.Given.{Maps, Visits}
-use Rattle.sx_given_laws.specs.InTurn.{AllGive}
-use Rattle.sx_given_laws.proofs.Giving.{Evaluates, procedure-is, primitive-is, call-four, sequence-two, no-arm}
-use Rattle.sx_given_laws.proofs.Applying.{apply-called}
-use Rattle.sx_given_laws.proofs.Calling.{case-called, text-called}
+use Rattle.sx_given_laws.specs.Calls.{End, CallEnds}
+use Rattle.sx_given_laws.specs.Codes.{label, code_no, var, prim, formals, one_case, app, text_code, for_each_body, for_each_text}
+use Rattle.sx_given_laws.specs.Given.{Maps, Visits, Faults}
+use Rattle.sx_given_laws.specs.InTurn.{AllGive, AllEnd}
+use Rattle.sx_given_laws.proofs.Giving.{ExpressionEnds, procedure-is, primitive-is, call-four-ends, sequence-two, sequence-stops, no-arm}
+use Rattle.sx_given_laws.proofs.Applying.{apply-ends}
+use Rattle.sx_given_laws.proofs.Calling.{case-ends, text-ends}
 use Rattle.sx_given_laws.proofs.Inside.{Inside, entered-inside, own}
 use Rattle.sx_given_laws.proofs.Knows.{Knows}
-use Rattle.sx_given_laws.proofs.Later.{later-then, later-with, list-later, in-turn-from, all-give-later}
-use Rattle.sx_given_laws.proofs.MapText.{map-given}
+use Rattle.sx_given_laws.proofs.Later.{later-then, later-with, list-later, in-turn-from, stops-from, all-give-later, all-end-later}
+use Rattle.sx_given_laws.proofs.MapText.{map-given, map-ended}
 use Rattle.sx_given_laws.proofs.Primitives.{bool-is}
 
 -- the empty list has no elements
@@ -57,12 +56,12 @@ module _ (w : PlainSetting) (knows : Knows w.codes) (f l : Value) (s : State) wh
   abbrev q : Place
   q = next_place outside
 
-  called-by-body : (v : Value) (t : State) → Evaluates w for_each_body q inner v t → Calls w (value.Prim (record { 0 = 110 })) (f ∷ l ∷ []) s v t
+  body-ends : (r : End) (t : State) → ExpressionEnds w for_each_body q inner r t → CallEnds w (value.Prim (record { 0 = 110 })) (f ∷ l ∷ []) s r t
   unfolding has_text
-  called-by-body v t h =
-      text-called w (record { 0 = 110 }) (f ∷ l ∷ []) s outside t (text_code 110 for_each_text) for_each_text (code_no 21) p v refl refl knows.for_each_text refl
+  body-ends r t h =
+      text-ends w (record { 0 = 110 }) (f ∷ l ∷ []) s outside t (text_code 110 for_each_text) for_each_text (code_no 21) p r refl refl knows.for_each_text refl
       (procedure-is w (code_no 21) (one_case (23 ∷ 24 ∷ []) (Some 25) for_each_body) true p outside)
-      (case-called w (code_no 21) p (f ∷ l ∷ []) outside (procedure_code (code_no 21) (one_case (23 ∷ 24 ∷ []) (Some 25) for_each_body) true) (formals (23 ∷ 24 ∷ []) (Some 25)) for_each_body v t knows.for_each_body refl h)
+      (case-ends w (code_no 21) p (f ∷ l ∷ []) outside (procedure_code (code_no 21) (one_case (23 ∷ 24 ∷ []) (Some 25) for_each_body) true) (formals (23 ∷ 24 ∷ []) (Some 25)) for_each_body r t knows.for_each_body refl h)
 
   inside : Inside inner.cells q vars p []
   inside = entered-inside outside vars p [] (record { around = None; is = slice_get-added s.cells (cell.Scope [] None) })
@@ -70,21 +69,35 @@ module _ (w : PlainSetting) (knows : Knows w.codes) (f l : Value) (s : State) wh
   behind : Later s inner
   behind = later-then s outside inner (later-with s (cell.Scope [] None)) (later-with outside (cell.Scope vars (Some p)))
 
-  pub for-each-given : (xs : List Value) → IsList s.cells xs l → AllGive w f xs s → Visits w (value.Prim (record { 0 = 110 })) (f ∷ l ∷ []) f xs s value.Unspecified
-  for-each-given xs r give = record {
+  -- (apply map f l ls)
+  mapping : (r : End) (t : State) → CallEnds w (value.Prim (record { 0 = 133 })) (f ∷ l ∷ []) inner r t → ExpressionEnds w (app (prim 42) (prim 133 ∷ var 23 ∷ var 24 ∷ var 25 ∷ [])) q inner r t
+  mapping r t h =
+      call-four-ends w (prim 42) (prim 133) (var 23) (var 24) (var 25) q inner inner inner inner inner inner t
+      (value.Prim (record { 0 = 42 })) (value.Prim (record { 0 = 133 })) f l nil r
+      (primitive-is w (record { 0 = 42 }) q inner) (primitive-is w (record { 0 = 133 }) q inner)
+      (own w inner q vars p [] inside (label 23) f refl) (own w inner q vars p [] inside (label 24) l refl) (own w inner q vars p [] inside (label 25) nil refl)
+      (apply-ends w (value.Prim (record { 0 = 133 })) (f ∷ l ∷ []) [] nil inner r t (nil-elements inner.cells) h)
+
+  visited : (xs : List Value) → Maps w (value.Prim (record { 0 = 133 })) (f ∷ l ∷ []) f xs inner → Visits w (value.Prim (record { 0 = 110 })) (f ∷ l ∷ []) f xs s value.Unspecified
+  visited xs m = record {
     state = m.state;
-    called = called-by-body value.Unspecified m.state (sequence-two w _ _ q inner m.state m.state m.value value.Unspecified mapping (no-arm w _ _ q m.state m.state (truth false) (bool-is w _ false q m.state) refl));
+    called = body-ends (Ok value.Unspecified) m.state
+        (sequence-two w _ _ q inner m.state m.state m.value value.Unspecified (mapping (Ok m.value) m.state m.called) (no-arm w _ _ q m.state m.state (truth false) (bool-is w _ false q m.state) refl));
     answers = m.answers;
     in_turn = in-turn-from w f xs m.answers s inner m.state behind m.in_turn;
   }
-    where
-      m : Maps w (value.Prim (record { 0 = 133 })) (f ∷ l ∷ []) f xs inner
-      m = map-given w inner knows f l xs (list-later s inner behind xs l r) (all-give-later w f xs s inner behind give)
 
-      mapping : Evaluates w (app (prim 42) (prim 133 ∷ var 23 ∷ var 24 ∷ var 25 ∷ [])) q inner m.value m.state
-      mapping =
-          call-four w (prim 42) (prim 133) (var 23) (var 24) (var 25) q inner inner inner inner inner inner m.state
-          (value.Prim (record { 0 = 42 })) (value.Prim (record { 0 = 133 })) f l nil m.value
-          (primitive-is w (record { 0 = 42 }) q inner) (primitive-is w (record { 0 = 133 }) q inner)
-          (own w inner q vars p [] inside (label 23) f refl) (own w inner q vars p [] inside (label 24) l refl) (own w inner q vars p [] inside (label 25) nil refl)
-          (apply-called w (value.Prim (record { 0 = 133 })) (f ∷ l ∷ []) [] nil inner m.value m.state (nil-elements inner.cells) m.called)
+  pub for-each-given : (xs : List Value) → IsList s.cells xs l → AllGive w f xs s → Visits w (value.Prim (record { 0 = 110 })) (f ∷ l ∷ []) f xs s value.Unspecified
+  for-each-given xs r give = visited xs (map-given w inner knows f l xs (list-later s inner behind xs l r) (all-give-later w f xs s inner behind give))
+
+  pub for-each-ended : (xs : List Value) → IsList s.cells xs l → AllEnd w f xs s
+      → Visits w (value.Prim (record { 0 = 110 })) (f ∷ l ∷ []) f xs s value.Unspecified ⊎ Faults w (value.Prim (record { 0 = 110 })) (f ∷ l ∷ []) f xs s
+  for-each-ended xs r give = elim (map-ended w inner knows f l xs (list-later s inner behind xs l r) (all-end-later w f xs s inner behind give)) [
+    | inl m ↦ inl (visited xs m)
+    | inr m ↦ inr (record {
+      fault = m.fault;
+      state = m.state;
+      called = body-ends (Err m.fault) m.state (sequence-stops w _ _ q inner m.state m.fault (mapping (Err m.fault) m.state m.called));
+      stops = stops-from w f xs m.fault s inner m.state behind m.stops;
+    })
+  ]

@@ -1,5 +1,5 @@
 -- Inside a call of a procedure whose cell of variables lies in that of a `letrec`.
-use Rattle.std.proofs.Common.{◌≡◌, ◌≤◌, ◌<◌, ◌+◌, ℕ, zero, suc, List, [], ◌∷◌, ◌++◌, Option, Some, None, Bool, true, false, Ok, length, refl, ap, sym, subst, ◌∙◌, arith, slice_get, if◌then◌else◌}
+use Rattle.std.proofs.Common.{◌≡◌, ℕ, List, [], ◌∷◌, ◌++◌, Option, Some, None, Bool, true, false, ap, ◌∙◌, arith, slice_get, if◌then◌else◌}
 use Rattle.std.specs.Map.{lookup}
 use Rattle.sx_base.specs.declared.name.CodeNo.{CodeNo}
 use Rattle.sx_base.specs.declared.name.Label.{Label}
@@ -14,12 +14,11 @@ use Rattle.sx_value.specs.declared.cell.Cell.TheVariants as cell
 use Rattle.sx_eval.specs.Meaning.{eval_of, at_once}
 use Rattle.sx_eval.specs.Setting.{PlainSetting}
 use Rattle.sx_eval.specs.State.{State, store, next_place, with_cell}
-use Rattle.sx_eval.specs.Variables.{Entries, set_entry}
+use Rattle.sx_eval.specs.Variables.{Entries}
 use Rattle.sx_eval_laws.specs.Kept.{Later}
-use Rattle.sx_list_laws.proofs.RunLemmas.{Stay, stay_added}
-use Rattle.sx_given_laws.specs.Calls.{Gives}
+use Rattle.sx_list_laws.proofs.RunLemmas.{stay_added}
 use Rattle.sx_given_laws.proofs.Giving.{gives-same, gives-then, Evaluates, evaluates-step, procedure-is}
-use Rattle.sx_given_laws.proofs.Looking.{get-below, later-stay, Looks, in_cell, in_parent, variable-is, assigned-last}
+use Rattle.sx_given_laws.proofs.Looking.{get-below, later-stay, in_cell, in_parent, variable-is, assigned-last}
 
 -- the cell of a call at q has these variables, and lies in the cell at p, which has those
 pub record Inside (cells : List Cell) (q : Place) (es : Entries) (p : Place) (hs : Entries) : Type 0 where

@@ -1,6 +1,6 @@
 -- The codes of the texts are in a setting that has the texts.
-use Rattle.std.proofs.Common.{◌≡◌, ℕ, List, [], ◌∷◌, Option, Some, None, Bool, true, refl}
-use Rattle.sx_core.specs.Core.{PlainCore, PlainCode}
+use Rattle.std.proofs.Common.{◌≡◌, ℕ, List, [], ◌∷◌, Option, Some, None, true, refl}
+use Rattle.sx_core.specs.Core.{PlainCore}
 use Rattle.sx_eval.specs.Codes.{Codes, code_at, procedure_code}
 use Rattle.sx_eval.specs.Procedures.{text_number}
 use Rattle.sx_eval.specs.Setting.{PlainSetting}

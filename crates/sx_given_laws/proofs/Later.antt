@@ -1,21 +1,18 @@
 -- What holds in a state holds in those that come after it.
-use Rattle.std.proofs.Common.{◌≡◌, ◌≤◌, ◌+◌, ℕ, zero, suc, List, [], ◌∷◌, ◌++◌, Option, Some, None, Bool, true, false, refl, ap, sym, subst, ◌∙◌, arith}
+use Rattle.std.proofs.Common.{◌+◌, ℕ, List, [], ◌∷◌, Ok, Err, refl, subst, ◌∙◌, arith}
 use Rattle.sx_base.specs.declared.fault.Bare.{Bare}
-use Rattle.sx_value.specs.FromDatum.{Keeps}
 use Rattle.sx_value.proofs.Stored.{keeps_refl, keeps_then, keeps_added}
 use Rattle.sx_value.specs.declared.value.Value.{Value}
 use Rattle.sx_value.specs.declared.cell.Cell.{Cell}
-use Rattle.sx_eval.specs.Meaning.{eval_of, applied}
-use Rattle.sx_eval.specs.Procedures.{truth_of}
 use Rattle.sx_eval.specs.Setting.{PlainSetting}
-use Rattle.sx_eval.specs.State.{State, Outcome, done, faulted, unfit, with_cell}
+use Rattle.sx_eval.specs.State.{State, with_cell}
 use Rattle.sx_eval_laws.specs.Kept.{Later, EndsLater}
 use Rattle.sx_eval_laws.specs.Runs.{ByFuel}
-use Rattle.sx_eval_laws.proofs.Keeping.{keeps-call, keeps-eval_of}
-use Rattle.sx_list_laws.specs.Runs.{Runs, IsList}
+use Rattle.sx_eval_laws.proofs.Keeping.{keeps-call}
+use Rattle.sx_list_laws.specs.Runs.{IsList}
 use Rattle.sx_list_laws.proofs.RunLemmas.{runs_still}
-use Rattle.sx_given_laws.specs.Calls.{Gives, call_of, Calls}
-use Rattle.sx_given_laws.specs.InTurn.{InTurn, no_call, one_call, AllGive, Search, not_there, passed, there, SearchGives, FoldLeft, left_end, left_step, FoldLeftGives, FoldRight, right_end, right_step, FoldRightGives, ForAll, all_none, all_last, all_but, all_so_far, ForAllGives, Exists, some_none, some_last, some_here, some_behind}
+use Rattle.sx_given_laws.specs.Calls.{End, Ends, call_of, CallEnds, Calls}
+use Rattle.sx_given_laws.specs.InTurn.{InTurn, no_call, one_call, Stops, stops_here, stops_behind, AllGive, AllEnd, Search, not_there, passed, there, SearchGives, FoldLeft, left_end, left_step, FoldLeftGives, FoldRight, right_end, right_step, FoldRightGives, ForAll, all_none, all_last, all_but, all_so_far, ForAllGives, Exists, some_none, some_last, some_here, some_behind}
 use Rattle.sx_given_laws.proofs.Looking.{later-stay}
 
 pub later-refl : (s : State) → Later s s
@@ -28,11 +25,15 @@ later-then r s t h k = record { cells = keeps_then r.cells s.cells t.cells h.cel
 pub later-with : (s : State) (c : Cell) → Later s (with_cell c s)
 later-with s c = record { cells = keeps_added s.cells s.cells c (keeps_refl s.cells); library = refl; names = omega arith }
 
-gives-ends : (run : ByFuel) (v : Value) (s t : State) → ((n : ℕ) → EndsLater s (run n)) → Gives run v t → Later s t
-gives-ends run v s t ends g = subst (EndsLater s) (g.1 0) (ends (0 + g.0))
+ends-later : (run : ByFuel) (r : End) (s t : State) → ((n : ℕ) → EndsLater s (run n)) → Ends run r t → Later s t
+ends-later run (Ok v) s t ends g = subst (EndsLater s) (g.1 0) (ends (0 + g.0))
+ends-later run (Err f) s t ends g = subst (EndsLater s) (g.1 0) (ends (0 + g.0))
+
+pub call-ends-later : (w : PlainSetting) (f : Value) (args : List Value) (s : State) (r : End) (t : State) → CallEnds w f args s r t → Later s t
+call-ends-later w f args s r t h = ends-later (call_of w f args s) r s t (λ n. keeps-call w (f ∷ args) s n) h
 
 pub calls-later : (w : PlainSetting) (f : Value) (args : List Value) (s : State) (v : Value) (t : State) → Calls w f args s v t → Later s t
-calls-later w f args s v t h = gives-ends (call_of w f args s) v s t (λ n. keeps-call w (f ∷ args) s n) h
+calls-later w f args s v t h = call-ends-later w f args s (Ok v) t h
 
 pub list-later : (s t : State) → Later s t → (xs : List Value) (x : Value) → IsList s.cells xs x → IsList t.cells xs x
 list-later s t k xs x r = runs_still s.cells t.cells (later-stay s t k) r
@@ -92,3 +93,11 @@ module _ (w : PlainSetting) (f : Value) where
   exists-from xs v r s t k (some_last {t = u} h c i) = some_last (later-then r s u k h) c i
   exists-from xs v r s t k (some_here {t = u} h c e i) = some_here (later-then r s u k h) c e i
   exists-from xs v r s t k (some_behind {t = u} h c e i) = some_behind (later-then r s u k h) c e i
+
+  pub stops-from : (xs : List Value) (e : Bare) (r s t : State) → Later r s → Stops w f xs s e t → Stops w f xs r e t
+  stops-from xs e r s t k (stops_here {t = u} h c) = stops_here (later-then r s u k h) c
+  stops-from xs e r s t k (stops_behind {t = u} h c i) = stops_behind (later-then r s u k h) c i
+
+  pub all-end-later : (xs : List Value) (s t : State) → Later s t → AllEnd w f xs s → AllEnd w f xs t
+  all-end-later [] s t k g = tt
+  all-end-later (x ∷ xs) s t k g = λ u h. g u (later-then s t u k h)

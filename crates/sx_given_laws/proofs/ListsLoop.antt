@@ -1,5 +1,5 @@
 -- A loop of a text along a list of one list, and how its text begins it.
-use Rattle.std.proofs.Common.{◌≡◌, ℕ, List, [], ◌∷◌, ◌++◌, Option, Some, None, Bool, true, false, length, refl, ap, sym, subst, ◌∙◌, nat_eq}
+use Rattle.std.proofs.Common.{◌≡◌, ℕ, [], ◌∷◌, Some, None, Bool, true, false, refl, ap, nat_eq}
 use Rattle.std.specs.Map.{lookup}
 use Rattle.sx_region.specs.declared.region.Place.{Place}
 use Rattle.sx_region.proofs.Laws.{slice_get-added}
@@ -12,8 +12,8 @@ use Rattle.sx_value.specs.declared.cell.Cell.TheVariants as cell
 use Rattle.sx_prims.specs.Answers.{truth}
 use Rattle.sx_prims.specs.Chains.{pair_of, is_nil}
 use Rattle.sx_prims.specs.Lists.{nil}
-use Rattle.sx_eval.specs.Codes.{code_at, procedure_code}
-use Rattle.sx_eval.specs.Procedures.{has_text, text_number}
+use Rattle.sx_eval.specs.Codes.{procedure_code}
+use Rattle.sx_eval.specs.Procedures.{has_text}
 use Rattle.sx_eval.specs.Setting.{PlainSetting}
 use Rattle.sx_eval.specs.State.{State, next_place, with_cell}
 use Rattle.sx_eval.specs.Variables.{Entries}
@@ -21,18 +21,18 @@ use Rattle.sx_eval.specs.declared.spread.TheConstants.{APPLY}
 use Rattle.sx_eval_laws.specs.Kept.{Later}
 use Rattle.sx_list_laws.proofs.RunLemmas.{pair_still}
 use Rattle.sx_given_laws.specs.Calls.{Calls}
-use Rattle.sx_given_laws.specs.Codes.{label, code_no, var, formals, one_case, lambda, app, car, cdr, is_null, first_is_null, cdrs, on_cars, enter_list, text_code}
+use Rattle.sx_given_laws.specs.Codes.{label, code_no, var, formals, one_case, lambda, app, car, cdr, is_null, first_is_null, cdrs, on_cars, enter_list}
 use Rattle.sx_given_laws.proofs.Giving.{Evaluates, procedure-is, call-two}
 use Rattle.sx_given_laws.proofs.Looking.{later-stay}
 use Rattle.sx_given_laws.proofs.Calling.{case-called}
 use Rattle.sx_given_laws.proofs.Cars.{One, cars-given, cdrs-given, cdrs-is, on-cars-is}
 use Rattle.sx_given_laws.proofs.Inside.{Inside, Home, one_home, inside-later, entered-inside, own, outer}
 use Rattle.sx_given_laws.proofs.Knows.{Knows, HasText, HasCase}
-use Rattle.sx_given_laws.proofs.Later.{later-refl, later-then, later-with, calls-later}
+use Rattle.sx_given_laws.proofs.Later.{later-then, later-with}
 use Rattle.sx_given_laws.proofs.Loop as loop
 use Rattle.sx_given_laws.proofs.Loop.{Names, two_vars}
 use Rattle.sx_given_laws.proofs.LoopText.{loop_text, home_place, ready, ready-home, ready-later, text-by}
-use Rattle.sx_given_laws.proofs.Primitives.{pair-not-nil, next_pair, null-is, car-is, cdr-is, cons-is}
+use Rattle.sx_given_laws.proofs.Primitives.{next_pair, null-is, cdr-is, cons-is}
 
 module _ (w : PlainSetting) (knows : Knows w.codes) (code go m n : ℕ) (body : PlainCore) (known : HasCase w.codes code (m ∷ n ∷ []) None body)
     (p : Place) (home : Entries) (names : Names go m n home (value.Closure (code_no code) p)) (f ls : Value) (s : State) (round : Home s.cells p home)

@@ -1,5 +1,5 @@
 -- Where the variable of a call or of a `letrec` is found, and that it stays there.
-use Rattle.std.proofs.Common.{◌≡◌, ◌≤◌, ◌<◌, ◌+◌, ℕ, zero, suc, List, [], ◌∷◌, ◌++◌, Option, Some, None, Bool, true, false, length, take, refl, ap, sym, subst, ◌∙◌, arith, slice_get, slice_set}
+use Rattle.std.proofs.Common.{◌≡◌, ◌≤◌, ◌<◌, ℕ, zero, suc, List, [], ◌∷◌, ◌++◌, Option, Some, None, length, refl, ap, sym, ◌∙◌, arith, slice_get, slice_set}
 use Rattle.std.specs.Map.{lookup}
 use Rattle.sx_base.specs.declared.name.Label.{Label}
 use Rattle.sx_frames.specs.Scope.{or_else}
@@ -13,11 +13,10 @@ use Rattle.sx_value.specs.declared.cell.Cell.{Cell}
 use Rattle.sx_value.specs.declared.cell.Cell.TheVariants as cell
 use Rattle.sx_eval.specs.Meaning.{variable_read, variable_value}
 use Rattle.sx_eval.specs.Setting.{PlainSetting}
-use Rattle.sx_eval.specs.State.{State, done, store, with_cell}
-use Rattle.sx_eval.specs.Variables.{Entries, entry_in, parent_in, upwards, here_or_up, found, cell_with, assigned_in, assigned}
+use Rattle.sx_eval.specs.State.{State, done}
+use Rattle.sx_eval.specs.Variables.{Entries, entry_in, here_or_up, found, cell_with, assigned_in, assigned}
 use Rattle.sx_eval_laws.specs.Kept.{Later}
-use Rattle.sx_list_laws.proofs.RunLemmas.{Stay, stay_added, stay_then}
-use Rattle.sx_given_laws.specs.Calls.{Gives}
+use Rattle.sx_list_laws.proofs.RunLemmas.{Stay}
 use Rattle.sx_given_laws.proofs.Giving.{gives-same, gives-done, Evaluates, evaluates-step}
 
 pub get-below : {T : Type 0} (xs : List T) (n : ℕ) (x : T) → slice_get xs n ≡ Some x → n < length xs

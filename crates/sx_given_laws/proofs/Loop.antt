@@ -1,5 +1,5 @@
 -- A loop of a text along one list: a procedure of a procedure and a list that calls itself on the rest of the list.
-use Rattle.std.proofs.Common.{◌≡◌, ◌≤◌, ◌+◌, ℕ, zero, suc, List, [], ◌∷◌, ◌++◌, Option, Some, None, Bool, true, false, length, refl, ap, sym, subst, ◌∙◌}
+use Rattle.std.proofs.Common.{◌≡◌, ℕ, [], ◌∷◌, Some, None, true, false, refl, ap}
 use Rattle.std.specs.Map.{lookup}
 use Rattle.sx_region.specs.declared.region.Place.{Place}
 use Rattle.sx_core.specs.Core.{PlainCore}
@@ -22,7 +22,7 @@ use Rattle.sx_given_laws.proofs.Giving.{Evaluates, call-one, call-two}
 use Rattle.sx_given_laws.proofs.Looking.{later-stay}
 use Rattle.sx_given_laws.proofs.Calling.{closure-called, case-called}
 use Rattle.sx_given_laws.proofs.Inside.{Inside, Home, inside-later, entered-inside, own, outer}
-use Rattle.sx_given_laws.proofs.Later.{later-then, later-with, calls-later}
+use Rattle.sx_given_laws.proofs.Later.{later-with}
 use Rattle.sx_given_laws.proofs.Primitives.{pair-not-nil, null-is, car-is, cdr-is}
 use Rattle.sx_given_laws.proofs.MapOne.{pair-later}
 

@@ -1,5 +1,5 @@
 -- A text that is a `letrec` of one procedure.
-use Rattle.std.proofs.Common.{◌≡◌, ℕ, List, [], ◌∷◌, ◌++◌, Option, Some, None, Bool, true, false, refl, nat_eq, arith}
+use Rattle.std.proofs.Common.{◌≡◌, ℕ, List, [], Some, None, true, false, refl, nat_eq, arith}
 use Rattle.std.specs.Map.{lookup}
 use Rattle.sx_region.specs.declared.region.Place.{Place}
 use Rattle.sx_region.proofs.Laws.{slice_get-added}
@@ -20,7 +20,7 @@ use Rattle.sx_given_laws.specs.Codes.{label, code_no, var, lambda, one_case, tex
 use Rattle.sx_given_laws.proofs.Giving.{Evaluates}
 use Rattle.sx_given_laws.proofs.Looking.{in_cell, variable-is}
 use Rattle.sx_given_laws.proofs.Calling.{text-called, closure-back}
-use Rattle.sx_given_laws.proofs.Inside.{Home, one_home, letrec_state, letrec-is}
+use Rattle.sx_given_laws.proofs.Inside.{Home, one_home, letrec-is}
 use Rattle.sx_given_laws.proofs.Later.{later-then, later-with}
 
 abbrev pub loop_text : ℕ → ℕ → List ℕ → PlainCore → PlainCore → PlainCore

@@ -1,5 +1,8 @@
 -- The loop of `map` along one list.
-use Rattle.std.proofs.Common.{◌≡◌, ◌≤◌, ◌+◌, ℕ, zero, suc, List, [], ◌∷◌, ◌++◌, Option, Some, None, Bool, true, false, length, refl, ap, sym, subst, ◌∙◌}
+use Rattle.std.proofs.Common.{◌≡◌, List, [], ◌∷◌, ◌++◌, Some, None, true, false, length, Ok, Err, refl, ap, sym, subst, inl, inr}
+use Rattle.std.specs.Prelude.{◌⊎◌}
+use Rattle.sx_base.specs.declared.fault.Bare.{Bare}
+use Rattle.sx_core.specs.Core.{none, cores}
 use Rattle.sx_region.specs.declared.region.Place.{Place}
 use Rattle.sx_region.proofs.Laws.{slice_get-added}
 use Rattle.sx_value.specs.Cells.{pair_in}
@@ -15,17 +18,17 @@ use Rattle.sx_eval.specs.Setting.{PlainSetting}
 use Rattle.sx_eval.specs.State.{State, next_place, with_cell}
 use Rattle.sx_eval.specs.Variables.{Entries}
 use Rattle.sx_eval_laws.specs.Kept.{Later}
-use Rattle.sx_list_laws.specs.Runs.{Runs, here, next, IsList}
+use Rattle.sx_list_laws.specs.Runs.{here, next, IsList}
 use Rattle.sx_list_laws.proofs.RunLemmas.{stay_added, pair_still, runs_still}
-use Rattle.sx_given_laws.specs.Calls.{Calls}
-use Rattle.sx_given_laws.specs.Codes.{label, code_no, var, formals, one_case, car, cdr, is_null, app, datum_at, map_one}
-use Rattle.sx_given_laws.specs.Given.{Maps}
-use Rattle.sx_given_laws.specs.InTurn.{InTurn, no_call, one_call, AllGive}
-use Rattle.sx_given_laws.proofs.Giving.{Evaluates, if-true, if-false, call-one, call-two}
-use Rattle.sx_given_laws.proofs.Calling.{closure-called, case-called}
+use Rattle.sx_given_laws.specs.Calls.{End, CallEnds, Calls}
+use Rattle.sx_given_laws.specs.Codes.{label, code_no, var, formals, one_case, car, cdr, prim, cons, map_first, map_others, map_one}
+use Rattle.sx_given_laws.specs.Given.{Maps, Faults}
+use Rattle.sx_given_laws.specs.InTurn.{no_call, one_call, stops_here, stops_behind, AfterValue, AllGive, AllEnd}
+use Rattle.sx_given_laws.proofs.Giving.{Evaluates, ExpressionEnds, if-true, false-ends, primitive-is, operand-ends, operand-stops, call-ends, call-one-ends, call-two-ends}
+use Rattle.sx_given_laws.proofs.Calling.{closure-ends, case-ends}
 use Rattle.sx_given_laws.proofs.Inside.{Inside, Home, home-later, inside-later, entered-inside, own, outer}
 use Rattle.sx_given_laws.proofs.Looking.{later-stay}
-use Rattle.sx_given_laws.proofs.Later.{later-refl, later-then, later-with, calls-later, list-later, in-turn-from, in-turn-to, all-give-later}
+use Rattle.sx_given_laws.proofs.Later.{later-then, later-with, calls-later, list-later, in-turn-to}
 use Rattle.sx_given_laws.proofs.Primitives.{pair-not-nil, next_pair, null-is, car-is, cdr-is, cons-is, nil-is}
 
 -- a list with no element, and one with a first element
@@ -55,6 +58,9 @@ module _ (w : PlainSetting) (known : code_at w.codes (code_no 4) ≡ Some (proce
   abbrev Mapped : List Value → Value → State → Type 0
   Mapped xs l s = Maps w g (f ∷ l ∷ []) f xs s
 
+  abbrev Faulted : List Value → Value → State → Type 0
+  Faulted xs l s = Faults w g (f ∷ l ∷ []) f xs s
+
   abbrev vars : Value → Entries
   vars l = (label 6, Some f) ∷ (label 7, Some l) ∷ []
 
@@ -62,17 +68,20 @@ module _ (w : PlainSetting) (known : code_at w.codes (code_no 4) ≡ Some (proce
   begun l s = with_cell (cell.Scope (vars l) (Some p)) s
 
   -- the call, by its body
+  body-ends : (l : Value) (s : State) (r : End) (t : State) → ExpressionEnds w map_one (next_place s) (begun l s) r t → CallEnds w g (f ∷ l ∷ []) s r t
+  body-ends l s r t h =
+      closure-ends w (code_no 4) p (f ∷ l ∷ []) s r t
+      (case-ends w (code_no 4) p (f ∷ l ∷ []) s (procedure_code (code_no 4) (one_case (6 ∷ 7 ∷ []) None map_one) true) (formals (6 ∷ 7 ∷ []) None) map_one r t known refl h)
+
   body-called : (l : Value) (s : State) (v : Value) (t : State) → Evaluates w map_one (next_place s) (begun l s) v t → Calls w g (f ∷ l ∷ []) s v t
-  body-called l s v t h =
-      closure-called w (code_no 4) p (f ∷ l ∷ []) s v t
-      (case-called w (code_no 4) p (f ∷ l ∷ []) s (procedure_code (code_no 4) (one_case (6 ∷ 7 ∷ []) None map_one) true) (formals (6 ∷ 7 ∷ []) None) map_one v t known refl h)
+  body-called l s v t h = body-ends l s (Ok v) t h
 
   nothing : (s : State) → Home s.cells p (map_home p) → Mapped [] nil s
   nothing s home = record {
     value = nil;
     state = s1;
     called = body-called nil s nil s1
-    (if-true w _ _ _ q s1 s1 s1 (truth true) nil (null-is w (var 7) q s1 s1 nil (own w s1 q (vars nil) p (map_home p) inside (label 7) nil refl) true refl) refl (nil-is w _ q s1));
+        (if-true w _ _ _ q s1 s1 s1 (truth true) nil (null-is w (var 7) q s1 s1 nil (own w s1 q (vars nil) p (map_home p) inside (label 7) nil refl) true refl) refl (nil-is w _ q s1));
     answers = [];
     in_turn = no_call (later-with s (cell.Scope (vars nil) (Some p)));
     list = here;
@@ -88,54 +97,93 @@ module _ (w : PlainSetting) (known : code_at w.codes (code_no 4) ≡ Some (proce
       inside = entered-inside s (vars nil) p (map_home p) home
 
   module _ (x l d : Value) (xs : List Value) (s : State) (home : Home s.cells p (map_home p)) (pair : pair_of s.cells l ≡ Some (x, d)) where
-    some : (y : Value) (u : State) → Calls w f (x ∷ []) (begun l s) y u → Mapped xs d u → Mapped (x ∷ xs) l s
-    some y u called rest = record {
-      value = next_pair w rest.state;
-      state = with_cell (cell.Pair y rest.value) rest.state;
-      called = body-called l s (next_pair w rest.state) (with_cell (cell.Pair y rest.value) rest.state)
-      (if-false w _ _ _ q s1 s1 (with_cell (cell.Pair y rest.value) rest.state) (truth false) (next_pair w rest.state)
-      (null-is w (var 7) q s1 s1 l list-read false (pair-not-nil s1.cells l x d pair1)) refl
-      (cons-is w (app (var 6) (car (var 7) ∷ [])) q s1 u y first (app (var 2) (var 6 ∷ cdr (var 7) ∷ [])) rest.value rest.state others));
-      answers = y ∷ rest.answers;
-      in_turn = one_call (later-with s (cell.Scope (vars l) (Some p))) called
-      (in-turn-to w f xs rest.answers u rest.state (with_cell (cell.Pair y rest.value) rest.state) rest.in_turn (later-with rest.state (cell.Pair y rest.value)));
-      list = list-more rest.state.cells y rest.value rest.answers rest.list;
+    abbrev at : State
+    at = begun l s
+
+    abbrev q : Place
+    q = next_place s
+
+    enter : Later s at
+    enter = later-with s (cell.Scope (vars l) (Some p))
+
+    inside : Inside at.cells q (vars l) p (map_home p)
+    inside = entered-inside s (vars l) p (map_home p) home
+
+    pair-at : pair_of at.cells l ≡ Some (x, d)
+    pair-at = pair-later s (cell.Scope (vars l) (Some p)) l x d pair
+
+    list-read : Evaluates w (var 7) q at l at
+    list-read = own w at q (vars l) p (map_home p) inside (label 7) l refl
+
+    -- what the pair's making ends with, the whole ends with
+    by-cons : (r : End) (t : State) → ExpressionEnds w (cons map_first map_others) q at r t → CallEnds w g (f ∷ l ∷ []) s r t
+    by-cons r t h =
+        body-ends l s r t
+        (false-ends w _ _ _ q at at t (truth false) r (null-is w (var 7) q at at l list-read false (pair-not-nil at.cells l x d pair-at)) refl h)
+
+    first-ends : (r : End) (u : State) → CallEnds w f (x ∷ []) at r u → ExpressionEnds w map_first q at r u
+    first-ends r u h = call-one-ends w (var 6) (car (var 7)) q at at at u f x r (own w at q (vars l) p (map_home p) inside (label 6) f refl) (car-is w (var 7) q at at l list-read x d pair-at) h
+
+    -- the call faults
+    stops-here : (e : Bare) (u : State) → CallEnds w f (x ∷ []) at (Err e) u → Faulted (x ∷ xs) l s
+    stops-here e u h = record {
+      fault = e;
+      state = u;
+      called = by-cons (Err e) u
+          (call-ends w (prim 90) (cores (map_first ∷ map_others ∷ [])) q at at u (value.Prim (record { 0 = 90 })) (Err e) (primitive-is w (record { 0 = 90 }) q at)
+          (operand-stops w map_first (cores (map_others ∷ [])) q (value.Prim (record { 0 = 90 }) ∷ []) at u e (first-ends (Err e) u h)));
+      stops = stops_here enter h;
     }
-      where
-        s1 : State
-        s1 = begun l s
 
-        q : Place
-        q = next_place s
+    module _ (y : Value) (u : State) (called : Calls w f (x ∷ []) at y u) where
+      behind : Later at u
+      behind = calls-later w f (x ∷ []) at y u called
 
-        inside : Inside s1.cells q (vars l) p (map_home p)
-        inside = entered-inside s (vars l) p (map_home p) home
+      inside-then : Inside u.cells q (vars l) p (map_home p)
+      inside-then = inside-later at u behind q (vars l) p (map_home p) inside
 
-        behind : Later s1 u
-        behind = calls-later w f (x ∷ []) s1 y u called
+      pair-then : pair_of u.cells l ≡ Some (x, d)
+      pair-then = pair_still at.cells u.cells (later-stay at u behind) l x d pair-at
 
-        inside-then : Inside u.cells q (vars l) p (map_home p)
-        inside-then = inside-later s1 u behind q (vars l) p (map_home p) inside
+      others-end : (r : End) (t : State) → CallEnds w g (f ∷ d ∷ []) u r t → ExpressionEnds w map_others q u r t
+      others-end r t h =
+          call-two-ends w (var 2) (var 6) (cdr (var 7)) q u u u u t g f d r
+          (outer w u q (vars l) p (map_home p) inside-then (label 2) g refl refl)
+          (own w u q (vars l) p (map_home p) inside-then (label 6) f refl)
+          (cdr-is w (var 7) q u u l (own w u q (vars l) p (map_home p) inside-then (label 7) l refl) x d pair-then) h
 
-        pair1 : pair_of s1.cells l ≡ Some (x, d)
-        pair1 = pair-later s (cell.Scope (vars l) (Some p)) l x d pair
+      some : Mapped xs d u → Mapped (x ∷ xs) l s
+      some rest = record {
+        value = next_pair w rest.state;
+        state = with_cell (cell.Pair y rest.value) rest.state;
+        called = by-cons (Ok (next_pair w rest.state)) (with_cell (cell.Pair y rest.value) rest.state)
+            (cons-is w map_first q at u y (first-ends (Ok y) u called) map_others rest.value rest.state (others-end (Ok rest.value) rest.state rest.called));
+        answers = y ∷ rest.answers;
+        in_turn = one_call enter called
+            (in-turn-to w f xs rest.answers u rest.state (with_cell (cell.Pair y rest.value) rest.state) rest.in_turn (later-with rest.state (cell.Pair y rest.value)));
+        list = list-more rest.state.cells y rest.value rest.answers rest.list;
+      }
 
-        pair2 : pair_of u.cells l ≡ Some (x, d)
-        pair2 = pair_still s1.cells u.cells (later-stay s1 u behind) l x d pair1
+      -- a later call faults
+      stops-behind : Faulted xs d u → Faulted (x ∷ xs) l s
+      stops-behind rest = record {
+        fault = rest.fault;
+        state = rest.state;
+        called = by-cons (Err rest.fault) rest.state
+            (call-ends w (prim 90) (cores (map_first ∷ map_others ∷ [])) q at at rest.state (value.Prim (record { 0 = 90 })) (Err rest.fault) (primitive-is w (record { 0 = 90 }) q at)
+            (operand-ends w map_first (cores (map_others ∷ [])) q (value.Prim (record { 0 = 90 }) ∷ []) at u rest.state y (Err rest.fault) (first-ends (Ok y) u called)
+            (operand-stops w map_others none q (value.Prim (record { 0 = 90 }) ∷ y ∷ []) u rest.state rest.fault (others-end (Err rest.fault) rest.state rest.called))));
+        stops = stops_behind enter called rest.stops;
+      }
 
-        list-read : Evaluates w (var 7) q s1 l s1
-        list-read = own w s1 q (vars l) p (map_home p) inside (label 7) l refl
-
-        first : Evaluates w (app (var 6) (car (var 7) ∷ [])) q s1 y u
-        first = call-one w (var 6) (car (var 7)) q s1 s1 s1 u f x y (own w s1 q (vars l) p (map_home p) inside (label 6) f refl) (car-is w (var 7) q s1 s1 l list-read x d pair1) called
-
-        others : Evaluates w (app (var 2) (var 6 ∷ cdr (var 7) ∷ [])) q u rest.value rest.state
-        others =
-            call-two w (var 2) (var 6) (cdr (var 7)) q u u u u rest.state g f d rest.value
-            (outer w u q (vars l) p (map_home p) inside-then (label 2) g refl refl)
-            (own w u q (vars l) p (map_home p) inside-then (label 6) f refl)
-            (cdr-is w (var 7) q u u l (own w u q (vars l) p (map_home p) inside-then (label 7) l refl) x d pair2)
-            rest.called
+    -- by the end of the call
+    ends-by : (r : End) (u : State) → CallEnds w f (x ∷ []) at r u → AfterValue r (AllEnd w f xs u)
+        → ((v : State) → Later s v → AllEnd w f xs v → Mapped xs d v ⊎ Faulted xs d v) → Mapped (x ∷ xs) l s ⊎ Faulted (x ∷ xs) l s
+    ends-by (Ok y) u h a again = elim (again u (later-then s at u enter (calls-later w f (x ∷ []) at y u h)) a) [
+      | inl m ↦ inl (some y u h m)
+      | inr m ↦ inr (stops-behind y u h m)
+    ]
+    ends-by (Err e) u h a again = inr (stops-here e u h)
 
   pub map-one : (xs : List Value) (l : Value) (s : State) → Home s.cells p (map_home p) → IsList s.cells xs l → AllGive w f xs s → Mapped xs l s
   map-one [] l s home r give = subst (λ x. Mapped [] x s) (sym (list-none r)) (nothing s home)
@@ -145,3 +193,12 @@ module _ (w : PlainSetting) (known : code_at w.codes (code_no 4) ≡ Some (proce
       let behind = later-then s (begun l s) made.1 (later-with s (cell.Scope (vars l) (Some p))) (calls-later w f (x ∷ []) (begun l s) made.0 made.1 made.2) in
       some x l c.0 xs s home c.1 made.0 made.1 made.2
       (map-one xs c.0 made.1 (home-later s made.1 behind p (map_home p) home) (list-later s made.1 behind xs c.0 c.2) made.3)
+
+  -- with faults
+  pub map-ends : (xs : List Value) (l : Value) (s : State) → Home s.cells p (map_home p) → IsList s.cells xs l → AllEnd w f xs s → Mapped xs l s ⊎ Faulted xs l s
+  map-ends [] l s home r give = inl (subst (λ x. Mapped [] x s) (sym (list-none r)) (nothing s home))
+  map-ends (x ∷ xs) l s home r give =
+      let c = list-some r in
+      let made = give (begun l s) (later-with s (cell.Scope (vars l) (Some p))) in
+      ends-by x l c.0 xs s home c.1 made.0 made.1 made.2 made.3
+      (λ v k g. map-ends xs c.0 v (home-later s v k p (map_home p) home) (list-later s v k xs c.0 c.2) g)

@@ -1,16 +1,16 @@
 -- `map` on one list, by its text.
-use Rattle.std.proofs.Common.{◌≡◌, ℕ, List, [], ◌∷◌, ◌++◌, Option, Some, None, Bool, true, false, refl, ap, ◌∙◌}
-use Rattle.sx_base.specs.declared.op.Op.{Op}
+use Rattle.std.proofs.Common.{◌≡◌, ℕ, List, [], ◌∷◌, Some, None, true, Ok, Err, refl, ap, ◌∙◌, inl, inr}
+use Rattle.std.specs.Prelude.{◌⊎◌}
 use Rattle.sx_region.specs.declared.region.Place.{Place}
 use Rattle.sx_region.proofs.Laws.{slice_get-added}
-use Rattle.sx_core.specs.Core.{PlainCore, procedure, letrec, PlainInits, no_init, init, PlainCode, procedure_of}
+use Rattle.sx_core.specs.Core.{PlainCore, PlainInits, no_init, init}
 use Rattle.sx_value.specs.declared.value.Value.{Value}
 use Rattle.sx_value.specs.declared.value.Value.TheVariants as value
 use Rattle.sx_value.specs.declared.cell.Cell.{Cell}
 use Rattle.sx_value.specs.declared.cell.Cell.TheVariants as cell
 use Rattle.sx_prims.specs.Answers.{truth}
 use Rattle.sx_prims.specs.Lists.{nil}
-use Rattle.sx_eval.specs.Codes.{Codes, code_at, procedure_code}
+use Rattle.sx_eval.specs.Codes.{procedure_code}
 use Rattle.sx_eval.specs.Meaning.{eval_of, at_once}
 use Rattle.sx_eval.specs.Procedures.{has_text}
 use Rattle.sx_eval.specs.Setting.{PlainSetting}
@@ -18,17 +18,17 @@ use Rattle.sx_eval.specs.State.{State, store, next_place, with_cell}
 use Rattle.sx_eval.specs.Variables.{Entries, cell_with, assigned}
 use Rattle.sx_eval_laws.specs.Kept.{Later}
 use Rattle.sx_list_laws.specs.Runs.{IsList}
-use Rattle.sx_given_laws.specs.Calls.{Calls}
-use Rattle.sx_given_laws.specs.Codes.{label, code_no, var, formals, one_case, lambda, app, is_null, cons, text_code, map_one, map_many, map_body, map_text}
-use Rattle.sx_given_laws.specs.Given.{Maps}
-use Rattle.sx_given_laws.specs.InTurn.{AllGive}
-use Rattle.sx_given_laws.proofs.Giving.{gives-same, gives-then, Evaluates, evaluates-step, procedure-is, if-true, call-two}
+use Rattle.sx_given_laws.specs.Calls.{End, CallEnds}
+use Rattle.sx_given_laws.specs.Codes.{label, code_no, var, formals, one_case, lambda, text_code, map_one, map_many, map_body, map_text}
+use Rattle.sx_given_laws.specs.Given.{Maps, Faults}
+use Rattle.sx_given_laws.specs.InTurn.{AllGive, AllEnd}
+use Rattle.sx_given_laws.proofs.Giving.{gives-same, gives-then, Evaluates, evaluates-step, ExpressionEnds, procedure-is, true-ends, call-two-ends}
 use Rattle.sx_given_laws.proofs.Looking.{assigned-last}
-use Rattle.sx_given_laws.proofs.Calling.{closure-called, case-called, text-called}
+use Rattle.sx_given_laws.proofs.Calling.{case-ends, text-ends}
 use Rattle.sx_given_laws.proofs.Inside.{Inside, Home, entered-inside, own, outer}
-use Rattle.sx_given_laws.proofs.Later.{later-refl, later-then, later-with, list-later, in-turn-from, all-give-later}
+use Rattle.sx_given_laws.proofs.Later.{later-then, later-with, list-later, in-turn-from, stops-from, all-give-later, all-end-later}
 use Rattle.sx_given_laws.proofs.Primitives.{null-is}
-use Rattle.sx_given_laws.proofs.MapOne.{map_home, map-one}
+use Rattle.sx_given_laws.proofs.MapOne.{map_home, map-one, map-ends}
 use Rattle.sx_given_laws.proofs.Knows.{Knows}
 
 module _ (w : PlainSetting) (s : State) where
@@ -90,45 +90,63 @@ module _ (w : PlainSetting) (s : State) where
     abbrev inner : State
     inner = with_cell (cell.Scope vars (Some home_place)) ready
 
-    called-by-body : (v : Value) (t : State) → Evaluates w map_body (next_place ready) inner v t → Calls w (value.Prim (record { 0 = 133 })) (f ∷ l ∷ []) s v t
+    body-ends : (r : End) (t : State) → ExpressionEnds w map_body (next_place ready) inner r t → CallEnds w (value.Prim (record { 0 = 133 })) (f ∷ l ∷ []) s r t
     unfolding has_text
-    called-by-body v t h =
-        text-called w (record { 0 = 133 }) (f ∷ l ∷ []) s ready t (text_code 133 map_text) map_text (code_no 15) home_place v refl refl knows.map_text refl text-is
-        (case-called w (code_no 15) home_place (f ∷ l ∷ []) ready (procedure_code (code_no 15) (one_case (17 ∷ 18 ∷ []) (Some 19) map_body) true) (formals (17 ∷ 18 ∷ []) (Some 19)) map_body v t knows.map_body refl h)
+    body-ends r t h =
+        text-ends w (record { 0 = 133 }) (f ∷ l ∷ []) s ready t (text_code 133 map_text) map_text (code_no 15) home_place r refl refl knows.map_text refl text-is
+        (case-ends w (code_no 15) home_place (f ∷ l ∷ []) ready (procedure_code (code_no 15) (one_case (17 ∷ 18 ∷ []) (Some 19) map_body) true) (formals (17 ∷ 18 ∷ []) (Some 19)) map_body r t knows.map_body refl h)
+
+    abbrev q : Place
+    q = next_place ready
+
+    behind : Later s inner
+    behind =
+        later-then s outside inner (later-with s (cell.Scope [] None))
+        (later-then outside ready inner (later-with outside (cell.Scope (map_home home_place) (Some (next_place s)))) (later-with ready (cell.Scope vars (Some home_place))))
+
+    home : Home ready.cells home_place (map_home home_place)
+    home = record { around = Some (next_place s); is = slice_get-added outside.cells (cell.Scope (map_home home_place) (Some (next_place s))) }
+
+    inside : Inside inner.cells q vars home_place (map_home home_place)
+    inside = entered-inside ready vars home_place (map_home home_place) home
+
+    home-inner : Home inner.cells home_place (map_home home_place)
+    home-inner = record { around = inside.around; is = inside.home }
+
+    -- the loop along the list is called
+    loop-ends : (r : End) (t : State) → CallEnds w (value.Closure (code_no 4) home_place) (f ∷ l ∷ []) inner r t → CallEnds w (value.Prim (record { 0 = 133 })) (f ∷ l ∷ []) s r t
+    loop-ends r t h =
+        body-ends r t
+        (true-ends w _ _ _ q inner inner t (truth true) r
+        (null-is w (var 19) q inner inner nil (own w inner q vars home_place (map_home home_place) inside (label 19) nil refl) true refl) refl
+        (call-two-ends w (var 2) (var 17) (var 18) q inner inner inner inner t (value.Closure (code_no 4) home_place) f l r
+        (outer w inner q vars home_place (map_home home_place) inside (label 2) (value.Closure (code_no 4) home_place) refl refl)
+        (own w inner q vars home_place (map_home home_place) inside (label 17) f refl)
+        (own w inner q vars home_place (map_home home_place) inside (label 18) l refl) h))
 
     pub map-given : (xs : List Value) → IsList s.cells xs l → AllGive w f xs s → Maps w (value.Prim (record { 0 = 133 })) (f ∷ l ∷ []) f xs s
     map-given xs r give = record {
-      value = mapped.value;
-      state = mapped.state;
-      called = called-by-body mapped.value mapped.state
-      (if-true w _ _ _ q inner inner mapped.state (truth true) mapped.value
-      (null-is w (var 19) q inner inner nil (own w inner q vars home_place (map_home home_place) inside (label 19) nil refl) true refl) refl
-      (call-two w (var 2) (var 17) (var 18) q inner inner inner inner mapped.state (value.Closure (code_no 4) home_place) f l mapped.value
-      (outer w inner q vars home_place (map_home home_place) inside (label 2) (value.Closure (code_no 4) home_place) refl refl)
-      (own w inner q vars home_place (map_home home_place) inside (label 17) f refl)
-      (own w inner q vars home_place (map_home home_place) inside (label 18) l refl)
-      mapped.called));
-      answers = mapped.answers;
-      in_turn = in-turn-from w f xs mapped.answers s inner mapped.state behind mapped.in_turn;
-      list = mapped.list;
+      value = m.value;
+      state = m.state;
+      called = loop-ends (Ok m.value) m.state m.called;
+      answers = m.answers;
+      in_turn = in-turn-from w f xs m.answers s inner m.state behind m.in_turn;
+      list = m.list;
     }
       where
-        q : Place
-        q = next_place ready
+        m : Maps w (value.Closure (code_no 4) home_place) (f ∷ l ∷ []) f xs inner
+        m = map-one w knows.map_one f home_place xs l inner home-inner (list-later s inner behind xs l r) (all-give-later w f xs s inner behind give)
 
-        behind : Later s inner
-        behind =
-            later-then s outside inner (later-with s (cell.Scope [] None))
-            (later-then outside ready inner (later-with outside (cell.Scope (map_home home_place) (Some (next_place s)))) (later-with ready (cell.Scope vars (Some home_place))))
-
-        home : Home ready.cells home_place (map_home home_place)
-        home = record { around = Some (next_place s); is = slice_get-added outside.cells (cell.Scope (map_home home_place) (Some (next_place s))) }
-
-        inside : Inside inner.cells q vars home_place (map_home home_place)
-        inside = entered-inside ready vars home_place (map_home home_place) home
-
-        home-inner : Home inner.cells home_place (map_home home_place)
-        home-inner = record { around = inside.around; is = inside.home }
-
-        mapped : Maps w (value.Closure (code_no 4) home_place) (f ∷ l ∷ []) f xs inner
-        mapped = map-one w knows.map_one f home_place xs l inner home-inner (list-later s inner behind xs l r) (all-give-later w f xs s inner behind give)
+    pub map-ended : (xs : List Value) → IsList s.cells xs l → AllEnd w f xs s
+        → Maps w (value.Prim (record { 0 = 133 })) (f ∷ l ∷ []) f xs s ⊎ Faults w (value.Prim (record { 0 = 133 })) (f ∷ l ∷ []) f xs s
+    map-ended xs r give = elim (map-ends w knows.map_one f home_place xs l inner home-inner (list-later s inner behind xs l r) (all-end-later w f xs s inner behind give)) [
+      | inl m ↦ inl (record {
+        value = m.value;
+        state = m.state;
+        called = loop-ends (Ok m.value) m.state m.called;
+        answers = m.answers;
+        in_turn = in-turn-from w f xs m.answers s inner m.state behind m.in_turn;
+        list = m.list;
+      })
+      | inr m ↦ inr (record { fault = m.fault; state = m.state; called = loop-ends (Err m.fault) m.state m.called; stops = stops-from w f xs m.fault s inner m.state behind m.stops })
+    ]

@@ -1,24 +1,23 @@
 -- The loop of `memp`.
-use Rattle.std.proofs.Common.{◌≡◌, ℕ, List, [], ◌∷◌, ◌++◌, Option, Some, None, Bool, true, false, length, refl, ap, sym, subst, ◌∙◌}
+use Rattle.std.proofs.Common.{◌≡◌, List, [], ◌∷◌, Some, None, true, false, refl, sym, subst}
 use Rattle.sx_region.specs.declared.region.Place.{Place}
 use Rattle.sx_value.specs.declared.value.Value.{Value}
 use Rattle.sx_value.specs.declared.value.Value.TheVariants as value
 use Rattle.sx_value.specs.declared.cell.Cell.{Cell}
-use Rattle.sx_value.specs.declared.cell.Cell.TheVariants as cell
 use Rattle.sx_prims.specs.Answers.{truth}
 use Rattle.sx_prims.specs.Chains.{pair_of}
 use Rattle.sx_prims.specs.Lists.{nil}
 use Rattle.sx_eval.specs.Codes.{code_at, procedure_code}
 use Rattle.sx_eval.specs.Procedures.{truth_of}
 use Rattle.sx_eval.specs.Setting.{PlainSetting}
-use Rattle.sx_eval.specs.State.{State, next_place, with_cell}
+use Rattle.sx_eval.specs.State.{State, next_place}
 use Rattle.sx_eval.specs.Variables.{Entries}
 use Rattle.sx_eval_laws.specs.Kept.{Later}
 use Rattle.sx_list_laws.specs.Runs.{here, IsList}
 use Rattle.sx_given_laws.specs.Calls.{Calls}
-use Rattle.sx_given_laws.specs.Codes.{label, code_no, var, one_case, app, car, cdr, memp_some, memp_loop}
+use Rattle.sx_given_laws.specs.Codes.{label, code_no, var, one_case, app, car, memp_some, memp_loop}
 use Rattle.sx_given_laws.specs.Given.{FindsTail}
-use Rattle.sx_given_laws.specs.InTurn.{Search, not_there, passed, there, SearchGives}
+use Rattle.sx_given_laws.specs.InTurn.{not_there, passed, there, SearchGives}
 use Rattle.sx_given_laws.proofs.Giving.{Evaluates, if-true, if-false}
 use Rattle.sx_given_laws.proofs.Inside.{Home, home-later, one_home}
 use Rattle.sx_given_laws.proofs.Later.{later-refl, later-then, calls-later, list-later}
@@ -50,7 +49,7 @@ module _ (w : PlainSetting) (known : code_at w.codes (code_no 86) ≡ Some (proc
     value = truth false;
     state = s1;
     called = loop.loop-called w 86 85 88 89 memp_loop known p home names f nil s round (truth false) s1
-    (if-true w _ _ _ (next_place s) s1 s1 s1 (truth true) (truth false) (loop.is-null w 86 85 88 89 memp_loop known p home names f nil s round s1 (later-refl s1) refl) refl (bool-is w _ false (next_place s) s1));
+        (if-true w _ _ _ (next_place s) s1 s1 s1 (truth true) (truth false) (loop.is-null w 86 85 88 89 memp_loop known p home names f nil s round s1 (later-refl s1) refl) refl (bool-is w _ false (next_place s) s1));
     rest = [];
     search = not_there (loop.entered-later w 86 85 88 89 memp_loop known p home names f nil s round);
     tail = refl;
@@ -96,7 +95,7 @@ module _ (w : PlainSetting) (known : code_at w.codes (code_no 86) ≡ Some (proc
       value = rest.value;
       state = rest.state;
       called = with-test y u rest.value rest.state called
-      (λ test. if-false w _ _ _ (next_place s) s1 u rest.state y rest.value test e (loop.loop-again w 86 85 88 89 memp_loop known p home names f l s round u behind x d pair rest.value rest.state rest.called));
+          (λ test. if-false w _ _ _ (next_place s) s1 u rest.state y rest.value test e (loop.loop-again w 86 85 88 89 memp_loop known p home names f l s round u behind x d pair rest.value rest.state rest.called));
       rest = rest.rest;
       search = passed enter called e rest.search;
       tail = longer rest.state.cells x l d (pair_still s.cells rest.state.cells (later-stay s rest.state far) l x d pair) rest.rest rest.value rest.tail;

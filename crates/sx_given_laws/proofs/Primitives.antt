@@ -1,5 +1,5 @@
 -- What the primitives give of which the texts are made.
-use Rattle.std.proofs.Common.{◌≡◌, ◌≤◌, ◌+◌, ℕ, zero, suc, List, [], ◌∷◌, ◌++◌, Option, Some, None, Bool, true, false, not, Result, Ok, Err, length, refl, ap, sym, subst, ◌∙◌}
+use Rattle.std.proofs.Common.{◌≡◌, ℕ, List, [], ◌∷◌, Option, Some, Bool, false, not, Ok, length, refl, ap, subst}
 use Rattle.sx_base.specs.declared.atom.Atom.TheVariants as a
 use Rattle.sx_base.specs.Datum as datum
 use Rattle.sx_base.specs.declared.span.Span.{Span}
@@ -10,7 +10,7 @@ use Rattle.sx_value.specs.declared.value.Value.{Value}
 use Rattle.sx_value.specs.declared.value.Value.TheVariants as value
 use Rattle.sx_value.specs.declared.cell.Cell.{Cell}
 use Rattle.sx_value.specs.declared.cell.Cell.TheVariants as cell
-use Rattle.sx_prims.specs.Answers.{or_refused, given, said, truth}
+use Rattle.sx_prims.specs.Answers.{or_refused, given, truth}
 use Rattle.sx_prims.specs.Basics.{basic_made, kind_made, part, part_by, then_part, is_false}
 use Rattle.sx_prims.specs.Chains.{pair_of, is_nil, list_elements}
 use Rattle.sx_prims.specs.Delta.{delta, row_answer}
@@ -18,10 +18,10 @@ use Rattle.sx_prims.specs.Each.{if_some}
 use Rattle.sx_prims.specs.Lists.{nil, gathered_made, elements_joined, appended_made}
 use Rattle.sx_prims.specs.Primitives.{primitive_of}
 use Rattle.sx_prims.specs.declared.made.Made.TheVariants as made
-use Rattle.sx_eval.specs.Meaning.{eval_of, quoted_value}
+use Rattle.sx_eval.specs.Meaning.{quoted_value}
 use Rattle.sx_eval.specs.Procedures.{has_text, truth_of}
 use Rattle.sx_eval.specs.Setting.{PlainSetting}
-use Rattle.sx_eval.specs.State.{State, done, store, with_cell}
+use Rattle.sx_eval.specs.State.{State, done, with_cell}
 use Rattle.sx_given_laws.specs.Calls.{Gives, Calls}
 use Rattle.sx_given_laws.specs.Codes.{prim, app, car, cdr, is_null, cons}
 use Rattle.sx_given_laws.proofs.Giving.{gives-done, gives-charged, Evaluates, evaluates-step, primitive-is, call-one, call-two}

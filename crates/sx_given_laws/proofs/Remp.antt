@@ -1,8 +1,7 @@
 -- `remp`: its text calls `filter` on a procedure that says no where f says yes.
-use Rattle.std.proofs.Common.{◌≡◌, ℕ, List, [], ◌∷◌, ◌++◌, Option, Some, None, Bool, true, false, not, refl, ap, sym, subst, ◌∙◌, if◌then◌else◌}
+use Rattle.std.proofs.Common.{◌≡◌, List, [], ◌∷◌, Some, None, Bool, true, false, not, refl, ap, sym, subst, ◌∙◌, if◌then◌else◌}
 use Rattle.sx_region.specs.declared.region.Place.{Place}
 use Rattle.sx_region.proofs.Laws.{slice_get-added}
-use Rattle.sx_core.specs.Core.{PlainCore}
 use Rattle.sx_value.specs.declared.value.Value.{Value}
 use Rattle.sx_value.specs.declared.value.Value.TheVariants as value
 use Rattle.sx_value.specs.declared.cell.Cell.TheVariants as cell
@@ -23,7 +22,7 @@ use Rattle.sx_given_laws.proofs.Giving.{Evaluates, procedure-is, primitive-is, c
 use Rattle.sx_given_laws.proofs.Calling.{closure-called, case-called, text-called}
 use Rattle.sx_given_laws.proofs.Inside.{Inside, Home, home-later, entered-inside, own, outer}
 use Rattle.sx_given_laws.proofs.Knows.{Knows}
-use Rattle.sx_given_laws.proofs.Later.{later-refl, later-then, later-with, calls-later, list-later, in-turn-from, all-give-later}
+use Rattle.sx_given_laws.proofs.Later.{later-then, later-with, calls-later, list-later, in-turn-from, all-give-later}
 use Rattle.sx_given_laws.proofs.Primitives.{not-is, not-turns}
 use Rattle.sx_given_laws.proofs.ListTexts.{filter-given}
 use Rattle.sx_given_laws.proofs.Unique.{gives-one-value, gives-one-state}
@@ -63,9 +62,9 @@ module _ (w : PlainSetting) (knows : Knows w.codes) (f l : Value) where
     turned-gives : (xs : List Value) (s : State) → Home s.cells p vars → AllGive w f xs s → AllGive w turned xs s
     turned-gives [] s round give = tt
     turned-gives (x ∷ xs) s round give = λ t k.
-      let around = home-later s t k p vars round in
-      let c = give (tested x t) (later-then s t (tested x t) k (later-with t (cell.Scope ((label 74, Some x) ∷ []) (Some p)))) in
-      (truth (is_false c.0), c.1, turned-called x t around c.0 c.1 c.2, turned-gives xs c.1 (home-later t c.1 (far x t c.0 c.1 c.2) p vars around) c.3)
+        let around = home-later s t k p vars round in
+        let c = give (tested x t) (later-then s t (tested x t) k (later-with t (cell.Scope ((label 74, Some x) ∷ []) (Some p)))) in
+        (truth (is_false c.0), c.1, turned-called x t around c.0 c.1 c.2, turned-gives xs c.1 (home-later t c.1 (far x t c.0 c.1 c.2) p vars around) c.3)
 
     -- the calls of f behind the calls of that
     abbrev Behind : List Value → List Value → State → State → Type 0
@@ -81,10 +80,12 @@ module _ (w : PlainSetting) (knows : Knows w.codes) (f l : Value) where
         let called = turned-called x r around made.0 made.1 made.2 in
         let value_is : truth (is_false made.0) ≡ z = gives-one-value (call_of w turned (x ∷ []) r) (truth (is_false made.0)) z made.1 u called c in
         let state_is : made.1 ≡ u = gives-one-state (call_of w turned (x ∷ []) r) (truth (is_false made.0)) z made.1 u called c in
-        let rest = turned-back xs' zs' u made.1 t (sym state_is) (home-later r made.1 (far x r made.0 made.1 made.2) p vars around) made.3 i in
-        (made.0 ∷ rest.0, one_call enter made.2 rest.1,
-        ap (λ v. when_true (truth_of v) x (chosen xs' zs')) (sym value_is) ∙ ap (λ b. when_true b x (chosen xs' zs')) (not-turns made.0)
-        ∙ turned-choice (truth_of made.0) x (chosen xs' zs') (others xs' rest.0) rest.2)
+        let rest = turned-back xs' zs' u made.1 t (sym state_is) (home-later r made.1 (far x r made.0 made.1 made.2) p vars around) made.3 i in (
+          made.0 ∷ rest.0,
+          one_call enter made.2 rest.1,
+          ap (λ v. when_true (truth_of v) x (chosen xs' zs')) (sym value_is) ∙ ap (λ b. when_true b x (chosen xs' zs')) (not-turns made.0)
+              ∙ turned-choice (truth_of made.0) x (chosen xs' zs') (others xs' rest.0) rest.2,
+        )
 
   module _ (s : State) where
     abbrev outside : State
@@ -108,9 +109,9 @@ module _ (w : PlainSetting) (knows : Knows w.codes) (f l : Value) where
       value = m.value;
       state = m.state;
       called = called-by-body m.value m.state
-      (call-two w (prim 194) (lambda 72 (74 ∷ []) None remp_test) (var 70) q inner inner inner inner m.state (value.Prim (record { 0 = 194 })) (turned q) l m.value
-      (primitive-is w (record { 0 = 194 }) q inner) (procedure-is w (code_no 72) (one_case (74 ∷ []) None remp_test) true q inner)
-      (own w inner q vars (next_place s) [] inside (label 70) l refl) m.called);
+          (call-two w (prim 194) (lambda 72 (74 ∷ []) None remp_test) (var 70) q inner inner inner inner m.state (value.Prim (record { 0 = 194 })) (turned q) l m.value
+          (primitive-is w (record { 0 = 194 }) q inner) (procedure-is w (code_no 72) (one_case (74 ∷ []) None remp_test) true q inner)
+          (own w inner q vars (next_place s) [] inside (label 70) l refl) m.called);
       answers = back.0;
       in_turn = in-turn-from w f xs back.0 s inner m.state behind back.1;
       list = subst (λ ys. IsList m.state.cells ys m.value) back.2 m.list;

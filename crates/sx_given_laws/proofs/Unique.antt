@@ -1,11 +1,11 @@
 -- A call gives one value and leaves one state.
-use Rattle.std.proofs.Common.{◌≡◌, ℕ, ◌+◌, List, [], ◌∷◌, map, refl, ap, ap₂, sym, ◌∙◌, arith}
+use Rattle.std.proofs.Common.{◌≡◌, ◌+◌, List, [], ◌∷◌, map, refl, ap, ap₂, sym, ◌∙◌, arith}
 use Rattle.sx_value.specs.declared.value.Value.{Value}
 use Rattle.sx_eval.specs.Setting.{PlainSetting}
 use Rattle.sx_eval.specs.State.{State, Outcome, done, faulted, unfit}
 use Rattle.sx_eval_laws.specs.Kept.{Later}
 use Rattle.sx_eval_laws.specs.Runs.{ByFuel}
-use Rattle.sx_given_laws.specs.Calls.{Gives, call_of, Calls}
+use Rattle.sx_given_laws.specs.Calls.{Gives, call_of}
 use Rattle.sx_given_laws.specs.InTurn.{InTurn, no_call, one_call, AllGive, AllGiveBy}
 use Rattle.sx_given_laws.proofs.Later.{later-then, calls-later}
 
@@ -36,8 +36,8 @@ module _ (w : PlainSetting) (f : Value) (g : Value → Value) where
   pub by-all : (xs : List Value) (s : State) → AllGiveBy w f g xs s → AllGive w f xs s
   by-all [] s h = tt
   by-all (x ∷ xs) s h = λ t k.
-    let c = h.0 t k in
-    (g x, c.0, c.1, by-all xs c.0 (by-later xs s c.0 (later-then s t c.0 k (calls-later w f (x ∷ []) t (g x) c.0 c.1)) h.1))
+      let c = h.0 t k in
+      (g x, c.0, c.1, by-all xs c.0 (by-later xs s c.0 (later-then s t c.0 k (calls-later w f (x ∷ []) t (g x) c.0 c.1)) h.1))
 
   -- the answers are what the function says
   pub by-answers : (xs ys : List Value) (s t : State) → AllGiveBy w f g xs s → InTurn w f xs s ys t → ys ≡ map g xs

@@ -1,6 +1,6 @@
 -- The codes of the procedures that are given as texts, written out: what expansion makes of each text. Variables and procedures
 -- have the names of the library of the texts, in the order of their coming.
-use Rattle.std.specs.Prelude.{ℕ, Bool, true, false, List, [], ◌∷◌, ◌++◌, map, codes, Option, None, Some}
+use Rattle.std.specs.Prelude.{ℕ, true, false, List, [], ◌∷◌, ◌++◌, map, codes, Option, None, Some}
 use Rattle.sx_base.specs.Op.{op_text}
 use Rattle.sx_base.specs.Datum as datum
 use Rattle.sx_base.specs.declared.atom.Atom.{Atom}
@@ -8,8 +8,7 @@ use Rattle.sx_base.specs.declared.atom.Atom.TheVariants as a
 use Rattle.sx_base.specs.declared.library.LibName.TheVariants as library
 use Rattle.sx_base.specs.declared.name.CodeNo.{CodeNo}
 use Rattle.sx_base.specs.declared.name.Label.{Label}
-use Rattle.sx_base.specs.declared.op.Op.{Op}
-use Rattle.sx_core.specs.Core.{PlainCore, quoted, variable, primitive, one_armed, two_armed, sequence, procedure, letrec, call, PlainInits, no_init, init, PlainCases, no_case, case, PlainCode, cores}
+use Rattle.sx_core.specs.Core.{PlainCore, quoted, variable, primitive, one_armed, two_armed, sequence, procedure, letrec, call, no_init, init, PlainCases, no_case, case, PlainCode, cores}
 use Rattle.sx_core.specs.declared.formals.Formals.{Formals}
 
 -- Short names for the parts of core code.
@@ -83,8 +82,14 @@ enter_fold go f z l ls = app (var go) (var f ∷ var z ∷ cons (var l) (var ls)
 
 -- `map`
 
+abbrev pub map_first : PlainCore
+map_first = app (var 6) (car (var 7) ∷ [])
+
+abbrev pub map_others : PlainCore
+map_others = app (var 2) (var 6 ∷ cdr (var 7) ∷ [])
+
 abbrev pub map_one : PlainCore
-map_one = two_armed (is_null (var 7)) (datum_at 133 43 45 a.Nil) (cons (app (var 6) (car (var 7) ∷ [])) (app (var 2) (var 6 ∷ cdr (var 7) ∷ [])))
+map_one = two_armed (is_null (var 7)) (datum_at 133 43 45 a.Nil) (cons map_first map_others)
 
 abbrev pub map_many : PlainCore
 map_many = two_armed (first_is_null (var 12)) (datum_at 133 139 141 a.Nil)

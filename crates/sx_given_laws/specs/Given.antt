@@ -1,6 +1,7 @@
 -- What calls of the procedures that are given as texts come to, in the report's words (R6RS 11.9 and libraries 3), where they take one
 -- list.
-use Rattle.std.specs.Prelude.{◌≡◌, ℕ, false, List, [], ◌∷◌, map}
+use Rattle.std.specs.Prelude.{◌≡◌, ℕ, false, List, [], ◌∷◌, map, Err}
+use Rattle.sx_base.specs.declared.fault.Bare.{Bare}
 use Rattle.sx_value.specs.declared.value.Value.{Value}
 use Rattle.sx_value.specs.declared.value.Value.TheVariants as value
 use Rattle.sx_value.specs.declared.cell.Cell.{Cell}
@@ -8,8 +9,8 @@ use Rattle.sx_prims.specs.Answers.{truth}
 use Rattle.sx_eval.specs.Setting.{PlainSetting}
 use Rattle.sx_eval.specs.State.{State}
 use Rattle.sx_list_laws.specs.Runs.{Runs, IsList}
-use Rattle.sx_given_laws.specs.Calls.{Calls}
-use Rattle.sx_given_laws.specs.InTurn.{InTurn, Search, FoldLeft, FoldRight, ForAll, Exists}
+use Rattle.sx_given_laws.specs.Calls.{CallEnds, Calls}
+use Rattle.sx_given_laws.specs.InTurn.{InTurn, Stops, Search, FoldLeft, FoldRight, ForAll, Exists}
 
 -- a procedure that is given, by its number
 abbrev pub built_in : ℕ → Value
@@ -99,3 +100,10 @@ pub record FoldsRight (w : PlainSetting) (g : Value) (args : List Value) (f z : 
   pub state : State
   pub called : Calls w g args s value state
   pub fold : FoldRight w f z xs s value state
+
+-- `map` and `for-each` where a call faults: it is the last that is made, and its fault is given.
+pub record Faults (w : PlainSetting) (g : Value) (args : List Value) (f : Value) (xs : List Value) (s : State) : Type 0 where
+  pub fault : Bare
+  pub state : State
+  pub called : CallEnds w g args s (Err fault) state
+  pub stops : Stops w f xs s fault state

@@ -1,12 +1,13 @@
 -- Calls of a procedure that are made one after another. Between them nothing happens but that cells are added.
-use Rattle.std.specs.Prelude.{◌≡◌, Bool, true, false, List, [], ◌∷◌, if◌then◌else◌}
+use Rattle.std.specs.Prelude.{◌≡◌, Bool, true, false, List, [], ◌∷◌, Ok, Err, if◌then◌else◌}
+use Rattle.sx_base.specs.declared.fault.Bare.{Bare}
 use Rattle.sx_value.specs.declared.value.Value.{Value}
 use Rattle.sx_prims.specs.Answers.{truth}
 use Rattle.sx_eval.specs.Procedures.{truth_of}
 use Rattle.sx_eval.specs.Setting.{PlainSetting}
 use Rattle.sx_eval.specs.State.{State}
 use Rattle.sx_eval_laws.specs.Kept.{Later}
-use Rattle.sx_given_laws.specs.Calls.{Calls}
+use Rattle.sx_given_laws.specs.Calls.{End, CallEnds, Calls}
 
 -- A call on each of some values, in their order, from a state on: their answers, and a state behind the last.
 pub data InTurn (w : PlainSetting) (f : Value) : List Value → State → List Value → State → Type 0 where
@@ -86,3 +87,18 @@ pub data Exists (w : PlainSetting) (f : Value) : List Value → State → Value 
   some_last : {x y : Value} {s t u v : State} → Later s t → Calls w f (x ∷ []) t y u → Later u v → Exists w f (x ∷ []) s y v
   some_here : {x z y : Value} {xs : List Value} {s t u v : State} → Later s t → Calls w f (x ∷ []) t y u → truth_of y ≡ true → Later u v → Exists w f (x ∷ z ∷ xs) s y v
   some_behind : {x z y r : Value} {xs : List Value} {s t u v : State} → Later s t → Calls w f (x ∷ []) t y u → truth_of y ≡ false → Exists w f (z ∷ xs) u r v → Exists w f (x ∷ z ∷ xs) s r v
+
+-- Calls in their order, of which the last ends at a fault.
+pub data Stops (w : PlainSetting) (f : Value) : List Value → State → Bare → State → Type 0 where
+  stops_here : {x : Value} {xs : List Value} {e : Bare} {s t u : State} → Later s t → CallEnds w f (x ∷ []) t (Err e) u → Stops w f (x ∷ xs) s e u
+  stops_behind : {x y : Value} {xs : List Value} {e : Bare} {s t u v : State} → Later s t → Calls w f (x ∷ []) t y u → Stops w f xs u e v → Stops w f (x ∷ xs) s e v
+
+-- where a call gave a value
+abbrev pub AfterValue : End → Type 0 → Type 0
+AfterValue (Ok y) P = P
+AfterValue (Err e) P = Unit {0}
+
+-- Each of these calls ends, with a value or at a fault, whatever cells were added before it.
+abbrev pub AllEnd : PlainSetting → Value → List Value → State → Type 0
+AllEnd w f [] s = Unit {0}
+AllEnd w f (x ∷ xs) s = (t : State) → Later s t → (r : End) × (u : State) × CallEnds w f (x ∷ []) t r u × AfterValue r (AllEnd w f xs u)

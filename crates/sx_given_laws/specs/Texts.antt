@@ -1,5 +1,5 @@
 -- Settings in which the procedures that are given as texts have their codes.
-use Rattle.std.specs.Prelude.{◌≡◌, List, [], ◌∷◌, Some, Ok}
+use Rattle.std.specs.Prelude.{◌≡◌, List, [], ◌∷◌, Some}
 use Rattle.sx_base.specs.declared.name.CodeNo.{CodeNo}
 use Rattle.sx_core.specs.Core.{PlainCode}
 use Rattle.sx_eval.specs.Codes.{Codes, code_at, with_procedure}

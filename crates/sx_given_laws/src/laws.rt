@@ -1,6 +1,6 @@
 //! The laws of the procedures that are given in Scheme. The functions here compute nothing: what they promise is the laws.
 
-ghost use Rattle.std.specs.Prelude.{◌≡◌, ℕ, List, [], ◌∷◌, map, Some, codes};
+ghost use Rattle.std.specs.Prelude.{◌≡◌, ◌⊎◌, ℕ, List, [], ◌∷◌, map, Some, codes};
 ghost use Rattle.sx_base.specs.Op.{op_named};
 ghost use Rattle.sx_eval.specs.Setting.{PlainSetting};
 ghost use Rattle.sx_eval.specs.State.{State, done};
@@ -8,8 +8,8 @@ ghost use Rattle.sx_list_laws.specs.Runs.{IsList};
 ghost use Rattle.sx_value.specs.declared.value.Value.{Value};
 ghost use Rattle.sx_value.specs.declared.value.Value.TheVariants as value;
 ghost use Rattle.sx_given_laws.specs.Calls.{call_of, Calls};
-ghost use Rattle.sx_given_laws.specs.Given.{built_in, Maps, MapsBy, Visits, Filters, Finds, FindsTail, ForAlls, Existences, FoldsLeft, FoldsRight};
-ghost use Rattle.sx_given_laws.specs.InTurn.{AllGive, AllGiveBy, SearchGives, ForAllGives, FoldLeftGives, FoldRightGives, chosen, others};
+ghost use Rattle.sx_given_laws.specs.Given.{built_in, Maps, MapsBy, Visits, Faults, Filters, Finds, FindsTail, ForAlls, Existences, FoldsLeft, FoldsRight};
+ghost use Rattle.sx_given_laws.specs.InTurn.{AllGive, AllEnd, AllGiveBy, SearchGives, ForAllGives, FoldLeftGives, FoldRightGives, chosen, others};
 ghost use Rattle.sx_given_laws.specs.Texts.{HasTexts};
 
 /// The numbers of the procedures of which the laws speak, by their report names.
@@ -25,18 +25,23 @@ pub fn some_fuel_is_enough()
 {}
 
 /// `map` calls its procedure on each element of a list, from the first to the last, and gives the list of the answers
-/// (R6RS 11.9). Where each answer is what a function says, it is the list of what that says.
+/// (R6RS 11.9). Where each answer is what a function says, it is the list of what that says. Where a call faults, it is the last
+/// that is made, and its fault is that of `map`.
 pub fn map_gives_the_answers()
     ensures answers { (w : PlainSetting) (f l : Value) (xs : List Value) (s : State) → HasTexts w → IsList s.cells xs l → AllGive w f xs s → Maps w (built_in 133) (f ∷ l ∷ []) f xs s }
     ensures said { (w : PlainSetting) (f l : Value) (g : Value → Value) (xs : List Value) (s : State) → HasTexts w → IsList s.cells xs l → AllGiveBy w f g xs s →
         MapsBy w (built_in 133) (f ∷ l ∷ []) g xs s }
+    ensures faults { (w : PlainSetting) (f l : Value) (xs : List Value) (s : State) → HasTexts w → IsList s.cells xs l → AllEnd w f xs s →
+        Maps w (built_in 133) (f ∷ l ∷ []) f xs s ⊎ Faults w (built_in 133) (f ∷ l ∷ []) f xs s }
 {}
 
 /// `for-each` calls its procedure on each element of a list, from the first to the last, and gives nothing of it
-/// (R6RS 11.9).
+/// (R6RS 11.9). Where a call faults, it is the last that is made, and its fault is that of `for-each`.
 pub fn for_each_calls_in_order()
-    ensures { (w : PlainSetting) (f l : Value) (xs : List Value) (s : State) → HasTexts w → IsList s.cells xs l → AllGive w f xs s →
+    ensures calls { (w : PlainSetting) (f l : Value) (xs : List Value) (s : State) → HasTexts w → IsList s.cells xs l → AllGive w f xs s →
         Visits w (built_in 110) (f ∷ l ∷ []) f xs s value.Unspecified }
+    ensures faults { (w : PlainSetting) (f l : Value) (xs : List Value) (s : State) → HasTexts w → IsList s.cells xs l → AllEnd w f xs s →
+        Visits w (built_in 110) (f ∷ l ∷ []) f xs s value.Unspecified ⊎ Faults w (built_in 110) (f ∷ l ∷ []) f xs s }
 {}
 
 /// `filter` gives the list of the elements whose answer is not `#f`, and `remp` of those whose answer is `#f`, in their

@@ -1,6 +1,9 @@
-use Rattle.sx_given_laws.proofs.ForEach.{for-each-given}
+use Rattle.sx_given_laws.proofs.ForEach.{for-each-given, for-each-ended}
 use Rattle.sx_given_laws.proofs.Knows.{knows}
 use Rattle.sx_given_laws.proofs.laws.for_each_calls_in_order.Goals as goal
 
 pub returns : goal.returns
-returns c = λ w f l xs s has r give. for-each-given w (knows w has) f l s xs r give
+returns c = record {
+  calls = λ w f l xs s has r give. for-each-given w (knows w has) f l s xs r give;
+  faults = λ w f l xs s has r give. for-each-ended w (knows w has) f l s xs r give;
+}
