@@ -25,3 +25,4 @@ pub mod ForAllLoop
 pub mod ExistsLoop
 pub mod FoldLeftLoop
 pub mod FoldRightLoop
+pub mod Codes

@@ -1,7 +1,9 @@
 //! The laws of the procedures that are given in Scheme. The functions here compute nothing: what they promise is the laws.
 
-ghost use Rattle.std.specs.Prelude.{◌≡◌, ◌⊎◌, ℕ, List, [], ◌∷◌, map, Some, codes};
+ghost use Rattle.std.specs.Prelude.{◌≡◌, ◌⊎◌, ℕ, List, [], ◌∷◌, map, None, Some, codes};
 ghost use Rattle.sx_base.specs.Op.{op_named};
+ghost use Rattle.sx_core.specs.Core.{PlainCode};
+ghost use Rattle.sx_eval.specs.Codes.{Codes, code_at, with_code};
 ghost use Rattle.sx_eval.specs.Setting.{PlainSetting};
 ghost use Rattle.sx_eval.specs.State.{State, done};
 ghost use Rattle.sx_list_laws.specs.Runs.{IsList};
@@ -10,7 +12,7 @@ ghost use Rattle.sx_value.specs.declared.value.Value.TheVariants as value;
 ghost use Rattle.sx_given_laws.specs.Calls.{call_of, Calls};
 ghost use Rattle.sx_given_laws.specs.Given.{built_in, Maps, MapsBy, Visits, Faults, Filters, Finds, FindsTail, ForAlls, Existences, FoldsLeft, FoldsRight};
 ghost use Rattle.sx_given_laws.specs.InTurn.{AllGive, AllEnd, AllGiveBy, SearchGives, ForAllGives, FoldLeftGives, FoldRightGives, chosen, others};
-ghost use Rattle.sx_given_laws.specs.Texts.{HasTexts};
+ghost use Rattle.sx_given_laws.specs.Texts.{HasTexts, Includes, written_table};
 
 /// The numbers of the procedures of which the laws speak, by their report names.
 pub fn numbers_are_by_name()
@@ -22,6 +24,12 @@ pub fn numbers_are_by_name()
 pub fn some_fuel_is_enough()
     ensures enough { (w : PlainSetting) (f : Value) (args : List Value) (s : State) (n m : ℕ) (v : Value) (t : State) → call_of w f args s n ≡ done v t m → Calls w f args s v t }
     ensures one { (w : PlainSetting) (f : Value) (args : List Value) (s : State) (v x : Value) (t u : State) → Calls w f args s v t → Calls w f args s x u → (v ≡ x) × (t ≡ u) }
+{}
+
+/// The codes of the texts alone have the texts, and codes of other numbers that come behind them leave them there.
+pub fn texts_stay()
+    ensures begin { Includes written_table written_table }
+    ensures stay { (cs : Codes) (c : PlainCode) → code_at written_table c.number ≡ None → Includes cs written_table → Includes (with_code c cs) written_table }
 {}
 
 /// `map` calls its procedure on each element of a list, from the first to the last, and gives the list of the answers
