@@ -11,6 +11,7 @@ use Rattle.sx_eval.specs.declared.spread.TheConstants.{APPLY}
 use Rattle.sx_eval.proofs.Paid.{within_or_past, charged_paid, charged_short}
 use Rattle.sx_eval.proofs.Spreading.{parted_last, args_shorter}
 use Rattle.sx_given_laws.specs.Calls.{End, ended, call_of, CallEnds, Calls}
+use Rattle.sx_given_laws.proofs.Giving.{gives-same}
 
 abbrev parts_or : List Value × Value → Option (List Value × Value) → List Value × Value
 parts_or d None = d
@@ -82,3 +83,9 @@ module _ (w : PlainSetting) (f : Value) (front xs : List Value) (l : Value) (s :
 
   pub apply-called : (v : Value) (t : State) → list_elements s.cells l ≡ Some xs → Calls w f (front ++ xs) s v t → Calls w (value.Prim (record { 0 = APPLY })) (f ∷ (front ++ l ∷ [])) s v t
   apply-called v t has h = apply-ends (Ok v) t has h
+
+  -- where the last argument has no elements, the call itself
+  pub apply-none : list_elements s.cells l ≡ Some xs → xs ≡ [] → (v : Value) (t : State) → Calls w (value.Prim (record { 0 = APPLY })) (f ∷ (front ++ l ∷ [])) s v t → Calls w f (front ++ xs) s v t
+  apply-none has empty v t h =
+      let none : length xs ≡ 0 = ap (λ (ys : List Value). length ys) empty in
+      gives-same (call_of w (value.Prim (record { 0 = APPLY })) (f ∷ (front ++ l ∷ [])) s) (call_of w f (front ++ xs) s) v t (λ n. sym (applies n n (omega (arith, none)) has)) h

@@ -57,10 +57,10 @@ module _ (w : PlainSetting) where
 
   -- Primitives.
 
-  not-apply : (op : Op) (args : List Value) → nat_eq op.0 APPLY ≡ false → apply_args (value.Prim op ∷ args) ≡ None
+  pub not-apply : (op : Op) (args : List Value) → nat_eq op.0 APPLY ≡ false → apply_args (value.Prim op ∷ args) ≡ None
   not-apply op args e = ap (λ b. if b then Some args else None) e
 
-  called-at-once : (f : Value) (args : List Value) (s : State) (n : ℕ) → apply_args (f ∷ args) ≡ None → call_of w f args s n ≡ value_called w (eval_of w) f args s n
+  pub called-at-once : (f : Value) (args : List Value) (s : State) (n : ℕ) → apply_args (f ∷ args) ≡ None → call_of w f args s n ≡ value_called w (eval_of w) f args s n
   unfolding applied spread first_called
   called-at-once f args s n e =
       ap (spread_on s (spread_to (n + length (f ∷ args)) s (first_called w (eval_of w) s)) (first_called w (eval_of w) s) (f ∷ args) n) e

@@ -26,11 +26,15 @@ nothing-left m (faulted f s n) v t e = absurd (cc)
 nothing-left m unfit v t e = absurd (cc)
 
 module _ (run : ByFuel) (falls : FuelFalls run) (free : LeftIsNotNeeded run) (more : MoreIsLeft run) where
-  pub enough-gives : (n m : ℕ) (v : Value) (t : State) → run n ≡ done v t m → Gives run v t
-  enough-gives n m v t e = (n - m, by)
+  pub enough-least : (n m : ℕ) (v : Value) (t : State) → run n ≡ done v t m → m ≤ n
+  enough-least n m v t e = subst (LeavesAtMost n) e (falls n)
+
+  -- with what was spent, and whatever is left beside that
+  pub enough-by : (n m : ℕ) (v : Value) (t : State) → run n ≡ done v t m → (left : ℕ) → run (left + (n - m)) ≡ done v t left
+  enough-by n m v t e = by
     where
       least : m ≤ n
-      least = subst (LeavesAtMost n) e (falls n)
+      least = enough-least n m v t e
 
       parts : (n - m) + m ≡ n
       parts = omega (arith, least)
@@ -52,6 +56,9 @@ module _ (run : ByFuel) (falls : FuelFalls run) (free : LeftIsNotNeeded run) (mo
           let turned : left + (n - m) ≡ (n - m) + left = omega arith in
           let none : 0 + left ≡ left = omega arith in
           ap run turned ∙ more (n - m) left not-spent ∙ ap (more_left left) exact ∙ ap (done v t) none
+
+  pub enough-gives : (n m : ℕ) (v : Value) (t : State) → run n ≡ done v t m → Gives run v t
+  enough-gives n m v t e = (n - m, enough-by n m v t e)
 
 pub some-fuel : (w : PlainSetting) (f : Value) (args : List Value) (s : State) (n m : ℕ) (v : Value) (t : State) → call_of w f args s n ≡ done v t m → Calls w f args s v t
 some-fuel w f args s n m v t e =

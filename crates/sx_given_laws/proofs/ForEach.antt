@@ -1,5 +1,5 @@
 -- `for-each` on one list: its text calls `map` and gives nothing of it.
-use Rattle.std.proofs.Common.{◌≡◌, ℕ, zero, suc, List, [], ◌∷◌, Some, None, true, false, length, Ok, Err, refl, ap, inl, inr, if◌then◌else◌}
+use Rattle.std.proofs.Common.{◌≡◌, ℕ, zero, suc, List, [], ◌∷◌, Some, None, true, false, length, Ok, Err, refl, ap, sym, subst, inl, inr, if◌then◌else◌}
 use Rattle.std.specs.Prelude.{◌⊎◌}
 use Rattle.sx_region.specs.declared.region.Place.{Place}
 use Rattle.sx_region.proofs.Laws.{slice_get-added}
@@ -17,17 +17,22 @@ use Rattle.sx_eval.specs.State.{State, next_place, with_cell}
 use Rattle.sx_eval.specs.Variables.{Entries}
 use Rattle.sx_eval_laws.specs.Kept.{Later}
 use Rattle.sx_list_laws.specs.Runs.{IsList}
-use Rattle.sx_given_laws.specs.Calls.{End, CallEnds}
-use Rattle.sx_given_laws.specs.Codes.{label, code_no, var, prim, formals, one_case, app, text_code, for_each_body, for_each_text}
-use Rattle.sx_given_laws.specs.Given.{Maps, Visits, Faults}
-use Rattle.sx_given_laws.specs.InTurn.{AllGive, AllEnd}
-use Rattle.sx_given_laws.proofs.Giving.{ExpressionEnds, procedure-is, primitive-is, call-four-ends, sequence-two, sequence-stops, no-arm}
-use Rattle.sx_given_laws.proofs.Applying.{apply-ends}
+use Rattle.sx_given_laws.specs.Calls.{End, CallEnds, Calls}
+use Rattle.sx_given_laws.specs.Codes.{label, code_no, var, prim, formals, one_case, app, datum_at, text_code, for_each_body, for_each_text}
+use Rattle.sx_given_laws.specs.Given.{Maps, Mapped, Visits, Visited, Faults}
+use Rattle.sx_given_laws.specs.InTurn.{InTurn, AllGive, AllEnd}
+use Rattle.sx_given_laws.proofs.Giving.{Evaluates, ExpressionEnds, procedure-is, primitive-is, call-four-ends, sequence-two, sequence-stops, no-arm}
+use Rattle.sx_given_laws.proofs.Applying.{apply-ends, apply-none}
 use Rattle.sx_given_laws.proofs.Calling.{case-ends, text-ends}
 use Rattle.sx_given_laws.proofs.Inside.{Inside, entered-inside, own}
 use Rattle.sx_given_laws.proofs.Knows.{Knows}
 use Rattle.sx_given_laws.proofs.Later.{later-then, later-with, list-later, in-turn-from, stops-from, all-give-later, all-end-later}
-use Rattle.sx_given_laws.proofs.MapText.{map-given, map-ended}
+use Rattle.sx_given_laws.proofs.MapText.{map-given, map-ended, map-only}
+use Rattle.sx_given_laws.proofs.Inverting.{Parted, call-four-back, sequence-back, case-back, text-back}
+use Rattle.sx_given_laws.proofs.Unique.{gives-one-value, gives-one-state}
+use Rattle.sx_core.specs.Core.{PlainCore, one_armed, none, more}
+use Rattle.sx_base.specs.declared.atom.Atom.TheVariants as a
+use Rattle.sx_eval.specs.Meaning.{eval_of, in_sequence}
 use Rattle.sx_given_laws.proofs.Primitives.{bool-is}
 
 -- the empty list has no elements
@@ -101,3 +106,41 @@ module _ (w : PlainSetting) (knows : Knows w.codes) (f l : Value) (s : State) wh
       stops = stops-from w f xs m.fault s inner m.state behind m.stops;
     })
   ]
+
+  -- what a call that gave a value did
+  pub for-each-only : (xs : List Value) (v : Value) (t : State) → IsList s.cells xs l → Calls w (value.Prim (record { 0 = 110 })) (f ∷ l ∷ []) s v t → Visited w f xs s v t
+  unfolding has_text
+  for-each-only xs v t r called = record {
+    answers = m.answers;
+    in_turn = in-turn-from w f xs m.answers s inner t behind (subst (λ a. InTurn w f xs inner m.answers a) state_is m.in_turn);
+    is_nothing = sym (gives-one-value (eval_of w nothing q parts.state) value.Unspecified v parts.state t second parts.onward);
+  }
+    where
+      nothing : PlainCore
+      nothing = one_armed (datum_at 110 49 51 (a.Bool false)) (datum_at 110 52 54 (a.Bool false))
+
+      body : Evaluates w for_each_body q inner v t
+      body =
+          case-back w (code_no 21) p (f ∷ l ∷ []) outside (procedure_code (code_no 21) (one_case (23 ∷ 24 ∷ []) (Some 25) for_each_body) true) (formals (23 ∷ 24 ∷ []) (Some 25)) for_each_body v t knows.for_each_body refl
+          (text-back w (record { 0 = 110 }) (f ∷ l ∷ []) s outside t (text_code 110 for_each_text) for_each_text (code_no 21) p v refl refl knows.for_each_text refl
+          (procedure-is w (code_no 21) (one_case (23 ∷ 24 ∷ []) (Some 25) for_each_body) true p outside) called)
+
+      parts : Parted (eval_of w (app (prim 42) (prim 133 ∷ var 23 ∷ var 24 ∷ var 25 ∷ [])) q inner) (λ x. in_sequence w (eval_of w) (more nothing none) q) v t
+      parts = sequence-back w (app (prim 42) (prim 133 ∷ var 23 ∷ var 24 ∷ var 25 ∷ [])) nothing q inner v t body
+
+      second : Evaluates w nothing q parts.state value.Unspecified parts.state
+      second = no-arm w _ _ q parts.state parts.state (truth false) (bool-is w _ false q parts.state) refl
+
+      state_is : parts.state ≡ t
+      state_is = gives-one-state (eval_of w nothing q parts.state) value.Unspecified v parts.state t second parts.onward
+
+      mapped : Calls w (value.Prim (record { 0 = 133 })) (f ∷ l ∷ []) inner parts.value parts.state
+      mapped =
+          apply-none w (value.Prim (record { 0 = 133 })) (f ∷ l ∷ []) [] nil inner (nil-elements inner.cells) refl parts.value parts.state
+          (call-four-back w (prim 42) (prim 133) (var 23) (var 24) (var 25) q inner inner inner inner inner inner parts.state
+          (value.Prim (record { 0 = 42 })) (value.Prim (record { 0 = 133 })) f l nil parts.value
+          (primitive-is w (record { 0 = 42 }) q inner) (primitive-is w (record { 0 = 133 }) q inner)
+          (own w inner q vars p [] inside (label 23) f refl) (own w inner q vars p [] inside (label 24) l refl) (own w inner q vars p [] inside (label 25) nil refl) parts.first)
+
+      m : Mapped w f xs inner parts.value parts.state
+      m = map-only w inner knows f l xs parts.value parts.state (list-later s inner behind xs l r) mapped

@@ -26,3 +26,8 @@ pub mod ExistsLoop
 pub mod FoldLeftLoop
 pub mod FoldRightLoop
 pub mod Codes
+pub mod Inverting
+pub mod LoopBack
+pub mod FilterBack
+pub mod FindBack
+pub mod MempBack

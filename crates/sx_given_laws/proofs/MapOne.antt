@@ -20,15 +20,17 @@ use Rattle.sx_eval.specs.Variables.{Entries}
 use Rattle.sx_eval_laws.specs.Kept.{Later}
 use Rattle.sx_list_laws.specs.Runs.{here, next, IsList}
 use Rattle.sx_list_laws.proofs.RunLemmas.{stay_added, pair_still, runs_still}
-use Rattle.sx_given_laws.specs.Calls.{End, CallEnds, Calls}
+use Rattle.sx_given_laws.specs.Calls.{End, call_of, CallEnds, Calls}
 use Rattle.sx_given_laws.specs.Codes.{label, code_no, var, formals, one_case, car, cdr, prim, cons, map_first, map_others, map_one}
-use Rattle.sx_given_laws.specs.Given.{Maps, Faults}
-use Rattle.sx_given_laws.specs.InTurn.{no_call, one_call, stops_here, stops_behind, AfterValue, AllGive, AllEnd}
+use Rattle.sx_given_laws.specs.Given.{Maps, Mapped, Faults}
+use Rattle.sx_given_laws.specs.InTurn.{InTurn, no_call, one_call, stops_here, stops_behind, AfterValue, AllGive, AllEnd}
 use Rattle.sx_given_laws.proofs.Giving.{Evaluates, ExpressionEnds, if-true, false-ends, primitive-is, operand-ends, operand-stops, call-ends, call-one-ends, call-two-ends}
-use Rattle.sx_given_laws.proofs.Calling.{closure-ends, case-ends}
+use Rattle.sx_given_laws.proofs.Calling.{closure-ends, closure-back, case-ends}
 use Rattle.sx_given_laws.proofs.Inside.{Inside, Home, home-later, inside-later, entered-inside, own, outer}
 use Rattle.sx_given_laws.proofs.Looking.{later-stay}
 use Rattle.sx_given_laws.proofs.Later.{later-then, later-with, calls-later, list-later, in-turn-to}
+use Rattle.sx_given_laws.proofs.Inverting.{false-back, call-one-back, call-two-back, Consed, cons-back, case-back}
+use Rattle.sx_given_laws.proofs.Unique.{gives-one-value, gives-one-state}
 use Rattle.sx_given_laws.proofs.Primitives.{pair-not-nil, next_pair, null-is, car-is, cdr-is, cons-is, nil-is}
 
 -- a list with no element, and one with a first element
@@ -55,8 +57,8 @@ module _ (w : PlainSetting) (known : code_at w.codes (code_no 4) ≡ Some (proce
   abbrev g : Value
   g = value.Closure (code_no 4) p
 
-  abbrev Mapped : List Value → Value → State → Type 0
-  Mapped xs l s = Maps w g (f ∷ l ∷ []) f xs s
+  abbrev MapGives : List Value → Value → State → Type 0
+  MapGives xs l s = Maps w g (f ∷ l ∷ []) f xs s
 
   abbrev Faulted : List Value → Value → State → Type 0
   Faulted xs l s = Faults w g (f ∷ l ∷ []) f xs s
@@ -76,7 +78,7 @@ module _ (w : PlainSetting) (known : code_at w.codes (code_no 4) ≡ Some (proce
   body-called : (l : Value) (s : State) (v : Value) (t : State) → Evaluates w map_one (next_place s) (begun l s) v t → Calls w g (f ∷ l ∷ []) s v t
   body-called l s v t h = body-ends l s (Ok v) t h
 
-  nothing : (s : State) → Home s.cells p (map_home p) → Mapped [] nil s
+  nothing : (s : State) → Home s.cells p (map_home p) → MapGives [] nil s
   nothing s home = record {
     value = nil;
     state = s1;
@@ -152,7 +154,7 @@ module _ (w : PlainSetting) (known : code_at w.codes (code_no 4) ≡ Some (proce
           (own w u q (vars l) p (map_home p) inside-then (label 6) f refl)
           (cdr-is w (var 7) q u u l (own w u q (vars l) p (map_home p) inside-then (label 7) l refl) x d pair-then) h
 
-      some : Mapped xs d u → Mapped (x ∷ xs) l s
+      some : MapGives xs d u → MapGives (x ∷ xs) l s
       some rest = record {
         value = next_pair w rest.state;
         state = with_cell (cell.Pair y rest.value) rest.state;
@@ -178,15 +180,15 @@ module _ (w : PlainSetting) (known : code_at w.codes (code_no 4) ≡ Some (proce
 
     -- by the end of the call
     ends-by : (r : End) (u : State) → CallEnds w f (x ∷ []) at r u → AfterValue r (AllEnd w f xs u)
-        → ((v : State) → Later s v → AllEnd w f xs v → Mapped xs d v ⊎ Faulted xs d v) → Mapped (x ∷ xs) l s ⊎ Faulted (x ∷ xs) l s
+        → ((v : State) → Later s v → AllEnd w f xs v → MapGives xs d v ⊎ Faulted xs d v) → MapGives (x ∷ xs) l s ⊎ Faulted (x ∷ xs) l s
     ends-by (Ok y) u h a again = elim (again u (later-then s at u enter (calls-later w f (x ∷ []) at y u h)) a) [
       | inl m ↦ inl (some y u h m)
       | inr m ↦ inr (stops-behind y u h m)
     ]
     ends-by (Err e) u h a again = inr (stops-here e u h)
 
-  pub map-one : (xs : List Value) (l : Value) (s : State) → Home s.cells p (map_home p) → IsList s.cells xs l → AllGive w f xs s → Mapped xs l s
-  map-one [] l s home r give = subst (λ x. Mapped [] x s) (sym (list-none r)) (nothing s home)
+  pub map-one : (xs : List Value) (l : Value) (s : State) → Home s.cells p (map_home p) → IsList s.cells xs l → AllGive w f xs s → MapGives xs l s
+  map-one [] l s home r give = subst (λ x. MapGives [] x s) (sym (list-none r)) (nothing s home)
   map-one (x ∷ xs) l s home r give =
       let c = list-some r in
       let made = give (begun l s) (later-with s (cell.Scope (vars l) (Some p))) in
@@ -195,10 +197,76 @@ module _ (w : PlainSetting) (known : code_at w.codes (code_no 4) ≡ Some (proce
       (map-one xs c.0 made.1 (home-later s made.1 behind p (map_home p) home) (list-later s made.1 behind xs c.0 c.2) made.3)
 
   -- with faults
-  pub map-ends : (xs : List Value) (l : Value) (s : State) → Home s.cells p (map_home p) → IsList s.cells xs l → AllEnd w f xs s → Mapped xs l s ⊎ Faulted xs l s
-  map-ends [] l s home r give = inl (subst (λ x. Mapped [] x s) (sym (list-none r)) (nothing s home))
+  pub map-ends : (xs : List Value) (l : Value) (s : State) → Home s.cells p (map_home p) → IsList s.cells xs l → AllEnd w f xs s → MapGives xs l s ⊎ Faulted xs l s
+  map-ends [] l s home r give = inl (subst (λ x. MapGives [] x s) (sym (list-none r)) (nothing s home))
   map-ends (x ∷ xs) l s home r give =
       let c = list-some r in
       let made = give (begun l s) (later-with s (cell.Scope (vars l) (Some p))) in
       ends-by x l c.0 xs s home c.1 made.0 made.1 made.2 made.3
       (λ v k g. map-ends xs c.0 v (home-later s v k p (map_home p) home) (list-later s v k xs c.0 c.2) g)
+
+  -- What a call that gave a value did.
+
+  only-some : (x l d : Value) (xs : List Value) (s : State) (v : Value) (t : State) → Home s.cells p (map_home p) → pair_of s.cells l ≡ Some (x, d) → Calls w g (f ∷ l ∷ []) s v t
+      → ((u : State) → Later s u → (y : Value) (q : State) → Calls w g (f ∷ d ∷ []) u y q → Mapped w f xs u y q) → Mapped w f (x ∷ xs) s v t
+  only-some x l d xs s v t home pair called again = record {
+    answers = made.car_value ∷ rest.answers;
+    in_turn = subst (λ a. InTurn w f (x ∷ xs) s (made.car_value ∷ rest.answers) a) made.state_is
+        (one_call (enter x l d xs s home pair) first (in-turn-to w f xs rest.answers made.between made.behind after rest.in_turn (later-with made.behind (cell.Pair made.car_value made.cdr_value))));
+    list = subst (λ (a : State). IsList a.cells (made.car_value ∷ rest.answers) v) made.state_is
+        (subst (λ b. IsList after.cells (made.car_value ∷ rest.answers) b) made.value_is (list-more made.behind.cells made.car_value made.cdr_value rest.answers rest.list));
+  }
+    where
+      start : State
+      start = begun l s
+
+      place : Place
+      place = next_place s
+
+      body : Evaluates w map_one place start v t
+      body =
+          case-back w (code_no 4) p (f ∷ l ∷ []) s (procedure_code (code_no 4) (one_case (6 ∷ 7 ∷ []) None map_one) true) (formals (6 ∷ 7 ∷ []) None) map_one v t known refl
+          (closure-back w (code_no 4) p (f ∷ l ∷ []) s v t called)
+
+      made : Consed w map_first map_others place start v t
+      made =
+          cons-back w map_first map_others place start v t
+          (false-back w _ _ _ place start start t (truth false) v
+          (null-is w (var 7) place start start l (list-read x l d xs s home pair) false (pair-not-nil start.cells l x d (pair-at x l d xs s home pair))) refl body)
+
+      after : State
+      after = with_cell (cell.Pair made.car_value made.cdr_value) made.behind
+
+      first : Calls w f (x ∷ []) start made.car_value made.between
+      first =
+          call-one-back w (var 6) (car (var 7)) place start start start made.between f x made.car_value
+          (own w start place (vars l) p (map_home p) (inside x l d xs s home pair) (label 6) f refl)
+          (car-is w (var 7) place start start l (list-read x l d xs s home pair) x d (pair-at x l d xs s home pair)) made.car_given
+
+      here_inside : Inside made.between.cells place (vars l) p (map_home p)
+      here_inside = inside-then x l d xs s home pair made.car_value made.between first
+
+      others : Calls w g (f ∷ d ∷ []) made.between made.cdr_value made.behind
+      others =
+          call-two-back w (var 2) (var 6) (cdr (var 7)) place made.between made.between made.between made.between made.behind g f d made.cdr_value
+          (outer w made.between place (vars l) p (map_home p) here_inside (label 2) g refl refl)
+          (own w made.between place (vars l) p (map_home p) here_inside (label 6) f refl)
+          (cdr-is w (var 7) place made.between made.between l (own w made.between place (vars l) p (map_home p) here_inside (label 7) l refl) x d (pair-then x l d xs s home pair made.car_value made.between first))
+          made.cdr_given
+
+      rest : Mapped w f xs made.between made.cdr_value made.behind
+      rest = again made.between (later-then s start made.between (enter x l d xs s home pair) (calls-later w f (x ∷ []) start made.car_value made.between first)) made.cdr_value made.behind others
+
+  pub only-one : (xs : List Value) (l : Value) (s : State) (v : Value) (t : State) → Home s.cells p (map_home p) → IsList s.cells xs l → Calls w g (f ∷ l ∷ []) s v t → Mapped w f xs s v t
+  only-one [] l s v t home r called =
+      let m : MapGives [] l s = subst (λ x. MapGives [] x s) (sym (list-none r)) (nothing s home) in
+      let value_is = gives-one-value (call_of w g (f ∷ l ∷ []) s) m.value v m.state t m.called called in
+      let state_is = gives-one-state (call_of w g (f ∷ l ∷ []) s) m.value v m.state t m.called called in
+      record {
+        answers = m.answers;
+        in_turn = subst (λ a. InTurn w f [] s m.answers a) state_is m.in_turn;
+        list = subst (λ (a : State). IsList a.cells m.answers v) state_is (subst (λ b. IsList m.state.cells m.answers b) value_is m.list);
+      }
+  only-one (x ∷ xs) l s v t home r called =
+      let c = list-some r in
+      only-some x l c.0 xs s v t home c.1 called (λ u k y q h. only-one xs c.0 u y q (home-later s u k p (map_home p) home) (list-later s u k xs c.0 c.2) h)

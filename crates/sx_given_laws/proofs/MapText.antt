@@ -18,9 +18,9 @@ use Rattle.sx_eval.specs.State.{State, store, next_place, with_cell}
 use Rattle.sx_eval.specs.Variables.{Entries, cell_with, assigned}
 use Rattle.sx_eval_laws.specs.Kept.{Later}
 use Rattle.sx_list_laws.specs.Runs.{IsList}
-use Rattle.sx_given_laws.specs.Calls.{End, CallEnds}
+use Rattle.sx_given_laws.specs.Calls.{End, CallEnds, Calls}
 use Rattle.sx_given_laws.specs.Codes.{label, code_no, var, formals, one_case, lambda, text_code, map_one, map_many, map_body, map_text}
-use Rattle.sx_given_laws.specs.Given.{Maps, Faults}
+use Rattle.sx_given_laws.specs.Given.{Maps, Mapped, Faults}
 use Rattle.sx_given_laws.specs.InTurn.{AllGive, AllEnd}
 use Rattle.sx_given_laws.proofs.Giving.{gives-same, gives-then, Evaluates, evaluates-step, ExpressionEnds, procedure-is, true-ends, call-two-ends}
 use Rattle.sx_given_laws.proofs.Looking.{assigned-last}
@@ -28,7 +28,8 @@ use Rattle.sx_given_laws.proofs.Calling.{case-ends, text-ends}
 use Rattle.sx_given_laws.proofs.Inside.{Inside, Home, entered-inside, own, outer}
 use Rattle.sx_given_laws.proofs.Later.{later-then, later-with, list-later, in-turn-from, stops-from, all-give-later, all-end-later}
 use Rattle.sx_given_laws.proofs.Primitives.{null-is}
-use Rattle.sx_given_laws.proofs.MapOne.{map_home, map-one, map-ends}
+use Rattle.sx_given_laws.proofs.MapOne.{map_home, map-one, map-ends, only-one}
+use Rattle.sx_given_laws.proofs.Inverting.{true-back, call-two-back, case-back, text-back}
 use Rattle.sx_given_laws.proofs.Knows.{Knows}
 
 module _ (w : PlainSetting) (s : State) where
@@ -150,3 +151,25 @@ module _ (w : PlainSetting) (s : State) where
       })
       | inr m ↦ inr (record { fault = m.fault; state = m.state; called = loop-ends (Err m.fault) m.state m.called; stops = stops-from w f xs m.fault s inner m.state behind m.stops })
     ]
+
+    -- what a call that gave a value did
+    pub map-only : (xs : List Value) (v : Value) (t : State) → IsList s.cells xs l → Calls w (value.Prim (record { 0 = 133 })) (f ∷ l ∷ []) s v t → Mapped w f xs s v t
+    unfolding has_text
+    map-only xs v t r called = record { answers = m.answers; in_turn = in-turn-from w f xs m.answers s inner t behind m.in_turn; list = m.list }
+      where
+        body : Evaluates w map_body q inner v t
+        body =
+            case-back w (code_no 15) home_place (f ∷ l ∷ []) ready (procedure_code (code_no 15) (one_case (17 ∷ 18 ∷ []) (Some 19) map_body) true) (formals (17 ∷ 18 ∷ []) (Some 19)) map_body v t knows.map_body refl
+            (text-back w (record { 0 = 133 }) (f ∷ l ∷ []) s ready t (text_code 133 map_text) map_text (code_no 15) home_place v refl refl knows.map_text refl text-is called)
+
+        looped : Calls w (value.Closure (code_no 4) home_place) (f ∷ l ∷ []) inner v t
+        looped =
+            call-two-back w (var 2) (var 17) (var 18) q inner inner inner inner t (value.Closure (code_no 4) home_place) f l v
+            (outer w inner q vars home_place (map_home home_place) inside (label 2) (value.Closure (code_no 4) home_place) refl refl)
+            (own w inner q vars home_place (map_home home_place) inside (label 17) f refl)
+            (own w inner q vars home_place (map_home home_place) inside (label 18) l refl)
+            (true-back w _ _ _ q inner inner t (truth true) v
+            (null-is w (var 19) q inner inner nil (own w inner q vars home_place (map_home home_place) inside (label 19) nil refl) true refl) refl body)
+
+        m : Mapped w f xs inner v t
+        m = only-one w knows.map_one f home_place xs l inner v t home-inner (list-later s inner behind xs l r) looped

@@ -59,7 +59,7 @@ module _ (w : PlainSetting) (known : code_at w.codes (code_no 86) ≡ Some (proc
       s1 = loop.entered w 86 85 88 89 memp_loop known p home names f nil s round
 
   -- a tail of the rest of a list is one of the list
-  longer : (cells : List Cell) (x l d : Value) → pair_of cells l ≡ Some (x, d) → (rest : List Value) (v : Value) → IsTail cells d rest v → IsTail cells l rest v
+  pub longer : (cells : List Cell) (x l d : Value) → pair_of cells l ≡ Some (x, d) → (rest : List Value) (v : Value) → IsTail cells d rest v → IsTail cells l rest v
   longer cells x l d e [] v h = h
   longer cells x l d e (y ∷ rest) v h = (x ∷ h.0, next e h.1, h.2)
 

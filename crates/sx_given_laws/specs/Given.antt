@@ -25,6 +25,12 @@ pub record Maps (w : PlainSetting) (g : Value) (args : List Value) (f : Value) (
   pub in_turn : InTurn w f xs s answers state
   pub list : IsList state.cells answers value
 
+-- what a call of `map` that gave this value did
+pub record Mapped (w : PlainSetting) (f : Value) (xs : List Value) (s : State) (v : Value) (t : State) : Type 0 where
+  pub answers : List Value
+  pub in_turn : InTurn w f xs s answers t
+  pub list : IsList t.cells answers v
+
 -- likewise, where the answers are what a function says
 pub record MapsBy (w : PlainSetting) (g : Value) (args : List Value) (answer : Value → Value) (xs : List Value) (s : State) : Type 0 where
   pub value : Value
@@ -38,6 +44,12 @@ pub record Visits (w : PlainSetting) (g : Value) (args : List Value) (f : Value)
   pub called : Calls w g args s v state
   pub answers : List Value
   pub in_turn : InTurn w f xs s answers state
+
+-- what a call of `for-each` that gave this value did
+pub record Visited (w : PlainSetting) (f : Value) (xs : List Value) (s : State) (v : Value) (t : State) : Type 0 where
+  pub answers : List Value
+  pub in_turn : InTurn w f xs s answers t
+  pub is_nothing : v ≡ value.Unspecified
 
 -- f is called on each element, in their order, and the list of those is given whose answers a choice tells
 pub record Filters (w : PlainSetting) (g : Value) (args : List Value) (f : Value) (choice : List Value → List Value → List Value) (xs : List Value) (s : State) : Type 0 where
@@ -107,3 +119,20 @@ pub record Faults (w : PlainSetting) (g : Value) (args : List Value) (f : Value)
   pub state : State
   pub called : CallEnds w g args s (Err fault) state
   pub stops : Stops w f xs s fault state
+
+-- What calls that gave a value did.
+
+pub record Filtered (w : PlainSetting) (f : Value) (choice : List Value → List Value → List Value) (xs : List Value) (s : State) (v : Value) (t : State) : Type 0 where
+  pub answers : List Value
+  pub in_turn : InTurn w f xs s answers t
+  pub list : IsList t.cells (choice xs answers) v
+
+pub record Found (w : PlainSetting) (f : Value) (xs : List Value) (s : State) (v : Value) (t : State) : Type 0 where
+  pub rest : List Value
+  pub search : Search w f xs s rest t
+  pub value_is : v ≡ first_or_false rest
+
+pub record TailFound (w : PlainSetting) (f : Value) (l : Value) (xs : List Value) (s : State) (v : Value) (t : State) : Type 0 where
+  pub rest : List Value
+  pub search : Search w f xs s rest t
+  pub tail : IsTail t.cells l rest v

@@ -10,7 +10,7 @@ ghost use Rattle.sx_list_laws.specs.Runs.{IsList};
 ghost use Rattle.sx_value.specs.declared.value.Value.{Value};
 ghost use Rattle.sx_value.specs.declared.value.Value.TheVariants as value;
 ghost use Rattle.sx_given_laws.specs.Calls.{call_of, Calls};
-ghost use Rattle.sx_given_laws.specs.Given.{built_in, Maps, MapsBy, Visits, Faults, Filters, Finds, FindsTail, ForAlls, Existences, FoldsLeft, FoldsRight};
+ghost use Rattle.sx_given_laws.specs.Given.{built_in, Maps, MapsBy, Mapped, Visits, Visited, Faults, Filters, Filtered, Finds, Found, FindsTail, TailFound, ForAlls, Existences, FoldsLeft, FoldsRight};
 ghost use Rattle.sx_given_laws.specs.InTurn.{AllGive, AllEnd, AllGiveBy, SearchGives, ForAllGives, FoldLeftGives, FoldRightGives, chosen, others};
 ghost use Rattle.sx_given_laws.specs.Texts.{HasTexts, Includes, written_table};
 
@@ -33,10 +33,11 @@ pub fn texts_stay()
 {}
 
 /// `map` calls its procedure on each element of a list, from the first to the last, and gives the list of the answers
-/// (R6RS 11.9). Where each answer is what a function says, it is the list of what that says. Where a call faults, it is the last
+/// (R6RS 11.9). And whenever it gives a value it has done so. Where each answer is what a function says, it is the list of what that says. Where a call faults, it is the last
 /// that is made, and its fault is that of `map`.
 pub fn map_gives_the_answers()
     ensures answers { (w : PlainSetting) (f l : Value) (xs : List Value) (s : State) → HasTexts w → IsList s.cells xs l → AllGive w f xs s → Maps w (built_in 133) (f ∷ l ∷ []) f xs s }
+    ensures only { (w : PlainSetting) (f l : Value) (xs : List Value) (s t : State) (v : Value) → HasTexts w → IsList s.cells xs l → Calls w (built_in 133) (f ∷ l ∷ []) s v t → Mapped w f xs s v t }
     ensures said { (w : PlainSetting) (f l : Value) (g : Value → Value) (xs : List Value) (s : State) → HasTexts w → IsList s.cells xs l → AllGiveBy w f g xs s →
         MapsBy w (built_in 133) (f ∷ l ∷ []) g xs s }
     ensures faults { (w : PlainSetting) (f l : Value) (xs : List Value) (s : State) → HasTexts w → IsList s.cells xs l → AllEnd w f xs s →
@@ -44,26 +45,32 @@ pub fn map_gives_the_answers()
 {}
 
 /// `for-each` calls its procedure on each element of a list, from the first to the last, and gives nothing of it
-/// (R6RS 11.9). Where a call faults, it is the last that is made, and its fault is that of `for-each`.
+/// (R6RS 11.9). And whenever it gives a value it has done so. Where a call faults, it is the last that is made, and its fault
+/// is that of `for-each`.
 pub fn for_each_calls_in_order()
     ensures calls { (w : PlainSetting) (f l : Value) (xs : List Value) (s : State) → HasTexts w → IsList s.cells xs l → AllGive w f xs s →
         Visits w (built_in 110) (f ∷ l ∷ []) f xs s value.Unspecified }
+    ensures only { (w : PlainSetting) (f l : Value) (xs : List Value) (s t : State) (v : Value) → HasTexts w → IsList s.cells xs l → Calls w (built_in 110) (f ∷ l ∷ []) s v t → Visited w f xs s v t }
     ensures faults { (w : PlainSetting) (f l : Value) (xs : List Value) (s : State) → HasTexts w → IsList s.cells xs l → AllEnd w f xs s →
         Visits w (built_in 110) (f ∷ l ∷ []) f xs s value.Unspecified ⊎ Faults w (built_in 110) (f ∷ l ∷ []) f xs s }
 {}
 
 /// `filter` gives the list of the elements whose answer is not `#f`, and `remp` of those whose answer is `#f`, in their
-/// order; each is asked once, from the first to the last (R6RS libraries 3).
+/// order; each is asked once, from the first to the last (R6RS libraries 3). And whenever `filter` gives a value it has done so.
 pub fn filter_keeps_and_remp_leaves_out()
     ensures filter { (w : PlainSetting) (f l : Value) (xs : List Value) (s : State) → HasTexts w → IsList s.cells xs l → AllGive w f xs s → Filters w (built_in 194) (f ∷ l ∷ []) f chosen xs s }
+    ensures only { (w : PlainSetting) (f l : Value) (xs : List Value) (s t : State) (v : Value) → HasTexts w → IsList s.cells xs l → Calls w (built_in 194) (f ∷ l ∷ []) s v t → Filtered w f chosen xs s v t }
     ensures remp { (w : PlainSetting) (f l : Value) (xs : List Value) (s : State) → HasTexts w → IsList s.cells xs l → AllGive w f xs s → Filters w (built_in 198) (f ∷ l ∷ []) f others xs s }
 {}
 
 /// `find` gives the first element whose answer is not `#f`, and `memp` what is left of the list itself from there on; both
-/// give `#f` where there is none, and ask no element behind the first (R6RS libraries 3).
+/// give `#f` where there is none, and ask no element behind the first (R6RS libraries 3). And whenever one gives a value it
+/// has done so.
 pub fn find_and_memp_stop_at_the_first()
     ensures find { (w : PlainSetting) (f l : Value) (xs : List Value) (s : State) → HasTexts w → IsList s.cells xs l → SearchGives w f xs s → Finds w (built_in 191) (f ∷ l ∷ []) f xs s }
     ensures memp { (w : PlainSetting) (f l : Value) (xs : List Value) (s : State) → HasTexts w → IsList s.cells xs l → SearchGives w f xs s → FindsTail w (built_in 202) (f ∷ l ∷ []) f l xs s }
+    ensures find_only { (w : PlainSetting) (f l : Value) (xs : List Value) (s t : State) (v : Value) → HasTexts w → IsList s.cells xs l → Calls w (built_in 191) (f ∷ l ∷ []) s v t → Found w f xs s v t }
+    ensures memp_only { (w : PlainSetting) (f l : Value) (xs : List Value) (s t : State) (v : Value) → HasTexts w → IsList s.cells xs l → Calls w (built_in 202) (f ∷ l ∷ []) s v t → TailFound w f l xs s v t }
 {}
 
 /// `for-all` gives `#f` at the first answer that is `#f`, else the last answer, and `#t` of the empty list; `exists` gives

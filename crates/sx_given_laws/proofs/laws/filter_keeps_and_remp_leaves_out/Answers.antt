@@ -1,3 +1,4 @@
+use Rattle.sx_given_laws.proofs.FilterBack.{filter-only}
 use Rattle.sx_given_laws.proofs.Knows.{knows}
 use Rattle.sx_given_laws.proofs.Remp.{remp-given}
 use Rattle.sx_given_laws.proofs.ListTexts.{filter-given}
@@ -6,5 +7,6 @@ use Rattle.sx_given_laws.proofs.laws.filter_keeps_and_remp_leaves_out.Goals as g
 pub returns : goal.returns
 returns c = record {
   filter = λ w f l xs s has r give. filter-given w (knows w has) f l xs s r give;
+  only = λ w f l xs s t v has r called. filter-only w (knows w has) f l xs s v t r called;
   remp = λ w f l xs s has r give. remp-given w (knows w has) f l s xs r give;
 }
