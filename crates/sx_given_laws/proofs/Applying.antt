@@ -65,7 +65,7 @@ module _ (s : State) where
 
 module _ (w : PlainSetting) (f : Value) (front xs : List Value) (l : Value) (s : State) where
   -- with so much fuel beside the cost of the elements
-  applies : (n m : ℕ) → n ≡ m + length xs → list_elements s.cells l ≡ Some xs → call_of w (value.Prim (record { 0 = APPLY })) (f ∷ (front ++ l ∷ [])) s n ≡ call_of w f (front ++ xs) s m
+  pub applies : (n m : ℕ) → n ≡ m + length xs → list_elements s.cells l ≡ Some xs → call_of w (value.Prim (record { 0 = APPLY })) (f ∷ (front ++ l ∷ [])) s n ≡ call_of w f (front ++ xs) s m
   unfolding applied spread spread_once
   applies n m e has =
       let again : Call = spread_to (n + suc (suc (length (front ++ l ∷ [])))) s (first_called w (eval_of w) s) in

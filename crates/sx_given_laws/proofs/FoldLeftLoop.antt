@@ -1,5 +1,5 @@
 -- `fold-left` on one list, by its text.
-use Rattle.std.proofs.Common.{◌≡◌, List, [], ◌∷◌, Some, None, Bool, true, false, refl, ap}
+use Rattle.std.proofs.Common.{◌≡◌, List, [], ◌∷◌, ◌++◌, Some, None, Bool, true, false, refl, ap, subst}
 use Rattle.sx_region.specs.declared.region.Place.{Place}
 use Rattle.sx_region.proofs.Laws.{slice_get-added}
 use Rattle.sx_value.specs.Cells.{pair_in}
@@ -17,13 +17,18 @@ use Rattle.sx_eval.specs.Variables.{Entries}
 use Rattle.sx_eval_laws.specs.Kept.{Later}
 use Rattle.sx_list_laws.specs.Runs.{IsList}
 use Rattle.sx_list_laws.proofs.RunLemmas.{pair_still}
-use Rattle.sx_given_laws.specs.Calls.{Calls}
-use Rattle.sx_given_laws.specs.Codes.{label, code_no, var, prim, formals, one_case, lambda, app, car, cars, cdrs, first_is_null, fold_left_loop, enter_fold}
+use Rattle.sx_given_laws.specs.Calls.{call_of, Calls}
+use Rattle.sx_given_laws.specs.Codes.{label, code_no, var, prim, formals, one_case, lambda, app, car, cars, cdrs, cons, first_is_null, fold_left_loop, enter_fold}
 use Rattle.sx_given_laws.specs.Given.{FoldsLeft}
-use Rattle.sx_given_laws.specs.InTurn.{left_end, left_step, FoldLeftGives}
+use Rattle.sx_given_laws.specs.InTurn.{FoldLeft, left_end, left_step, FoldLeftGives}
 use Rattle.sx_given_laws.proofs.Giving.{Evaluates, procedure-is, primitive-is, call-three, if-true, if-false}
 use Rattle.sx_given_laws.proofs.Applying.{apply-called}
-use Rattle.sx_given_laws.proofs.Calling.{closure-called, case-called}
+use Rattle.sx_given_laws.proofs.Calling.{closure-called, closure-back, case-called}
+use Rattle.sx_given_laws.proofs.Inverting.{Parted, call-three-back, second-back, last-back, apply-back, false-back, case-back}
+use Rattle.sx_given_laws.proofs.LoopBack.{text-way-back}
+use Rattle.sx_given_laws.proofs.Unique.{gives-one-value, gives-one-state}
+use Rattle.sx_core.specs.Core.{PlainCore, none, more}
+use Rattle.sx_eval.specs.Meaning.{eval_of, operands}
 use Rattle.sx_given_laws.proofs.Cars.{One, one-elements, cars-given, cdrs-given, cars-is, cdrs-is}
 use Rattle.sx_given_laws.proofs.Inside.{Inside, Home, one_home, home-later, inside-later, entered-inside, own, outer}
 use Rattle.sx_given_laws.proofs.Knows.{Knows}
@@ -143,6 +148,72 @@ module _ (w : PlainSetting) (knows : Knows w.codes) (f : Value) (p : Place) wher
       (fold-left-loop xs made.0 next.value c.0 next.state (home-later s next.state beyond p home round) next.is (list-later s next.state beyond xs c.0 c.2)
       (fold-gives-later w f made.0 xs made.1 next.state step made.3))
 
+  -- What a call that gave a value did.
+
+  module _ (z ls l : Value) (s : State) (round : Home s.cells p home) (one : pair_of s.cells ls ≡ Some (l, nil)) (v : Value) (t : State) (called : Calls w g (f ∷ z ∷ ls ∷ []) s v t) where
+    abbrev start : State
+    start = at z ls l s round one
+
+    abbrev place : Place
+    place = next_place s
+
+    body-gave : Evaluates w fold_left_loop place start v t
+    body-gave =
+        case-back w (code_no 94) p (f ∷ z ∷ ls ∷ []) s (procedure_code (code_no 94) (one_case (96 ∷ 97 ∷ 98 ∷ []) None fold_left_loop) true) (formals (96 ∷ 97 ∷ 98 ∷ []) None) fold_left_loop v t knows.fold_left_loop refl
+        (closure-back w (code_no 94) p (f ∷ z ∷ ls ∷ []) s v t called)
+
+    module _ (x d : Value) (pair : pair_of s.cells l ≡ Some (x, d)) (xs : List Value)
+        (again : (u : State) → Later s u → (y ls' : Value) (r : State) → Later u r → pair_of r.cells ls' ≡ Some (d, nil) → Calls w g (f ∷ y ∷ ls' ∷ []) r v t → FoldLeft w f y xs r v t) where
+      abbrev on_first : PlainCore
+      on_first = app (prim 42) (var 96 ∷ var 97 ∷ cars (var 98) ∷ [])
+
+      abbrev taken : One w (value.Prim (record { 0 = 51 }) ∷ ls ∷ []) start x
+      taken = first z ls l s round one x d pair
+
+      parts : Parted (eval_of w on_first place start) (λ r. operands w (eval_of w) (more (cdrs (var 98)) none) place ((g ∷ f ∷ []) ++ r ∷ [])) v t
+      parts =
+          second-back w (var 93) (var 96) on_first (cdrs (var 98)) place start start start g f v t
+          (outer w start place (vars z ls l s round one) p home (inside z ls l s round one) (label 93) g refl refl) (own w start place (vars z ls l s round one) p home (inside z ls l s round one) (label 96) f refl)
+          (false-back w _ _ _ place start start t (truth false) v (first-null z ls l s round one false (pair-not-nil s.cells l x d pair)) refl body-gave)
+
+      stepped : Calls w f (z ∷ x ∷ []) taken.state parts.value parts.state
+      stepped =
+          apply-back w f (z ∷ []) (x ∷ []) taken.value taken.state parts.value parts.state (one-elements taken.state.cells x taken.value taken.is)
+          (call-three-back w (prim 42) (var 96) (var 97) (cars (var 98)) place start start start start taken.state parts.state (value.Prim (record { 0 = 42 })) f z taken.value parts.value
+          (primitive-is w (record { 0 = 42 }) place start) (own w start place (vars z ls l s round one) p home (inside z ls l s round one) (label 96) f refl) (own w start place (vars z ls l s round one) p home (inside z ls l s round one) (label 97) z refl)
+          (cars-is w knows start ls l (one-at z ls l s round one) x d (pair-at z ls l s round one x d pair) (var 98) place (own w start place (vars z ls l s round one) p home (inside z ls l s round one) (label 98) ls refl)) parts.first)
+
+      abbrev left : One w (value.Prim (record { 0 = 52 }) ∷ ls ∷ []) parts.state d
+      left = rest z ls l s round one x d pair parts.value parts.state stepped
+
+      looped : Calls w g (f ∷ parts.value ∷ left.value ∷ []) left.state v t
+      looped =
+          last-back w (cdrs (var 98)) place parts.state left.state t g f parts.value left.value v
+          (cdrs-is w knows parts.state ls l (one-then z ls l s round one x d pair parts.value parts.state stepped) x d (pair-then z ls l s round one x d pair parts.value parts.state stepped) (var 98) place
+          (own w parts.state place (vars z ls l s round one) p home (inside-then z ls l s round one x d pair parts.value parts.state stepped) (label 98) ls refl)) parts.onward
+
+      far : Later s parts.state
+      far = later-then s taken.state parts.state (till-first z ls l s round one x d pair) (calls-later w f (z ∷ x ∷ []) taken.state parts.value parts.state stepped)
+
+      till : Later parts.state left.state
+      till = till-rest z ls l s round one x d pair parts.value parts.state stepped
+
+      folded : FoldLeft w f z (x ∷ xs) s v t
+      folded =
+          left_step (till-first z ls l s round one x d pair) stepped
+          (fold-from w f parts.value xs v parts.state left.state t till (again parts.state far parts.value left.value left.state till left.is looped))
+
+  loop-did : (xs : List Value) (z ls l : Value) (s : State) (v : Value) (t : State) → Home s.cells p home → pair_of s.cells ls ≡ Some (l, nil) → IsList s.cells xs l → Calls w g (f ∷ z ∷ ls ∷ []) s v t → FoldLeft w f z xs s v t
+  loop-did [] z ls l s v t round one r called =
+      let m : Folds z [] ls s = nothing z ls l s round one (list-none r) in
+      let value_is = gives-one-value (call_of w g (f ∷ z ∷ ls ∷ []) s) m.value v m.state t m.called called in
+      let state_is = gives-one-state (call_of w g (f ∷ z ∷ ls ∷ []) s) m.value v m.state t m.called called in
+      subst (λ a. FoldLeft w f z [] s v a) state_is (subst (λ b. FoldLeft w f z [] s b m.state) value_is m.fold)
+  loop-did (x ∷ xs) z ls l s v t round one r called =
+      let c = list-some r in
+      folded z ls l s round one v t called x c.0 c.1 xs
+      (λ u k y ls' o j e h. loop-did xs y ls' c.0 o v t (home-later s o (later-then s u o k j) p home round) e (list-later s o (later-then s u o k j) xs c.0 c.2) h)
+
 module _ (w : PlainSetting) (knows : Knows w.codes) (f z l : Value) (xs : List Value) (s : State) (r : IsList s.cells xs l) where
   abbrev home_at : Place
   home_at = home_place w s 93 94
@@ -195,3 +266,39 @@ module _ (w : PlainSetting) (knows : Knows w.codes) (f z l : Value) (xs : List V
 
       m : FoldsLeft w (value.Closure (code_no 94) home_at) (f ∷ z ∷ lists ∷ []) f z xs begun
       m = fold-left-loop w knows f home_at xs z lists l begun round (ap pair_in (slice_get-added inner.cells (cell.Pair l nil))) (list-later s begun far xs l r) (fold-gives-later w f z xs s begun far give)
+
+  -- what a call that gave a value did
+  pub fold-left-only : (v : Value) (t : State) → Calls w (value.Prim (record { 0 = 196 })) (f ∷ z ∷ l ∷ []) s v t → FoldLeft w f z xs s v t
+  unfolding has_text
+  fold-left-only v t called = fold-from w f z xs v s begun t far (loop-did w knows f home_at xs z lists l begun v t round (ap pair_in (slice_get-added inner.cells (cell.Pair l nil))) (list-later s begun far xs l r) looped)
+    where
+      home : Entries
+      home = one_home (label 93) (code_no 94) home_at
+
+      at : Place
+      at = next_place at_ready
+
+      lists : Value
+      lists = next_pair w inner
+
+      inside : Inside inner.cells at four home_at home
+      inside = entered-inside at_ready four home_at home (ready-home w s 93 94)
+
+      far : Later s begun
+      far = later-then s at_ready begun (ready-later w s 93 94) (later-then at_ready inner begun (later-with at_ready (cell.Scope four (Some home_at))) (later-with inner (cell.Pair l nil)))
+
+      round : Home begun.cells home_at home
+      round = record { around = inside.around; is = later-stay inner begun (later-with inner (cell.Pair l nil)) home_at.0 (cell.Scope home inside.around) inside.home }
+
+      body : Evaluates w (enter_fold 93 103 104 105 106) at inner v t
+      body =
+          case-back w (code_no 101) home_at (f ∷ z ∷ l ∷ []) at_ready (procedure_code (code_no 101) (one_case (103 ∷ 104 ∷ 105 ∷ []) (Some 106) (enter_fold 93 103 104 105 106)) true) (formals (103 ∷ 104 ∷ 105 ∷ []) (Some 106)) (enter_fold 93 103 104 105 106) v t knows.fold_left_body refl
+          (text-way-back w s 93 94 196 (96 ∷ 97 ∷ 98 ∷ []) fold_left_loop refl refl refl (lambda 101 (103 ∷ 104 ∷ 105 ∷ []) (Some 106) (enter_fold 93 103 104 105 106)) 101 (f ∷ z ∷ l ∷ []) v t knows.fold_left_text
+          (procedure-is w (code_no 101) (one_case (103 ∷ 104 ∷ 105 ∷ []) (Some 106) (enter_fold 93 103 104 105 106)) true home_at at_ready) called)
+
+      looped : Calls w (value.Closure (code_no 94) home_at) (f ∷ z ∷ lists ∷ []) begun v t
+      looped =
+          call-three-back w (var 93) (var 103) (var 104) (cons (var 105) (var 106)) at inner inner inner inner begun t (value.Closure (code_no 94) home_at) f z lists v
+          (outer w inner at four home_at home inside (label 93) (value.Closure (code_no 94) home_at) refl refl)
+          (own w inner at four home_at home inside (label 103) f refl) (own w inner at four home_at home inside (label 104) z refl)
+          (cons-is w (var 105) at inner inner l (own w inner at four home_at home inside (label 105) l refl) (var 106) nil inner (own w inner at four home_at home inside (label 106) nil refl)) body

@@ -11,7 +11,7 @@ ghost use Rattle.sx_value.specs.declared.value.Value.{Value};
 ghost use Rattle.sx_value.specs.declared.value.Value.TheVariants as value;
 ghost use Rattle.sx_given_laws.specs.Calls.{call_of, Calls};
 ghost use Rattle.sx_given_laws.specs.Given.{built_in, Maps, MapsBy, Mapped, Visits, Visited, Faults, Filters, Filtered, Finds, Found, FindsTail, TailFound, ForAlls, Existences, FoldsLeft, FoldsRight};
-ghost use Rattle.sx_given_laws.specs.InTurn.{AllGive, AllEnd, AllGiveBy, SearchGives, ForAllGives, FoldLeftGives, FoldRightGives, chosen, others};
+ghost use Rattle.sx_given_laws.specs.InTurn.{FoldLeft, AllGive, AllEnd, AllGiveBy, SearchGives, ForAllGives, FoldLeftGives, FoldRightGives, chosen, others};
 ghost use Rattle.sx_given_laws.specs.Texts.{HasTexts, Includes, written_table};
 
 /// The numbers of the procedures of which the laws speak, by their report names.
@@ -56,11 +56,13 @@ pub fn for_each_calls_in_order()
 {}
 
 /// `filter` gives the list of the elements whose answer is not `#f`, and `remp` of those whose answer is `#f`, in their
-/// order; each is asked once, from the first to the last (R6RS libraries 3). And whenever `filter` gives a value it has done so.
+/// order; each is asked once, from the first to the last (R6RS libraries 3). And whenever one gives a value it
+/// has done so.
 pub fn filter_keeps_and_remp_leaves_out()
     ensures filter { (w : PlainSetting) (f l : Value) (xs : List Value) (s : State) → HasTexts w → IsList s.cells xs l → AllGive w f xs s → Filters w (built_in 194) (f ∷ l ∷ []) f chosen xs s }
-    ensures only { (w : PlainSetting) (f l : Value) (xs : List Value) (s t : State) (v : Value) → HasTexts w → IsList s.cells xs l → Calls w (built_in 194) (f ∷ l ∷ []) s v t → Filtered w f chosen xs s v t }
+    ensures filter_only { (w : PlainSetting) (f l : Value) (xs : List Value) (s t : State) (v : Value) → HasTexts w → IsList s.cells xs l → Calls w (built_in 194) (f ∷ l ∷ []) s v t → Filtered w f chosen xs s v t }
     ensures remp { (w : PlainSetting) (f l : Value) (xs : List Value) (s : State) → HasTexts w → IsList s.cells xs l → AllGive w f xs s → Filters w (built_in 198) (f ∷ l ∷ []) f others xs s }
+    ensures remp_only { (w : PlainSetting) (f l : Value) (xs : List Value) (s t : State) (v : Value) → HasTexts w → IsList s.cells xs l → Calls w (built_in 198) (f ∷ l ∷ []) s v t → Filtered w f others xs s v t }
 {}
 
 /// `find` gives the first element whose answer is not `#f`, and `memp` what is left of the list itself from there on; both
@@ -81,9 +83,10 @@ pub fn for_all_and_exists_ask_in_order()
 {}
 
 /// `fold-left` calls its procedure on a value and the first element, then on what that gave and the second, and so on, and
-/// gives what the last call gave (R6RS libraries 3).
+/// gives what the last call gave (R6RS libraries 3). And whenever it gives a value it has done so.
 pub fn fold_left_goes_from_the_left()
-    ensures { (w : PlainSetting) (f z l : Value) (xs : List Value) (s : State) → HasTexts w → IsList s.cells xs l → FoldLeftGives w f z xs s → FoldsLeft w (built_in 196) (f ∷ z ∷ l ∷ []) f z xs s }
+    ensures folds { (w : PlainSetting) (f z l : Value) (xs : List Value) (s : State) → HasTexts w → IsList s.cells xs l → FoldLeftGives w f z xs s → FoldsLeft w (built_in 196) (f ∷ z ∷ l ∷ []) f z xs s }
+    ensures only { (w : PlainSetting) (f z l : Value) (xs : List Value) (s t : State) (v : Value) → HasTexts w → IsList s.cells xs l → Calls w (built_in 196) (f ∷ z ∷ l ∷ []) s v t → FoldLeft w f z xs s v t }
 {}
 
 /// `fold-right` calls its procedure on the last element and a value, then on the element before and what that gave, and so
