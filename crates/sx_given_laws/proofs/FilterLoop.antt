@@ -1,0 +1,111 @@
+-- The loop of `filter`.
+use Rattle.std.proofs.Common.{◌≡◌, List, [], ◌∷◌, ◌++◌, Some, None, Bool, true, false, refl, sym, subst}
+use Rattle.sx_region.specs.declared.region.Place.{Place}
+use Rattle.sx_value.specs.declared.value.Value.{Value}
+use Rattle.sx_value.specs.declared.value.Value.TheVariants as value
+use Rattle.sx_value.specs.declared.cell.Cell.TheVariants as cell
+use Rattle.sx_prims.specs.Answers.{truth}
+use Rattle.sx_prims.specs.Chains.{pair_of}
+use Rattle.sx_prims.specs.Lists.{nil}
+use Rattle.sx_eval.specs.Codes.{code_at, procedure_code}
+use Rattle.sx_eval.specs.Procedures.{truth_of}
+use Rattle.sx_eval.specs.Setting.{PlainSetting}
+use Rattle.sx_eval.specs.State.{State, next_place, with_cell}
+use Rattle.sx_eval.specs.Variables.{Entries}
+use Rattle.sx_eval_laws.specs.Kept.{Later}
+use Rattle.sx_list_laws.specs.Runs.{here, IsList}
+use Rattle.sx_given_laws.specs.Calls.{Calls}
+use Rattle.sx_given_laws.specs.Codes.{label, code_no, var, one_case, app, car, cdr, filter_some, filter_loop}
+use Rattle.sx_given_laws.specs.Given.{Filters}
+use Rattle.sx_given_laws.specs.InTurn.{no_call, one_call, AllGive, when_true, chosen}
+use Rattle.sx_given_laws.proofs.Giving.{Evaluates, if-true, if-false}
+use Rattle.sx_given_laws.proofs.Inside.{Home, home-later, one_home}
+use Rattle.sx_given_laws.proofs.Later.{later-refl, later-then, later-with, calls-later, list-later, in-turn-to}
+use Rattle.sx_given_laws.proofs.Primitives.{next_pair, cons-is, nil-is}
+use Rattle.sx_given_laws.proofs.MapOne.{list-none, list-some, list-more}
+use Rattle.sx_given_laws.proofs.Loop as loop
+use Rattle.sx_given_laws.proofs.Loop.{Names}
+
+module _ (w : PlainSetting) (known : code_at w.codes (code_no 61) ≡ Some (procedure_code (code_no 61) (one_case (63 ∷ 64 ∷ []) None filter_loop) true)) (f : Value) (p : Place) where
+  abbrev home : Entries
+  home = one_home (label 60) (code_no 61) p
+
+  abbrev g : Value
+  g = value.Closure (code_no 61) p
+
+  abbrev Filtered : List Value → Value → State → Type 0
+  Filtered xs l s = Filters w g (f ∷ l ∷ []) f chosen xs s
+
+  names : Names 60 63 64 home g
+  names = record { procedure = λ f l. refl; list = λ f l. refl; no_loop = λ f l. refl; loop = refl }
+
+  nothing : (s : State) → Home s.cells p home → Filtered [] nil s
+  nothing s round = record {
+    value = nil;
+    state = s1;
+    called = loop.loop-called w 61 60 63 64 filter_loop known p home names f nil s round nil s1
+        (if-true w _ _ _ (next_place s) s1 s1 s1 (truth true) nil (loop.is-null w 61 60 63 64 filter_loop known p home names f nil s round s1 (later-refl s1) refl) refl (nil-is w _ (next_place s) s1));
+    answers = [];
+    in_turn = no_call (loop.entered-later w 61 60 63 64 filter_loop known p home names f nil s round);
+    list = here;
+  }
+    where
+      s1 : State
+      s1 = loop.entered w 61 60 63 64 filter_loop known p home names f nil s round
+
+  module _ (x l d : Value) (xs : List Value) (s : State) (round : Home s.cells p home) (pair : pair_of s.cells l ≡ Some (x, d)) where
+    abbrev s1 : State
+    s1 = loop.entered w 61 60 63 64 filter_loop known p home names f l s round
+
+    some : (y : Value) (u : State) → Calls w f (x ∷ []) s1 y u → Filtered xs d u → Filtered (x ∷ xs) l s
+    some y u called rest = by (truth_of y) refl
+      where
+        q : Place
+        q = next_place s
+
+        behind : Later s1 u
+        behind = calls-later w f (x ∷ []) s1 y u called
+
+        enter : Later s s1
+        enter = loop.entered-later w 61 60 63 64 filter_loop known p home names f l s round
+
+        test : Evaluates w (app (var 63) (car (var 64) ∷ [])) q s1 y u
+        test = loop.first-called w 61 60 63 64 filter_loop known p home names f l s round s1 (later-refl s1) x d pair y u called
+
+        others : Evaluates w (app (var 60) (var 63 ∷ cdr (var 64) ∷ [])) q u rest.value rest.state
+        others = loop.loop-again w 61 60 63 64 filter_loop known p home names f l s round u behind x d pair rest.value rest.state rest.called
+
+        with-null : (v : Value) (t : State) → Evaluates w filter_some q s1 v t → Calls w g (f ∷ l ∷ []) s v t
+        with-null v t h =
+            loop.loop-called w 61 60 63 64 filter_loop known p home names f l s round v t
+            (if-false w _ _ _ q s1 s1 t (truth false) v (loop.not-null w 61 60 63 64 filter_loop known p home names f l s round s1 (later-refl s1) x d pair) refl h)
+
+        by : (b : Bool) → truth_of y ≡ b → Filtered (x ∷ xs) l s
+        by true e = record {
+          value = next_pair w rest.state;
+          state = with_cell (cell.Pair x rest.value) rest.state;
+          called = with-null (next_pair w rest.state) (with_cell (cell.Pair x rest.value) rest.state)
+              (if-true w _ _ _ q s1 u (with_cell (cell.Pair x rest.value) rest.state) y (next_pair w rest.state) test e
+              (cons-is w (car (var 64)) q u u x (loop.first-read w 61 60 63 64 filter_loop known p home names f l s round u behind x d pair) _ rest.value rest.state others));
+          answers = y ∷ rest.answers;
+          in_turn = one_call enter called (in-turn-to w f xs rest.answers u rest.state (with_cell (cell.Pair x rest.value) rest.state) rest.in_turn (later-with rest.state (cell.Pair x rest.value)));
+          list = subst (λ b. IsList (rest.state.cells ++ cell.Pair x rest.value ∷ []) (when_true b x (chosen xs rest.answers)) (next_pair w rest.state)) (sym e)
+              (list-more rest.state.cells x rest.value (chosen xs rest.answers) rest.list);
+        }
+        by false e = record {
+          value = rest.value;
+          state = rest.state;
+          called = with-null rest.value rest.state (if-false w _ _ _ q s1 u rest.state y rest.value test e others);
+          answers = y ∷ rest.answers;
+          in_turn = one_call enter called rest.in_turn;
+          list = subst (λ b. IsList rest.state.cells (when_true b x (chosen xs rest.answers)) rest.value) (sym e) rest.list;
+        }
+
+  pub filter-loop : (xs : List Value) (l : Value) (s : State) → Home s.cells p home → IsList s.cells xs l → AllGive w f xs s → Filtered xs l s
+  filter-loop [] l s round r give = subst (λ x. Filtered [] x s) (sym (list-none r)) (nothing s round)
+  filter-loop (x ∷ xs) l s round r give =
+      let c = list-some r in
+      let enter = loop.entered-later w 61 60 63 64 filter_loop known p home names f l s round in
+      let made = give (loop.entered w 61 60 63 64 filter_loop known p home names f l s round) enter in
+      let behind = later-then s (loop.entered w 61 60 63 64 filter_loop known p home names f l s round) made.1 enter (calls-later w f (x ∷ []) _ made.0 made.1 made.2) in
+      some x l c.0 xs s round c.1 made.0 made.1 made.2 (filter-loop xs c.0 made.1 (home-later s made.1 behind p home round) (list-later s made.1 behind xs c.0 c.2) made.3)

@@ -1,0 +1,98 @@
+-- The loop of `find`.
+use Rattle.std.proofs.Common.{◌≡◌, List, [], ◌∷◌, Some, None, Bool, true, false, refl, sym, subst}
+use Rattle.sx_region.specs.declared.region.Place.{Place}
+use Rattle.sx_value.specs.declared.value.Value.{Value}
+use Rattle.sx_value.specs.declared.value.Value.TheVariants as value
+use Rattle.sx_prims.specs.Answers.{truth}
+use Rattle.sx_prims.specs.Chains.{pair_of}
+use Rattle.sx_prims.specs.Lists.{nil}
+use Rattle.sx_eval.specs.Codes.{code_at, procedure_code}
+use Rattle.sx_eval.specs.Procedures.{truth_of}
+use Rattle.sx_eval.specs.Setting.{PlainSetting}
+use Rattle.sx_eval.specs.State.{State, next_place}
+use Rattle.sx_eval.specs.Variables.{Entries}
+use Rattle.sx_eval_laws.specs.Kept.{Later}
+use Rattle.sx_list_laws.specs.Runs.{IsList}
+use Rattle.sx_given_laws.specs.Calls.{Calls}
+use Rattle.sx_given_laws.specs.Codes.{label, code_no, var, one_case, app, car, find_some, find_loop}
+use Rattle.sx_given_laws.specs.Given.{Finds, first_or_false}
+use Rattle.sx_given_laws.specs.InTurn.{not_there, passed, there, SearchGives}
+use Rattle.sx_given_laws.proofs.Giving.{Evaluates, if-true, if-false}
+use Rattle.sx_given_laws.proofs.Inside.{Home, home-later, one_home}
+use Rattle.sx_given_laws.proofs.Later.{later-refl, later-then, calls-later, list-later}
+use Rattle.sx_given_laws.proofs.Primitives.{bool-is}
+use Rattle.sx_given_laws.proofs.MapOne.{list-none, list-some}
+use Rattle.sx_given_laws.proofs.Loop as loop
+use Rattle.sx_given_laws.proofs.Loop.{Names}
+
+-- either way
+pub by-truth : (b : Bool) (P : Type 0) → (b ≡ true → P) → (b ≡ false → P) → P
+by-truth true P h k = h refl
+by-truth false P h k = k refl
+
+module _ (w : PlainSetting) (known : code_at w.codes (code_no 78) ≡ Some (procedure_code (code_no 78) (one_case (80 ∷ 81 ∷ []) None find_loop) true)) (f : Value) (p : Place) where
+  abbrev home : Entries
+  home = one_home (label 77) (code_no 78) p
+
+  abbrev g : Value
+  g = value.Closure (code_no 78) p
+
+  abbrev Found : List Value → Value → State → Type 0
+  Found xs l s = Finds w g (f ∷ l ∷ []) f xs s
+
+  names : Names 77 80 81 home g
+  names = record { procedure = λ f l. refl; list = λ f l. refl; no_loop = λ f l. refl; loop = refl }
+
+  nothing : (s : State) → Home s.cells p home → Found [] nil s
+  nothing s round = record {
+    state = s1;
+    rest = [];
+    search = not_there (loop.entered-later w 78 77 80 81 find_loop known p home names f nil s round);
+    called = loop.loop-called w 78 77 80 81 find_loop known p home names f nil s round (truth false) s1
+        (if-true w _ _ _ (next_place s) s1 s1 s1 (truth true) (truth false) (loop.is-null w 78 77 80 81 find_loop known p home names f nil s round s1 (later-refl s1) refl) refl (bool-is w _ false (next_place s) s1));
+  }
+    where
+      s1 : State
+      s1 = loop.entered w 78 77 80 81 find_loop known p home names f nil s round
+
+  module _ (x l d : Value) (xs : List Value) (s : State) (round : Home s.cells p home) (pair : pair_of s.cells l ≡ Some (x, d)) where
+    abbrev s1 : State
+    s1 = loop.entered w 78 77 80 81 find_loop known p home names f l s round
+
+    enter : Later s s1
+    enter = loop.entered-later w 78 77 80 81 find_loop known p home names f l s round
+
+    with-test : (y : Value) (u : State) (v : Value) (t : State) → Calls w f (x ∷ []) s1 y u
+        → (Evaluates w (app (var 80) (car (var 81) ∷ [])) (next_place s) s1 y u → Evaluates w find_some (next_place s) s1 v t) → Calls w g (f ∷ l ∷ []) s v t
+    with-test y u v t called h =
+        loop.loop-called w 78 77 80 81 find_loop known p home names f l s round v t
+        (if-false w _ _ _ (next_place s) s1 s1 t (truth false) v (loop.not-null w 78 77 80 81 find_loop known p home names f l s round s1 (later-refl s1) x d pair) refl
+        (h (loop.first-called w 78 77 80 81 find_loop known p home names f l s round s1 (later-refl s1) x d pair y u called)))
+
+    found : (y : Value) (u : State) → Calls w f (x ∷ []) s1 y u → truth_of y ≡ true → Found (x ∷ xs) l s
+    found y u called e = record {
+      state = u;
+      rest = x ∷ xs;
+      search = there enter called e (later-refl u);
+      called = with-test y u x u called
+          (λ test. if-true w _ _ _ (next_place s) s1 u u y x test e (loop.first-read w 78 77 80 81 find_loop known p home names f l s round u (calls-later w f (x ∷ []) s1 y u called) x d pair));
+    }
+
+    missed : (y : Value) (u : State) → Calls w f (x ∷ []) s1 y u → truth_of y ≡ false → Found xs d u → Found (x ∷ xs) l s
+    missed y u called e rest = record {
+      state = rest.state;
+      rest = rest.rest;
+      search = passed enter called e rest.search;
+      called = with-test y u (first_or_false rest.rest) rest.state called
+          (λ test. if-false w _ _ _ (next_place s) s1 u rest.state y (first_or_false rest.rest) test e
+          (loop.loop-again w 78 77 80 81 find_loop known p home names f l s round u (calls-later w f (x ∷ []) s1 y u called) x d pair (first_or_false rest.rest) rest.state rest.called));
+    }
+
+  pub find-loop : (xs : List Value) (l : Value) (s : State) → Home s.cells p home → IsList s.cells xs l → SearchGives w f xs s → Found xs l s
+  find-loop [] l s round r give = subst (λ x. Found [] x s) (sym (list-none r)) (nothing s round)
+  find-loop (x ∷ xs) l s round r give =
+      let c = list-some r in
+      let made = give (s1 x l c.0 xs s round c.1) (enter x l c.0 xs s round c.1) in
+      let behind = later-then s (s1 x l c.0 xs s round c.1) made.1 (enter x l c.0 xs s round c.1) (calls-later w f (x ∷ []) _ made.0 made.1 made.2) in
+      by-truth (truth_of made.0) (Found (x ∷ xs) l s) (λ e. found x l c.0 xs s round c.1 made.0 made.1 made.2 e)
+      (λ e. missed x l c.0 xs s round c.1 made.0 made.1 made.2 e (find-loop xs c.0 made.1 (home-later s made.1 behind p home round) (list-later s made.1 behind xs c.0 c.2) (made.3 e)))

@@ -1,0 +1,103 @@
+-- What holds in a state holds in those that come after it.
+use Rattle.std.proofs.Common.{◌+◌, ℕ, List, [], ◌∷◌, Ok, Err, refl, subst, ◌∙◌, arith}
+use Rattle.sx_base.specs.declared.fault.Bare.{Bare}
+use Rattle.sx_value.proofs.Stored.{keeps_refl, keeps_then, keeps_added}
+use Rattle.sx_value.specs.declared.value.Value.{Value}
+use Rattle.sx_value.specs.declared.cell.Cell.{Cell}
+use Rattle.sx_eval.specs.Setting.{PlainSetting}
+use Rattle.sx_eval.specs.State.{State, with_cell}
+use Rattle.sx_eval_laws.specs.Kept.{Later, EndsLater}
+use Rattle.sx_eval_laws.specs.Runs.{ByFuel}
+use Rattle.sx_eval_laws.proofs.Keeping.{keeps-call}
+use Rattle.sx_list_laws.specs.Runs.{IsList}
+use Rattle.sx_list_laws.proofs.RunLemmas.{runs_still}
+use Rattle.sx_given_laws.specs.Calls.{End, Ends, call_of, CallEnds, Calls}
+use Rattle.sx_given_laws.specs.InTurn.{InTurn, no_call, one_call, Stops, stops_here, stops_behind, AllGive, AllEnd, Search, not_there, passed, there, SearchGives, FoldLeft, left_end, left_step, FoldLeftGives, FoldRight, right_end, right_step, FoldRightGives, ForAll, all_none, all_last, all_but, all_so_far, ForAllGives, Exists, some_none, some_last, some_here, some_behind}
+use Rattle.sx_given_laws.proofs.Looking.{later-stay}
+
+pub later-refl : (s : State) → Later s s
+later-refl s = record { cells = keeps_refl s.cells; library = refl; names = omega arith }
+
+pub later-then : (r s t : State) → Later r s → Later s t → Later r t
+later-then r s t h k = record { cells = keeps_then r.cells s.cells t.cells h.cells k.cells; library = k.library ∙ h.library; names = omega (arith, h.names, k.names) }
+
+-- a cell more
+pub later-with : (s : State) (c : Cell) → Later s (with_cell c s)
+later-with s c = record { cells = keeps_added s.cells s.cells c (keeps_refl s.cells); library = refl; names = omega arith }
+
+ends-later : (run : ByFuel) (r : End) (s t : State) → ((n : ℕ) → EndsLater s (run n)) → Ends run r t → Later s t
+ends-later run (Ok v) s t ends g = subst (EndsLater s) (g.1 0) (ends (0 + g.0))
+ends-later run (Err f) s t ends g = subst (EndsLater s) (g.1 0) (ends (0 + g.0))
+
+pub call-ends-later : (w : PlainSetting) (f : Value) (args : List Value) (s : State) (r : End) (t : State) → CallEnds w f args s r t → Later s t
+call-ends-later w f args s r t h = ends-later (call_of w f args s) r s t (λ n. keeps-call w (f ∷ args) s n) h
+
+pub calls-later : (w : PlainSetting) (f : Value) (args : List Value) (s : State) (v : Value) (t : State) → Calls w f args s v t → Later s t
+calls-later w f args s v t h = call-ends-later w f args s (Ok v) t h
+
+pub list-later : (s t : State) → Later s t → (xs : List Value) (x : Value) → IsList s.cells xs x → IsList t.cells xs x
+list-later s t k xs x r = runs_still s.cells t.cells (later-stay s t k) r
+
+module _ (w : PlainSetting) (f : Value) where
+  -- Calls in turn, from an earlier state on and to a later one.
+
+  pub in-turn-from : (xs ys : List Value) (r s t : State) → Later r s → InTurn w f xs s ys t → InTurn w f xs r ys t
+  in-turn-from xs ys r s t k (no_call h) = no_call (later-then r s t k h)
+  in-turn-from xs ys r s t k (one_call {t = u} h c i) = one_call (later-then r s u k h) c i
+
+  pub in-turn-to : (xs ys : List Value) (s t u : State) → InTurn w f xs s ys t → Later t u → InTurn w f xs s ys u
+  in-turn-to xs ys s t u (no_call h) k = no_call (later-then s t u h k)
+  in-turn-to xs ys s t u (one_call {xs = xs'} {ys = ys'} {u = r} h c i) k = one_call h c (in-turn-to xs' ys' r t u i k)
+
+  pub all-give-later : (xs : List Value) (s t : State) → Later s t → AllGive w f xs s → AllGive w f xs t
+  all-give-later [] s t k g = tt
+  all-give-later (x ∷ xs) s t k g = λ u h. g u (later-then s t u k h)
+
+  pub search-from : (xs rest : List Value) (r s t : State) → Later r s → Search w f xs s rest t → Search w f xs r rest t
+  search-from xs rest r s t k (not_there h) = not_there (later-then r s t k h)
+  search-from xs rest r s t k (passed {t = u} h c e i) = passed (later-then r s u k h) c e i
+  search-from xs rest r s t k (there {t = u} h c e i) = there (later-then r s u k h) c e i
+
+  pub search-gives-later : (xs : List Value) (s t : State) → Later s t → SearchGives w f xs s → SearchGives w f xs t
+  search-gives-later [] s t k g = tt
+  search-gives-later (x ∷ xs) s t k g = λ u h. g u (later-then s t u k h)
+
+  pub fold-from : (z : Value) (xs : List Value) (v : Value) (r s t : State) → Later r s → FoldLeft w f z xs s v t → FoldLeft w f z xs r v t
+  fold-from z xs v r s t k (left_end h) = left_end (later-then r s t k h)
+  fold-from z xs v r s t k (left_step {t = u} h c i) = left_step (later-then r s u k h) c i
+
+  pub fold-gives-later : (z : Value) (xs : List Value) (s t : State) → Later s t → FoldLeftGives w f z xs s → FoldLeftGives w f z xs t
+  fold-gives-later z [] s t k g = tt
+  fold-gives-later z (x ∷ xs) s t k g = λ u h. g u (later-then s t u k h)
+
+  pub right-from : (z : Value) (xs : List Value) (v : Value) (r s t : State) → Later r s → FoldRight w f z xs s v t → FoldRight w f z xs r v t
+  right-from z xs v r s t k (right_end h) = right_end (later-then r s t k h)
+  right-from z xs v r s t k (right_step {r = x} {xs = ys} {t = u} i h c) = right_step (right-from z ys x r s u k i) h c
+
+  pub right-gives-later : (z : Value) (xs : List Value) (s t : State) → Later s t → FoldRightGives w f z xs s → FoldRightGives w f z xs t
+  right-gives-later z [] s t k g = tt
+  right-gives-later z (x ∷ xs) s t k g = (right-gives-later z xs s t k g.0, λ r u v i h. g.1 r u v (right-from z xs r s t u k i) h)
+
+  pub all-from : (xs : List Value) (v : Value) (r s t : State) → Later r s → ForAll w f xs s v t → ForAll w f xs r v t
+  all-from xs v r s t k (all_none h) = all_none (later-then r s t k h)
+  all-from xs v r s t k (all_last {t = u} h c i) = all_last (later-then r s u k h) c i
+  all-from xs v r s t k (all_but {t = u} h c e i) = all_but (later-then r s u k h) c e i
+  all-from xs v r s t k (all_so_far {t = u} h c e i) = all_so_far (later-then r s u k h) c e i
+
+  pub for-all-gives-later : (xs : List Value) (s t : State) → Later s t → ForAllGives w f xs s → ForAllGives w f xs t
+  for-all-gives-later [] s t k g = tt
+  for-all-gives-later (x ∷ xs) s t k g = λ u h. g u (later-then s t u k h)
+
+  pub exists-from : (xs : List Value) (v : Value) (r s t : State) → Later r s → Exists w f xs s v t → Exists w f xs r v t
+  exists-from xs v r s t k (some_none h) = some_none (later-then r s t k h)
+  exists-from xs v r s t k (some_last {t = u} h c i) = some_last (later-then r s u k h) c i
+  exists-from xs v r s t k (some_here {t = u} h c e i) = some_here (later-then r s u k h) c e i
+  exists-from xs v r s t k (some_behind {t = u} h c e i) = some_behind (later-then r s u k h) c e i
+
+  pub stops-from : (xs : List Value) (e : Bare) (r s t : State) → Later r s → Stops w f xs s e t → Stops w f xs r e t
+  stops-from xs e r s t k (stops_here {t = u} h c) = stops_here (later-then r s u k h) c
+  stops-from xs e r s t k (stops_behind {t = u} h c i) = stops_behind (later-then r s u k h) c i
+
+  pub all-end-later : (xs : List Value) (s t : State) → Later s t → AllEnd w f xs s → AllEnd w f xs t
+  all-end-later [] s t k g = tt
+  all-end-later (x ∷ xs) s t k g = λ u h. g u (later-then s t u k h)

@@ -1,0 +1,94 @@
+-- A loop of a text along one list: a procedure of a procedure and a list that calls itself on the rest of the list.
+use Rattle.std.proofs.Common.{◌≡◌, ℕ, [], ◌∷◌, Some, None, true, false, refl, ap}
+use Rattle.std.specs.Map.{lookup}
+use Rattle.sx_region.specs.declared.region.Place.{Place}
+use Rattle.sx_core.specs.Core.{PlainCore}
+use Rattle.sx_core.specs.Labels.{same_label}
+use Rattle.sx_value.specs.declared.value.Value.{Value}
+use Rattle.sx_value.specs.declared.value.Value.TheVariants as value
+use Rattle.sx_value.specs.declared.cell.Cell.TheVariants as cell
+use Rattle.sx_prims.specs.Answers.{truth}
+use Rattle.sx_prims.specs.Chains.{pair_of, is_nil}
+use Rattle.sx_prims.specs.Lists.{nil}
+use Rattle.sx_eval.specs.Codes.{code_at, procedure_code}
+use Rattle.sx_eval.specs.Setting.{PlainSetting}
+use Rattle.sx_eval.specs.State.{State, next_place, with_cell}
+use Rattle.sx_eval.specs.Variables.{Entries}
+use Rattle.sx_eval_laws.specs.Kept.{Later}
+use Rattle.sx_list_laws.proofs.RunLemmas.{pair_still}
+use Rattle.sx_given_laws.specs.Calls.{Calls}
+use Rattle.sx_given_laws.specs.Codes.{label, code_no, var, formals, one_case, app, car, cdr, is_null}
+use Rattle.sx_given_laws.proofs.Giving.{Evaluates, call-one, call-two}
+use Rattle.sx_given_laws.proofs.Looking.{later-stay}
+use Rattle.sx_given_laws.proofs.Calling.{closure-called, case-called}
+use Rattle.sx_given_laws.proofs.Inside.{Inside, Home, inside-later, entered-inside, own, outer}
+use Rattle.sx_given_laws.proofs.Later.{later-with}
+use Rattle.sx_given_laws.proofs.Primitives.{pair-not-nil, null-is, car-is, cdr-is}
+use Rattle.sx_given_laws.proofs.MapOne.{pair-later}
+
+-- the variables of a call: the procedure and the list
+abbrev pub two_vars : ℕ → ℕ → Value → Value → Entries
+two_vars m n f l = (label m, Some f) ∷ (label n, Some l) ∷ []
+
+-- the names of a loop: each is found where it is bound
+pub record Names (go m n : ℕ) (home : Entries) (g : Value) : Type 0 where
+  pub procedure : (f l : Value) → lookup (same_label (label m)) (two_vars m n f l) ≡ Some (Some f)
+  pub list : (f l : Value) → lookup (same_label (label n)) (two_vars m n f l) ≡ Some (Some l)
+  pub no_loop : (f l : Value) → lookup (same_label (label go)) (two_vars m n f l) ≡ None
+  pub loop : lookup (same_label (label go)) home ≡ Some (Some g)
+
+module _ (w : PlainSetting) (code go m n : ℕ) (body : PlainCore) (known : code_at w.codes (code_no code) ≡ Some (procedure_code (code_no code) (one_case (m ∷ n ∷ []) None body) true))
+    (p : Place) (home : Entries) (names : Names go m n home (value.Closure (code_no code) p)) (f l : Value) (s : State) (round : Home s.cells p home) where
+  abbrev g : Value
+  g = value.Closure (code_no code) p
+
+  -- the state in which the body is evaluated, at the place of the call's cell
+  abbrev pub entered : State
+  entered = with_cell (cell.Scope (two_vars m n f l) (Some p)) s
+
+  abbrev q : Place
+  q = next_place s
+
+  pub loop-called : (v : Value) (t : State) → Evaluates w body q entered v t → Calls w g (f ∷ l ∷ []) s v t
+  loop-called v t h =
+      closure-called w (code_no code) p (f ∷ l ∷ []) s v t
+      (case-called w (code_no code) p (f ∷ l ∷ []) s (procedure_code (code_no code) (one_case (m ∷ n ∷ []) None body) true) (formals (m ∷ n ∷ []) None) body v t known refl h)
+
+  pub entered-later : Later s entered
+  entered-later = later-with s (cell.Scope (two_vars m n f l) (Some p))
+
+  module _ (u : State) (behind : Later entered u) where
+    inside : Inside u.cells q (two_vars m n f l) p home
+    inside = inside-later entered u behind q (two_vars m n f l) p home (entered-inside s (two_vars m n f l) p home round)
+
+    pub procedure-read : Evaluates w (var m) q u f u
+    procedure-read = own w u q (two_vars m n f l) p home inside (label m) f (names.procedure f l)
+
+    pub list-read : Evaluates w (var n) q u l u
+    list-read = own w u q (two_vars m n f l) p home inside (label n) l (names.list f l)
+
+    pub is-null : l ≡ nil → Evaluates w (is_null (var n)) q u (truth true) u
+    is-null e = null-is w (var n) q u u l list-read true (ap (λ x. is_nil x) e)
+
+    module _ (x d : Value) (pair : pair_of s.cells l ≡ Some (x, d)) where
+      pair-then : pair_of u.cells l ≡ Some (x, d)
+      pair-then = pair_still entered.cells u.cells (later-stay entered u behind) l x d (pair-later s (cell.Scope (two_vars m n f l) (Some p)) l x d pair)
+
+      pub not-null : Evaluates w (is_null (var n)) q u (truth false) u
+      not-null = null-is w (var n) q u u l list-read false (pair-not-nil u.cells l x d pair-then)
+
+      pub first-read : Evaluates w (car (var n)) q u x u
+      first-read = car-is w (var n) q u u l list-read x d pair-then
+
+      pub rest-read : Evaluates w (cdr (var n)) q u d u
+      rest-read = cdr-is w (var n) q u u l list-read x d pair-then
+
+      -- the call on the first element
+      pub first-called : (y : Value) (t : State) → Calls w f (x ∷ []) u y t → Evaluates w (app (var m) (car (var n) ∷ [])) q u y t
+      first-called y t h = call-one w (var m) (car (var n)) q u u u t f x y procedure-read first-read h
+
+      -- the loop along the rest
+      pub loop-again : (v : Value) (t : State) → Calls w g (f ∷ d ∷ []) u v t → Evaluates w (app (var go) (var m ∷ cdr (var n) ∷ [])) q u v t
+      loop-again v t h =
+          call-two w (var go) (var m) (cdr (var n)) q u u u u t g f d v
+          (outer w u q (two_vars m n f l) p home inside (label go) g (names.no_loop f l) names.loop) procedure-read rest-read h

@@ -1,0 +1,74 @@
+-- A loop of a text along one list that gave a value: what its parts gave.
+use Rattle.std.proofs.Common.{◌≡◌, ℕ, List, [], ◌∷◌, Some, None, true, false, refl, nat_eq, arith}
+use Rattle.std.specs.Map.{lookup}
+use Rattle.sx_region.specs.declared.region.Place.{Place}
+use Rattle.sx_core.specs.Core.{PlainCore}
+use Rattle.sx_core.specs.Labels.{same_label}
+use Rattle.sx_value.specs.declared.value.Value.{Value}
+use Rattle.sx_value.specs.declared.value.Value.TheVariants as value
+use Rattle.sx_prims.specs.Chains.{pair_of}
+use Rattle.sx_eval.specs.Codes.{code_at, procedure_code}
+use Rattle.sx_eval.specs.Meaning.{eval_of, procedure_called}
+use Rattle.sx_eval.specs.Procedures.{has_text, text_number}
+use Rattle.sx_eval.specs.Setting.{PlainSetting}
+use Rattle.sx_eval.specs.State.{State, next_place}
+use Rattle.sx_eval.specs.Variables.{Entries}
+use Rattle.sx_eval.specs.declared.spread.TheConstants.{APPLY}
+use Rattle.sx_eval_laws.specs.Kept.{Later}
+use Rattle.sx_given_laws.specs.Calls.{Gives, Calls}
+use Rattle.sx_given_laws.specs.Codes.{label, code_no, var, formals, one_case, app, car, cdr, text_code}
+use Rattle.sx_given_laws.proofs.Giving.{Evaluates}
+use Rattle.sx_given_laws.proofs.Looking.{in_cell, variable-is}
+use Rattle.sx_given_laws.proofs.Calling.{closure-called, closure-back}
+use Rattle.sx_given_laws.proofs.Inside.{Home, one_home, inside-later, entered-inside, outer, letrec-is}
+use Rattle.sx_given_laws.proofs.Inverting.{call-one-back, call-two-back, case-back, text-back}
+use Rattle.sx_given_laws.proofs.Loop as loop
+use Rattle.sx_given_laws.proofs.Loop.{Names, two_vars}
+use Rattle.sx_given_laws.proofs.LoopText.{loop_text, outside, home_place, ready, ready-home}
+
+module _ (w : PlainSetting) (code go m n : ℕ) (body : PlainCore) (known : code_at w.codes (code_no code) ≡ Some (procedure_code (code_no code) (one_case (m ∷ n ∷ []) None body) true))
+    (p : Place) (home : Entries) (names : Names go m n home (value.Closure (code_no code) p)) (f l : Value) (s : State) (round : Home s.cells p home) where
+  abbrev at : State
+  at = loop.entered w code go m n body known p home names f l s round
+
+  abbrev q : Place
+  q = next_place s
+
+  pub body-back : (v : Value) (t : State) → Calls w (value.Closure (code_no code) p) (f ∷ l ∷ []) s v t → Evaluates w body q at v t
+  body-back v t h =
+      case-back w (code_no code) p (f ∷ l ∷ []) s (procedure_code (code_no code) (one_case (m ∷ n ∷ []) None body) true) (formals (m ∷ n ∷ []) None) body v t known refl
+      (closure-back w (code_no code) p (f ∷ l ∷ []) s v t h)
+
+  module _ (u : State) (behind : Later at u) (x d : Value) (pair : pair_of s.cells l ≡ Some (x, d)) where
+    pub first-back : (y : Value) (t : State) → Evaluates w (app (var m) (car (var n) ∷ [])) q u y t → Calls w f (x ∷ []) u y t
+    first-back y t h =
+        call-one-back w (var m) (car (var n)) q u u u t f x y (loop.procedure-read w code go m n body known p home names f l s round u behind)
+        (loop.first-read w code go m n body known p home names f l s round u behind x d pair) h
+
+    pub again-back : (v : Value) (t : State) → Evaluates w (app (var go) (var m ∷ cdr (var n) ∷ [])) q u v t → Calls w (value.Closure (code_no code) p) (f ∷ d ∷ []) u v t
+    again-back v t h =
+        call-two-back w (var go) (var m) (cdr (var n)) q u u u u t (value.Closure (code_no code) p) f d v
+        (outer w u q (two_vars m n f l) p home (inside-later at u behind q (two_vars m n f l) p home (entered-inside s (two_vars m n f l) p home round)) (label go) (value.Closure (code_no code) p) (names.no_loop f l) names.loop)
+        (loop.procedure-read w code go m n body known p home names f l s round u behind)
+        (loop.rest-read w code go m n body known p home names f l s round u behind x d pair) h
+
+module _ (w : PlainSetting) (s : State) (go code op : ℕ) (ns : List ℕ) (body : PlainCore) (self : same_label (label go) (label go) ≡ true) (other : nat_eq op APPLY ≡ false) (yes_text : has_text op ≡ true) where
+  -- the procedure of the `letrec` was called
+  pub loop-back : (args : List Value) (v : Value) (t : State)
+      → code_at w.codes (text_number op) ≡ Some (text_code op (loop_text go code ns body (var go)))
+      → lookup (same_label (label go)) (one_home (label go) (code_no code) (home_place w s go code)) ≡ Some (Some (value.Closure (code_no code) (home_place w s go code)))
+      → Calls w (value.Prim (record { 0 = op })) args s v t → Calls w (value.Closure (code_no code) (home_place w s go code)) args (ready w s go code) v t
+  loop-back args v t known found h =
+      closure-called w (code_no code) (home_place w s go code) args (ready w s go code) v t
+      (text-back w (record { 0 = op }) args s (ready w s go code) t (text_code op (loop_text go code ns body (var go))) (loop_text go code ns body (var go)) (code_no code) (home_place w s go code) v other yes_text known refl
+      (letrec-is w (label go) self (code_no code) (one_case ns None body) true (var go) (next_place s) (outside w s go code) (value.Closure (code_no code) (home_place w s go code)) (ready w s go code)
+      (variable-is w (label go) (home_place w s go code) (ready w s go code) (value.Closure (code_no code) (home_place w s go code)) 1 (in_cell (ready-home w s go code).is found) (omega arith))) h)
+
+  -- the procedure that the text gave was called
+  pub text-way-back : (given : PlainCore) (number : ℕ) (args : List Value) (v : Value) (t : State)
+      → code_at w.codes (text_number op) ≡ Some (text_code op (loop_text go code ns body given))
+      → Evaluates w given (home_place w s go code) (ready w s go code) (value.Closure (code_no number) (home_place w s go code)) (ready w s go code)
+      → Calls w (value.Prim (record { 0 = op })) args s v t → Gives (procedure_called w (eval_of w) (code_no number) (home_place w s go code) args (ready w s go code)) v t
+  text-way-back given number args v t known is h =
+      text-back w (record { 0 = op }) args s (ready w s go code) t (text_code op (loop_text go code ns body given)) (loop_text go code ns body given) (code_no number) (home_place w s go code) v other yes_text known refl
+      (letrec-is w (label go) self (code_no code) (one_case ns None body) true given (next_place s) (outside w s go code) (value.Closure (code_no number) (home_place w s go code)) (ready w s go code) is) h

@@ -1,0 +1,65 @@
+-- A text that is a `letrec` of one procedure.
+use Rattle.std.proofs.Common.{◌≡◌, ℕ, List, [], Some, None, true, false, refl, nat_eq, arith}
+use Rattle.std.specs.Map.{lookup}
+use Rattle.sx_region.specs.declared.region.Place.{Place}
+use Rattle.sx_region.proofs.Laws.{slice_get-added}
+use Rattle.sx_core.specs.Core.{PlainCore, letrec, no_init, init}
+use Rattle.sx_core.specs.Labels.{same_label}
+use Rattle.sx_value.specs.declared.value.Value.{Value}
+use Rattle.sx_value.specs.declared.value.Value.TheVariants as value
+use Rattle.sx_value.specs.declared.cell.Cell.TheVariants as cell
+use Rattle.sx_eval.specs.Codes.{code_at}
+use Rattle.sx_eval.specs.Meaning.{eval_of, procedure_called}
+use Rattle.sx_eval.specs.Procedures.{has_text, text_number}
+use Rattle.sx_eval.specs.Setting.{PlainSetting}
+use Rattle.sx_eval.specs.State.{State, next_place, with_cell}
+use Rattle.sx_eval.specs.declared.spread.TheConstants.{APPLY}
+use Rattle.sx_eval_laws.specs.Kept.{Later}
+use Rattle.sx_given_laws.specs.Calls.{Gives, Calls}
+use Rattle.sx_given_laws.specs.Codes.{label, code_no, var, lambda, one_case, text_code}
+use Rattle.sx_given_laws.proofs.Giving.{Evaluates}
+use Rattle.sx_given_laws.proofs.Looking.{in_cell, variable-is}
+use Rattle.sx_given_laws.proofs.Calling.{text-called, closure-back}
+use Rattle.sx_given_laws.proofs.Inside.{Home, one_home, letrec-is}
+use Rattle.sx_given_laws.proofs.Later.{later-then, later-with}
+
+abbrev pub loop_text : ℕ → ℕ → List ℕ → PlainCore → PlainCore → PlainCore
+loop_text go code formals loop body = letrec false (init (label go) (lambda code formals None loop) no_init) body
+
+module _ (w : PlainSetting) (s : State) (go code : ℕ) where
+  abbrev pub outside : State
+  outside = with_cell (cell.Scope [] None) s
+
+  abbrev pub home_place : Place
+  home_place = next_place outside
+
+  abbrev pub ready : State
+  ready = with_cell (cell.Scope (one_home (label go) (code_no code) home_place) (Some (next_place s))) outside
+
+  pub ready-home : Home ready.cells home_place (one_home (label go) (code_no code) home_place)
+  ready-home = record { around = Some (next_place s); is = slice_get-added outside.cells (cell.Scope (one_home (label go) (code_no code) home_place) (Some (next_place s))) }
+
+  pub ready-later : Later s ready
+  ready-later = later-then s outside ready (later-with s (cell.Scope [] None)) (later-with outside (cell.Scope (one_home (label go) (code_no code) home_place) (Some (next_place s))))
+
+  module _ (op : ℕ) (formals : List ℕ) (loop : PlainCore) (self : same_label (label go) (label go) ≡ true) (other : nat_eq op APPLY ≡ false) (yes : has_text op ≡ true) where
+    -- the text gives a procedure, which is called
+    pub text-by : (body : PlainCore) (number : ℕ) (args : List Value) (v : Value) (t : State)
+        → code_at w.codes (text_number op) ≡ Some (text_code op (loop_text go code formals loop body))
+        → Evaluates w body home_place ready (value.Closure (code_no number) home_place) ready
+        → Gives (procedure_called w (eval_of w) (code_no number) home_place args ready) v t
+        → Calls w (value.Prim (record { 0 = op })) args s v t
+    text-by body number args v t known is h =
+        text-called w (record { 0 = op }) args s ready t (text_code op (loop_text go code formals loop body)) (loop_text go code formals loop body) (code_no number) home_place v other yes known refl
+        (letrec-is w (label go) self (code_no code) (one_case formals None loop) true body (next_place s) outside (value.Closure (code_no number) home_place) ready is) h
+
+    -- the procedure of the `letrec` itself
+    pub loop-by : (args : List Value) (v : Value) (t : State)
+        → code_at w.codes (text_number op) ≡ Some (text_code op (loop_text go code formals loop (var go)))
+        → lookup (same_label (label go)) (one_home (label go) (code_no code) home_place) ≡ Some (Some (value.Closure (code_no code) home_place))
+        → Calls w (value.Closure (code_no code) home_place) args ready v t
+        → Calls w (value.Prim (record { 0 = op })) args s v t
+    loop-by args v t known found h =
+        text-by (var go) code args v t known
+        (variable-is w (label go) home_place ready (value.Closure (code_no code) home_place) 1 (in_cell ready-home.is found) (omega arith))
+        (closure-back w (code_no code) home_place args ready v t h)

@@ -1,0 +1,134 @@
+-- What a call of `memp` that gave a value did.
+use Rattle.std.proofs.Common.{◌≡◌, List, [], ◌∷◌, Some, None, true, false, refl, subst}
+use Rattle.sx_region.specs.declared.region.Place.{Place}
+use Rattle.sx_value.specs.declared.value.Value.{Value}
+use Rattle.sx_value.specs.declared.value.Value.TheVariants as value
+use Rattle.sx_prims.specs.Answers.{truth}
+use Rattle.sx_prims.specs.Chains.{pair_of}
+use Rattle.sx_eval.specs.Codes.{code_at, procedure_code}
+use Rattle.sx_eval.specs.Meaning.{eval_of, two_arms}
+use Rattle.sx_eval.specs.Procedures.{has_text, truth_of}
+use Rattle.sx_eval.specs.Setting.{PlainSetting}
+use Rattle.sx_eval.specs.State.{State, next_place}
+use Rattle.sx_eval.specs.Variables.{Entries}
+use Rattle.sx_eval_laws.specs.Kept.{Later}
+use Rattle.sx_list_laws.specs.Runs.{IsList}
+use Rattle.sx_given_laws.specs.Calls.{call_of, Calls}
+use Rattle.sx_given_laws.specs.Codes.{label, code_no, var, one_case, app, car, cdr, memp_some, memp_loop}
+use Rattle.sx_given_laws.specs.Given.{FindsTail, TailFound, IsTail}
+use Rattle.sx_given_laws.specs.InTurn.{Search, passed, there}
+use Rattle.sx_given_laws.proofs.Giving.{Evaluates}
+use Rattle.sx_given_laws.proofs.MempLoop.{memp-loop, longer}
+use Rattle.sx_given_laws.proofs.FindLoop.{by-truth}
+use Rattle.sx_given_laws.proofs.Inside.{Home, home-later, one_home}
+use Rattle.sx_given_laws.proofs.Inverting.{Parted, arms-true, arms-false, if-back, false-back}
+use Rattle.sx_given_laws.proofs.Knows.{Knows}
+use Rattle.sx_given_laws.proofs.Later.{later-refl, later-then, calls-later, list-later, search-from}
+use Rattle.sx_given_laws.proofs.Loop as loop
+use Rattle.sx_given_laws.proofs.Loop.{Names}
+use Rattle.sx_given_laws.proofs.LoopBack.{body-back, first-back, again-back, loop-back}
+use Rattle.sx_given_laws.proofs.LoopText.{home_place, ready, ready-home, ready-later}
+use Rattle.sx_given_laws.proofs.MapOne.{list-some}
+use Rattle.sx_given_laws.proofs.Unique.{gives-one-value, gives-one-state}
+use Rattle.sx_list_laws.specs.Runs.{here}
+use Rattle.sx_list_laws.proofs.RunLemmas.{pair_still}
+use Rattle.sx_given_laws.proofs.Looking.{later-stay}
+
+module _ (w : PlainSetting) (known : code_at w.codes (code_no 86) ≡ Some (procedure_code (code_no 86) (one_case (88 ∷ 89 ∷ []) None memp_loop) true)) (f : Value) (p : Place) where
+  abbrev home : Entries
+  home = one_home (label 85) (code_no 86) p
+
+  abbrev g : Value
+  g = value.Closure (code_no 86) p
+
+  names : Names 85 88 89 home g
+  names = record { procedure = λ f l. refl; list = λ f l. refl; no_loop = λ f l. refl; loop = refl }
+
+  module _ (x l d : Value) (xs : List Value) (s : State) (round : Home s.cells p home) (pair : pair_of s.cells l ≡ Some (x, d)) (v : Value) (t : State) (called : Calls w g (f ∷ l ∷ []) s v t)
+      (again : (u : State) → Later s u → (y : Value) (r : State) → Calls w g (f ∷ d ∷ []) u y r → TailFound w f d xs u y r) where
+    abbrev at : State
+    at = loop.entered w 86 85 88 89 memp_loop known p home names f l s round
+
+    abbrev q : Place
+    q = next_place s
+
+    enter : Later s at
+    enter = loop.entered-later w 86 85 88 89 memp_loop known p home names f l s round
+
+    choice : Evaluates w memp_some q at v t
+    choice =
+        false-back w _ _ _ q at at t (truth false) v (loop.not-null w 86 85 88 89 memp_loop known p home names f l s round at (later-refl at) x d pair) refl
+        (body-back w 86 85 88 89 memp_loop known p home names f l s round v t called)
+
+    parts : Parted (eval_of w (app (var 88) (car (var 89) ∷ [])) q at) (two_arms w (eval_of w) (var 89) (app (var 85) (var 88 ∷ cdr (var 89) ∷ [])) q) v t
+    parts = if-back w (app (var 88) (car (var 89) ∷ [])) (var 89) (app (var 85) (var 88 ∷ cdr (var 89) ∷ [])) q at v t choice
+
+    first : Calls w f (x ∷ []) at parts.value parts.state
+    first = first-back w 86 85 88 89 memp_loop known p home names f l s round at (later-refl at) x d pair parts.value parts.state parts.first
+
+    behind : Later at parts.state
+    behind = calls-later w f (x ∷ []) at parts.value parts.state first
+
+    far : Later s parts.state
+    far = later-then s at parts.state enter behind
+
+    taken : IsList s.cells (x ∷ xs) l → truth_of parts.value ≡ true → TailFound w f l (x ∷ xs) s v t
+    taken r e = record {
+      rest = x ∷ xs;
+      search = subst (λ a. Search w f (x ∷ xs) s (x ∷ xs) a) state_is (there enter first e (later-refl parts.state));
+      tail = subst (λ (a : State). IsTail a.cells l (x ∷ xs) v) state_is (subst (λ b. IsTail parts.state.cells l (x ∷ xs) b) value_is ([], here, list-later s parts.state far (x ∷ xs) l r));
+    }
+      where
+        arm : Evaluates w (var 89) q parts.state v t
+        arm = arms-true w (truth_of parts.value) (eval_of w (var 89) q parts.state) (eval_of w (app (var 85) (var 88 ∷ cdr (var 89) ∷ [])) q parts.state) v t e parts.onward
+
+        read : Evaluates w (var 89) q parts.state l parts.state
+        read = loop.list-read w 86 85 88 89 memp_loop known p home names f l s round parts.state behind
+
+        value_is : l ≡ v
+        value_is = gives-one-value (eval_of w (var 89) q parts.state) l v parts.state t read arm
+
+        state_is : parts.state ≡ t
+        state_is = gives-one-state (eval_of w (var 89) q parts.state) l v parts.state t read arm
+
+    missed : truth_of parts.value ≡ false → TailFound w f l (x ∷ xs) s v t
+    missed e = record {
+      rest = rest.rest;
+      search = passed enter first e rest.search;
+      tail = longer w known f p t.cells x l d (pair_still s.cells t.cells (later-stay s t (later-then s parts.state t far (calls-later w g (f ∷ d ∷ []) parts.state v t others))) l x d pair) rest.rest v rest.tail;
+    }
+      where
+        others : Calls w g (f ∷ d ∷ []) parts.state v t
+        others =
+            again-back w 86 85 88 89 memp_loop known p home names f l s round parts.state behind x d pair v t
+            (arms-false w (truth_of parts.value) (eval_of w (var 89) q parts.state) (eval_of w (app (var 85) (var 88 ∷ cdr (var 89) ∷ [])) q parts.state) v t e parts.onward)
+
+        rest : TailFound w f d xs parts.state v t
+        rest = again parts.state far v t others
+
+    some-did : IsList s.cells (x ∷ xs) l → TailFound w f l (x ∷ xs) s v t
+    some-did r = by-truth (truth_of parts.value) (TailFound w f l (x ∷ xs) s v t) (taken r) missed
+
+  loop-did : (xs : List Value) (l : Value) (s : State) (v : Value) (t : State) → Home s.cells p home → IsList s.cells xs l → Calls w g (f ∷ l ∷ []) s v t → TailFound w f l xs s v t
+  loop-did [] l s v t round r called =
+      let m : FindsTail w g (f ∷ l ∷ []) f l [] s = memp-loop w known f p [] l s round r tt in
+      let value_is = gives-one-value (call_of w g (f ∷ l ∷ []) s) m.value v m.state t m.called called in
+      let state_is = gives-one-state (call_of w g (f ∷ l ∷ []) s) m.value v m.state t m.called called in
+      record {
+        rest = m.rest;
+        search = subst (λ a. Search w f [] s m.rest a) state_is m.search;
+        tail = subst (λ (a : State). IsTail a.cells l m.rest v) state_is (subst (λ b. IsTail m.state.cells l m.rest b) value_is m.tail);
+      }
+  loop-did (x ∷ xs) l s v t round r called =
+      let c = list-some r in
+      some-did x l c.0 xs s round c.1 v t called (λ u k y z h. loop-did xs c.0 u y z (home-later s u k p home round) (list-later s u k xs c.0 c.2) h) r
+
+pub memp-only : (w : PlainSetting) (knows : Knows w.codes) (f l : Value) (xs : List Value) (s : State) (v : Value) (t : State) → IsList s.cells xs l → Calls w (value.Prim (record { 0 = 202 })) (f ∷ l ∷ []) s v t
+    → TailFound w f l xs s v t
+unfolding has_text
+memp-only w knows f l xs s v t r called = record { rest = m.rest; search = search-from w f xs m.rest s (ready w s 85 86) t (ready-later w s 85 86) m.search; tail = m.tail }
+  where
+    m : TailFound w f l xs (ready w s 85 86) v t
+    m =
+        loop-did w knows.memp_loop f (home_place w s 85 86) xs l (ready w s 85 86) v t (ready-home w s 85 86) (list-later s (ready w s 85 86) (ready-later w s 85 86) xs l r)
+        (loop-back w s 85 86 202 (88 ∷ 89 ∷ []) memp_loop refl refl refl (f ∷ l ∷ []) v t knows.memp_text refl called)

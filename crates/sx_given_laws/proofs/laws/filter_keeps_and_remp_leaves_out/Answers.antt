@@ -1,0 +1,13 @@
+use Rattle.sx_given_laws.proofs.FilterBack.{filter-only}
+use Rattle.sx_given_laws.proofs.Knows.{knows}
+use Rattle.sx_given_laws.proofs.Remp.{remp-given, remp-only}
+use Rattle.sx_given_laws.proofs.ListTexts.{filter-given}
+use Rattle.sx_given_laws.proofs.laws.filter_keeps_and_remp_leaves_out.Goals as goal
+
+pub returns : goal.returns
+returns c = record {
+  filter = λ w f l xs s has r give. filter-given w (knows w has) f l xs s r give;
+  filter_only = λ w f l xs s t v has r called. filter-only w (knows w has) f l xs s v t r called;
+  remp = λ w f l xs s has r give. remp-given w (knows w has) f l s xs r give;
+  remp_only = λ w f l xs s t v has r called. remp-only w (knows w has) f l s xs v t r called;
+}

@@ -1,0 +1,29 @@
+-- Settings in which the procedures that are given as texts have their codes.
+use Rattle.std.specs.Prelude.{◌≡◌, List, [], ◌∷◌, Some}
+use Rattle.sx_base.specs.declared.name.CodeNo.{CodeNo}
+use Rattle.sx_core.specs.Core.{PlainCode}
+use Rattle.sx_eval.specs.Codes.{Codes, code_at, with_procedure}
+use Rattle.sx_eval.specs.Setting.{PlainSetting}
+use Rattle.sx_given_laws.specs.Codes.{text_code, map_text, for_each_text, for_all_text, exists_text, filter_text, remp_text, find_text, memp_text, fold_left_text, fold_right_text}
+
+-- the codes of all texts, in their order
+abbrev pub written : List PlainCode
+written =
+    text_code 133 map_text ∷ text_code 110 for_each_text ∷ text_code 192 for_all_text ∷ text_code 193 exists_text ∷ text_code 194 filter_text ∷
+    text_code 198 remp_text ∷ text_code 191 find_text ∷ text_code 202 memp_text ∷ text_code 196 fold_left_text ∷ text_code 197 fold_right_text ∷ []
+
+-- the table that codes make, with those inside them
+abbrev pub table_of : Codes → List PlainCode → Codes
+table_of table [] = table
+table_of table (c ∷ cs) = table_of (with_procedure c table) cs
+
+abbrev pub written_table : Codes
+written_table = table_of [] written
+
+-- each code of the second table is in the first, under its number
+abbrev pub Includes : Codes → Codes → Type 0
+Includes cs table = (number : CodeNo) (c : PlainCode) → code_at table number ≡ Some c → code_at cs number ≡ Some c
+
+-- The texts have their codes.
+abbrev pub HasTexts : PlainSetting → Type 0
+HasTexts w = Includes w.codes written_table

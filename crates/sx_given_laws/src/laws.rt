@@ -1,0 +1,96 @@
+//! The laws of the procedures that are given in Scheme. The functions here compute nothing: what they promise is the laws.
+
+ghost use Rattle.std.specs.Prelude.{◌≡◌, ◌⊎◌, ℕ, List, [], ◌∷◌, map, None, Some, codes};
+ghost use Rattle.sx_base.specs.Op.{op_named};
+ghost use Rattle.sx_core.specs.Core.{PlainCode};
+ghost use Rattle.sx_eval.specs.Codes.{Codes, code_at, with_code};
+ghost use Rattle.sx_eval.specs.Setting.{PlainSetting};
+ghost use Rattle.sx_eval.specs.State.{State, done};
+ghost use Rattle.sx_list_laws.specs.Runs.{IsList};
+ghost use Rattle.sx_value.specs.declared.value.Value.{Value};
+ghost use Rattle.sx_value.specs.declared.value.Value.TheVariants as value;
+ghost use Rattle.sx_given_laws.specs.Calls.{call_of, Calls};
+ghost use Rattle.sx_given_laws.specs.Given.{built_in, Maps, MapsBy, Mapped, Visits, Visited, Faults, Filters, Filtered, Finds, Found, FindsTail, TailFound, ForAlls, Existences, FoldsLeft, FoldsRight};
+ghost use Rattle.sx_given_laws.specs.InTurn.{FoldLeft, AllGive, AllEnd, AllGiveBy, SearchGives, ForAllGives, FoldLeftGives, FoldRightGives, chosen, others};
+ghost use Rattle.sx_given_laws.specs.Texts.{HasTexts, Includes, written_table};
+
+/// The numbers of the procedures of which the laws speak, by their report names.
+pub fn numbers_are_by_name()
+    ensures { map op_named (codes "map" ∷ codes "for-each" ∷ codes "filter" ∷ codes "remp" ∷ codes "find" ∷ codes "memp" ∷ codes "for-all" ∷ codes "exists" ∷ codes "fold-left" ∷ codes "fold-right" ∷ []) ≡
+        Some 133 ∷ Some 110 ∷ Some 194 ∷ Some 198 ∷ Some 191 ∷ Some 202 ∷ Some 192 ∷ Some 193 ∷ Some 196 ∷ Some 197 ∷ [] }
+{}
+
+/// A call that gives a value with some fuel gives it with all that is more, and no other value and no other state.
+pub fn some_fuel_is_enough()
+    ensures enough { (w : PlainSetting) (f : Value) (args : List Value) (s : State) (n m : ℕ) (v : Value) (t : State) → call_of w f args s n ≡ done v t m → Calls w f args s v t }
+    ensures one { (w : PlainSetting) (f : Value) (args : List Value) (s : State) (v x : Value) (t u : State) → Calls w f args s v t → Calls w f args s x u → (v ≡ x) × (t ≡ u) }
+{}
+
+/// The codes of the texts alone have the texts, and codes of other numbers that come behind them leave them there.
+pub fn texts_stay()
+    ensures begin { Includes written_table written_table }
+    ensures stay { (cs : Codes) (c : PlainCode) → code_at written_table c.number ≡ None → Includes cs written_table → Includes (with_code c cs) written_table }
+{}
+
+/// `map` calls its procedure on each element of a list, from the first to the last, and gives the list of the answers
+/// (R6RS 11.9). And whenever it gives a value it has done so. Where each answer is what a function says, it is the list of what that says. Where a call faults, it is the last
+/// that is made, and its fault is that of `map`.
+pub fn map_gives_the_answers()
+    ensures answers { (w : PlainSetting) (f l : Value) (xs : List Value) (s : State) → HasTexts w → IsList s.cells xs l → AllGive w f xs s → Maps w (built_in 133) (f ∷ l ∷ []) f xs s }
+    ensures only { (w : PlainSetting) (f l : Value) (xs : List Value) (s t : State) (v : Value) → HasTexts w → IsList s.cells xs l → Calls w (built_in 133) (f ∷ l ∷ []) s v t → Mapped w f xs s v t }
+    ensures said { (w : PlainSetting) (f l : Value) (g : Value → Value) (xs : List Value) (s : State) → HasTexts w → IsList s.cells xs l → AllGiveBy w f g xs s →
+        MapsBy w (built_in 133) (f ∷ l ∷ []) g xs s }
+    ensures faults { (w : PlainSetting) (f l : Value) (xs : List Value) (s : State) → HasTexts w → IsList s.cells xs l → AllEnd w f xs s →
+        Maps w (built_in 133) (f ∷ l ∷ []) f xs s ⊎ Faults w (built_in 133) (f ∷ l ∷ []) f xs s }
+{}
+
+/// `for-each` calls its procedure on each element of a list, from the first to the last, and gives nothing of it
+/// (R6RS 11.9). And whenever it gives a value it has done so. Where a call faults, it is the last that is made, and its fault
+/// is that of `for-each`.
+pub fn for_each_calls_in_order()
+    ensures calls { (w : PlainSetting) (f l : Value) (xs : List Value) (s : State) → HasTexts w → IsList s.cells xs l → AllGive w f xs s →
+        Visits w (built_in 110) (f ∷ l ∷ []) f xs s value.Unspecified }
+    ensures only { (w : PlainSetting) (f l : Value) (xs : List Value) (s t : State) (v : Value) → HasTexts w → IsList s.cells xs l → Calls w (built_in 110) (f ∷ l ∷ []) s v t → Visited w f xs s v t }
+    ensures faults { (w : PlainSetting) (f l : Value) (xs : List Value) (s : State) → HasTexts w → IsList s.cells xs l → AllEnd w f xs s →
+        Visits w (built_in 110) (f ∷ l ∷ []) f xs s value.Unspecified ⊎ Faults w (built_in 110) (f ∷ l ∷ []) f xs s }
+{}
+
+/// `filter` gives the list of the elements whose answer is not `#f`, and `remp` of those whose answer is `#f`, in their
+/// order; each is asked once, from the first to the last (R6RS libraries 3). And whenever one gives a value it
+/// has done so.
+pub fn filter_keeps_and_remp_leaves_out()
+    ensures filter { (w : PlainSetting) (f l : Value) (xs : List Value) (s : State) → HasTexts w → IsList s.cells xs l → AllGive w f xs s → Filters w (built_in 194) (f ∷ l ∷ []) f chosen xs s }
+    ensures filter_only { (w : PlainSetting) (f l : Value) (xs : List Value) (s t : State) (v : Value) → HasTexts w → IsList s.cells xs l → Calls w (built_in 194) (f ∷ l ∷ []) s v t → Filtered w f chosen xs s v t }
+    ensures remp { (w : PlainSetting) (f l : Value) (xs : List Value) (s : State) → HasTexts w → IsList s.cells xs l → AllGive w f xs s → Filters w (built_in 198) (f ∷ l ∷ []) f others xs s }
+    ensures remp_only { (w : PlainSetting) (f l : Value) (xs : List Value) (s t : State) (v : Value) → HasTexts w → IsList s.cells xs l → Calls w (built_in 198) (f ∷ l ∷ []) s v t → Filtered w f others xs s v t }
+{}
+
+/// `find` gives the first element whose answer is not `#f`, and `memp` what is left of the list itself from there on; both
+/// give `#f` where there is none, and ask no element behind the first (R6RS libraries 3). And whenever one gives a value it
+/// has done so.
+pub fn find_and_memp_stop_at_the_first()
+    ensures find { (w : PlainSetting) (f l : Value) (xs : List Value) (s : State) → HasTexts w → IsList s.cells xs l → SearchGives w f xs s → Finds w (built_in 191) (f ∷ l ∷ []) f xs s }
+    ensures memp { (w : PlainSetting) (f l : Value) (xs : List Value) (s : State) → HasTexts w → IsList s.cells xs l → SearchGives w f xs s → FindsTail w (built_in 202) (f ∷ l ∷ []) f l xs s }
+    ensures find_only { (w : PlainSetting) (f l : Value) (xs : List Value) (s t : State) (v : Value) → HasTexts w → IsList s.cells xs l → Calls w (built_in 191) (f ∷ l ∷ []) s v t → Found w f xs s v t }
+    ensures memp_only { (w : PlainSetting) (f l : Value) (xs : List Value) (s t : State) (v : Value) → HasTexts w → IsList s.cells xs l → Calls w (built_in 202) (f ∷ l ∷ []) s v t → TailFound w f l xs s v t }
+{}
+
+/// `for-all` gives `#f` at the first answer that is `#f`, else the last answer, and `#t` of the empty list; `exists` gives
+/// the first answer that is not `#f`, else the last, and `#f` of the empty list (R6RS libraries 3).
+pub fn for_all_and_exists_ask_in_order()
+    ensures all { (w : PlainSetting) (f l : Value) (xs : List Value) (s : State) → HasTexts w → IsList s.cells xs l → ForAllGives w f xs s → ForAlls w (built_in 192) (f ∷ l ∷ []) f xs s }
+    ensures exists { (w : PlainSetting) (f l : Value) (xs : List Value) (s : State) → HasTexts w → IsList s.cells xs l → SearchGives w f xs s → Existences w (built_in 193) (f ∷ l ∷ []) f xs s }
+{}
+
+/// `fold-left` calls its procedure on a value and the first element, then on what that gave and the second, and so on, and
+/// gives what the last call gave (R6RS libraries 3). And whenever it gives a value it has done so.
+pub fn fold_left_goes_from_the_left()
+    ensures folds { (w : PlainSetting) (f z l : Value) (xs : List Value) (s : State) → HasTexts w → IsList s.cells xs l → FoldLeftGives w f z xs s → FoldsLeft w (built_in 196) (f ∷ z ∷ l ∷ []) f z xs s }
+    ensures only { (w : PlainSetting) (f z l : Value) (xs : List Value) (s t : State) (v : Value) → HasTexts w → IsList s.cells xs l → Calls w (built_in 196) (f ∷ z ∷ l ∷ []) s v t → FoldLeft w f z xs s v t }
+{}
+
+/// `fold-right` calls its procedure on the last element and a value, then on the element before and what that gave, and so
+/// on to the first, and gives what the last call gave (R6RS libraries 3).
+pub fn fold_right_goes_from_the_right()
+    ensures { (w : PlainSetting) (f z l : Value) (xs : List Value) (s : State) → HasTexts w → IsList s.cells xs l → FoldRightGives w f z xs s → FoldsRight w (built_in 197) (f ∷ z ∷ l ∷ []) f z xs s }
+{}
