@@ -311,45 +311,4 @@ pub const FUEL_TEXTS: &str = r#"; each with all fuel that it needs, and its valu
    (lambda (s) (string-append s s s s s s s s s s)) (lambda (s) (string=? s s s s s s s s s s s s s s s s s s s)))
   e))) (m))))))
 §(within 7 (fold-left + 0))
-=> 39 Arity: 2
-
-; the texts themselves, in the order in which a run expands them, and what they come to
-(import (rnrs))
-(letrec ((one (lambda (f l) (if (null? l) '()
-       (cons (f (car l)) (one f (cdr l))))))
-     (many (lambda (f ls) (if (null? (car ls)) '()
-       (cons (apply f (one car ls)) (many f (one cdr ls)))))))
-   (lambda (f l . ls) (if (null? ls) (one f l) (many f (cons l ls)))))
-(lambda (f l . ls) (begin (apply map f l ls) (if #f #f)))
-(letrec ((all (lambda (f ls) (if (null? (car ls)) #t
-     (if (null? (cdr (car ls))) (apply f (map car ls))
-       (if (apply f (map car ls)) (all f (map cdr ls)) #f))))))
-   (lambda (f l . ls) (all f (cons l ls))))
-(letrec ((any (lambda (f ls) (if (null? (car ls)) #f
-     (if (null? (cdr (car ls))) (apply f (map car ls))
-       ((lambda (t) (if t t (any f (map cdr ls))))
-        (apply f (map car ls))))))))
-   (lambda (f l . ls) (any f (cons l ls))))
-(letrec ((go (lambda (f l) (if (null? l) '()
-     (if (f (car l)) (cons (car l) (go f (cdr l))) (go f (cdr l))))))) go)
-(lambda (f l) (filter (lambda (x) (not (f x))) l))
-(letrec ((go (lambda (f l) (if (null? l) #f
-     (if (f (car l)) (car l) (go f (cdr l))))))) go)
-(letrec ((go (lambda (f l) (if (null? l) #f
-     (if (f (car l)) l (go f (cdr l))))))) go)
-(letrec ((go (lambda (f z ls) (if (null? (car ls)) z
-     (go f (apply f z (map car ls)) (map cdr ls))))))
-   (lambda (f z l . ls) (go f z (cons l ls))))
-(letrec ((go (lambda (f z ls) (if (null? (car ls)) z
-     (apply f (append (map car ls) (list (go f z (map cdr ls)))))))))
-   (lambda (f z l . ls) (go f z (cons l ls))))
-=> (letrec ((%/one/0 (lambda (%/f/2 %/l/3) (if (null? %/l/3) (quote ()) (cons (%/f/2 (car %/l/3)) (%/one/0 %/f/2 (cdr %/l/3)))))) (%/many/1 (lambda (%/f/4 %/ls/5) (if (null? (car %/ls/5)) (quote ()) (cons (apply %/f/4 (%/one/0 car %/ls/5)) (%/many/1 %/f/4 (%/one/0 cdr %/ls/5))))))) (lambda (%/f/6 %/l/7 . %/ls/8) (if (null? %/ls/8) (%/one/0 %/f/6 %/l/7) (%/many/1 %/f/6 (cons %/l/7 %/ls/8)))))
-(lambda (%/f/9 %/l/10 . %/ls/11) (begin (apply map %/f/9 %/l/10 %/ls/11) (if #f #f)))
-(letrec ((%/all/12 (lambda (%/f/13 %/ls/14) (if (null? (car %/ls/14)) #t (if (null? (cdr (car %/ls/14))) (apply %/f/13 (map car %/ls/14)) (if (apply %/f/13 (map car %/ls/14)) (%/all/12 %/f/13 (map cdr %/ls/14)) #f)))))) (lambda (%/f/15 %/l/16 . %/ls/17) (%/all/12 %/f/15 (cons %/l/16 %/ls/17))))
-(letrec ((%/any/18 (lambda (%/f/19 %/ls/20) (if (null? (car %/ls/20)) #f (if (null? (cdr (car %/ls/20))) (apply %/f/19 (map car %/ls/20)) ((lambda (%/t/21) (if %/t/21 %/t/21 (%/any/18 %/f/19 (map cdr %/ls/20)))) (apply %/f/19 (map car %/ls/20)))))))) (lambda (%/f/22 %/l/23 . %/ls/24) (%/any/18 %/f/22 (cons %/l/23 %/ls/24))))
-(letrec ((%/go/25 (lambda (%/f/26 %/l/27) (if (null? %/l/27) (quote ()) (if (%/f/26 (car %/l/27)) (cons (car %/l/27) (%/go/25 %/f/26 (cdr %/l/27))) (%/go/25 %/f/26 (cdr %/l/27))))))) %/go/25)
-(lambda (%/f/28 %/l/29) (filter (lambda (%/x/30) (not (%/f/28 %/x/30))) %/l/29))
-(letrec ((%/go/31 (lambda (%/f/32 %/l/33) (if (null? %/l/33) #f (if (%/f/32 (car %/l/33)) (car %/l/33) (%/go/31 %/f/32 (cdr %/l/33))))))) %/go/31)
-(letrec ((%/go/34 (lambda (%/f/35 %/l/36) (if (null? %/l/36) #f (if (%/f/35 (car %/l/36)) %/l/36 (%/go/34 %/f/35 (cdr %/l/36))))))) %/go/34)
-(letrec ((%/go/37 (lambda (%/f/38 %/z/39 %/ls/40) (if (null? (car %/ls/40)) %/z/39 (%/go/37 %/f/38 (apply %/f/38 %/z/39 (map car %/ls/40)) (map cdr %/ls/40)))))) (lambda (%/f/41 %/z/42 %/l/43 . %/ls/44) (%/go/37 %/f/41 %/z/42 (cons %/l/43 %/ls/44))))
-(letrec ((%/go/45 (lambda (%/f/46 %/z/47 %/ls/48) (if (null? (car %/ls/48)) %/z/47 (apply %/f/46 (append (map car %/ls/48) (list (%/go/45 %/f/46 %/z/47 (map cdr %/ls/48))))))))) (lambda (%/f/49 %/z/50 %/l/51 . %/ls/52) (%/go/45 %/f/49 %/z/50 (cons %/l/51 %/ls/52))))"#;
+=> 39 Arity: 2"#;
