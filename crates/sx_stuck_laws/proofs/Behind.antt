@@ -11,7 +11,7 @@ use Rattle.sx_core.specs.declared.binding.Binding.{Binding}
 use Rattle.sx_core.specs.declared.binding.Binding.TheVariants as binding
 use Rattle.sx_core.specs.declared.record.LibRecord.{LibRecord}
 use Rattle.sx_core.specs.declared.record.Line.{Line}
-use Rattle.sx_core_laws.specs.Words.{Each, Among, Once}
+use Rattle.sx_core_laws.specs.Words.{Among, Once}
 use Rattle.sx_core_laws.specs.Parts.{code_numbers}
 use Rattle.sx_core_laws.specs.Scope.{Closed}
 use Rattle.sx_core_laws.specs.WellMade.{IsWellMade}
@@ -19,8 +19,8 @@ use Rattle.sx_core_laws.specs.Records.{line_core, line_labels, line_binders, def
 use Rattle.sx_core_laws.specs.Follows.{names_of, bound_labels, keyword_of, keywords, line_cores, all_cores, all_binders, all_numbers, IsOwn}
 use Rattle.sx_stage.specs.Libraries.{has_library}
 use Rattle.sx_stage_laws.specs.Reached.{RefersBack}
-use Rattle.sx_whole_laws.proofs.Among.{among_first, among_second, among_parts, among_flat, each_of, each_at, once_first, once_second, once_apart}
-use Rattle.sx_stuck_laws.specs.Behind.{IsOfTexts, IsBehind, AllBehind, IsKeywordOf, IsExpression}
+use Rattle.sx_whole_laws.proofs.Among.{among_first, among_second, among_parts, among_flat, each_at, once_second, once_apart}
+use Rattle.sx_stuck_laws.specs.Behind.{IsBehind, AllBehind, IsKeywordOf, IsExpression}
 
 -- Lists.
 

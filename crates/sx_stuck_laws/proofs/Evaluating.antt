@@ -1,17 +1,16 @@
 -- Expressions and libraries that are evaluated on a steady stage.
-use Rattle.std.proofs.Common.{◌≡◌, ℕ, ◌+◌, ◌-◌, Bool, true, false, List, [], ◌∷◌, ◌++◌, Option, Some, None, Result, Ok, Err, length, map, slice_get, refl, sym, ap, subst, ◌∙◌, inl, inr, if◌then◌else◌}
+use Rattle.std.proofs.Common.{◌≡◌, Bool, true, false, List, [], ◌∷◌, ◌++◌, Option, Some, None, length, map, refl, sym, ap, subst, ◌∙◌, inl, inr}
 use Rattle.std.specs.Prelude.{◌⊎◌, IsTrue}
 use Rattle.std.specs.List.{flat_map}
 use Rattle.std.specs.Map.{lookup}
 use Rattle.std.proofs.lemmas.Grind.{flat_map-append}
-use Rattle.sx_base.specs.declared.fault.Fault.{Fault}
 use Rattle.sx_base.specs.declared.library.LibName.{LibName}
 use Rattle.sx_base.specs.declared.name.CodeNo.{CodeNo}
 use Rattle.sx_base.specs.declared.name.Label.{Label}
 use Rattle.sx_base.specs.declared.span.Span.{Span}
 use Rattle.sx_core.specs.Core.{PlainCore, PlainCode}
 use Rattle.sx_core.specs.Labels.{same_label}
-use Rattle.sx_core.specs.References.{binders, mentions, references}
+use Rattle.sx_core.specs.References.{mentions, references}
 use Rattle.sx_core.specs.declared.binding.Binding.{Binding}
 use Rattle.sx_core.specs.declared.binding.Binding.TheVariants as binding
 use Rattle.sx_core.specs.declared.record.LibRecord.{LibRecord}
@@ -21,23 +20,20 @@ use Rattle.sx_core_laws.specs.Parts.{parts, own_number, code_numbers}
 use Rattle.sx_core_laws.specs.Scope.{Closed}
 use Rattle.sx_core_laws.specs.WellMade.{IsWellMade, same_code}
 use Rattle.sx_core_laws.specs.Records.{line_core, defined}
-use Rattle.sx_core_laws.specs.Follows.{names_of, keyword_of, keywords, line_cores, all_cores, all_numbers, IsOwn}
+use Rattle.sx_core_laws.specs.Follows.{names_of, keyword_of, keywords, line_cores, all_numbers, IsOwn}
 use Rattle.sx_core_laws.proofs.Decisions.{among_decides, code_decides}
 use Rattle.sx_value.specs.Cells.{is_found}
-use Rattle.sx_value.specs.FromDatum.{Keeps}
-use Rattle.sx_value.specs.declared.value.Value.{Value}
-use Rattle.sx_value.specs.declared.cell.Cell.{Cell}
 use Rattle.sx_eval.specs.Codes.{Codes, code_at, with_codes}
 use Rattle.sx_eval.specs.Lines.{with_lines}
 use Rattle.sx_eval.specs.Setting.{PlainSetting}
-use Rattle.sx_eval.specs.State.{State, Outcome, done, faulted, unfit, next_place, with_cell}
+use Rattle.sx_eval.specs.State.{Outcome, done, faulted, unfit}
 use Rattle.sx_eval_laws.specs.Kept.{EndsLater}
 use Rattle.sx_eval_laws.proofs.Keeping.{keeps-defined, keeps-alone}
-use Rattle.sx_whole_laws.specs.Evaluated.{lines_labels, LinesReady, AreFound, LibraryEnding, LeavesLibrary}
-use Rattle.sx_whole_laws.specs.Extends.{Stay, Extends}
+use Rattle.sx_whole_laws.specs.Evaluated.{lines_labels, LinesReady, AreFound, LibraryEnding}
+use Rattle.sx_whole_laws.specs.Extends.{Stay}
 use Rattle.sx_whole_laws.specs.MadeReady.{AreNew}
 use Rattle.sx_whole_laws.specs.Ready.{Variables, PatternVariables, Besides, Ready, FoundFrom, BoundFrom, ReadyIn}
-use Rattle.sx_whole_laws.specs.WholeWorld.{ValueReady, WholeWorld, WholeEnding}
+use Rattle.sx_whole_laws.specs.WholeWorld.{WholeEnding}
 use Rattle.sx_whole_laws.proofs.Among.{one_of, among_first, among_second, among_parts, among_flat, each_of, each_at, each_first, each_second, once_first, once_second, once_apart}
 use Rattle.sx_whole_laws.proofs.Evaluations.{expressions_never_stuck}
 use Rattle.sx_whole_laws.proofs.Growth.{grows_kept}
@@ -46,16 +42,16 @@ use Rattle.sx_whole_laws.proofs.Numbered.{CodeStands, added, lines_parts, codes_
 use Rattle.sx_whole_laws.proofs.Records.{well_made_ready, found_global, numbers_of}
 use Rattle.sx_whole_laws.proofs.Steady.{value_later}
 use Rattle.sx_stage.specs.Libraries.{has_library, with_library}
-use Rattle.sx_stage.specs.Running.{setting_on, state_on, left_by, ended_at, with_codes_of, outcome_of, evaluate, outcome_of_lines, left_by_library, library_ended, evaluate_library}
+use Rattle.sx_stage.specs.Running.{setting_on, state_on, ended_at, with_codes_of, outcome_of, evaluate, outcome_of_lines, left_by_library, library_ended, evaluate_library}
 use Rattle.sx_stage.specs.Stage.{PlainStage, keyword_at}
 use Rattle.sx_stage.specs.declared.keyword.Keyword.{Keyword}
 use Rattle.sx_stage.specs.declared.keyword.Keyword.TheVariants as keyword
 use Rattle.sx_stage_laws.proofs.Growing.{has_with}
 use Rattle.sx_stuck_laws.specs.Behind.{IsOfTexts, IsReferred, IsBehind, AllBehind, IsKeywordOf}
-use Rattle.sx_stuck_laws.specs.Kinds.{NotStuck, TellsOther}
-use Rattle.sx_stuck_laws.specs.Steady.{OwnHasCode, ImportedHasCode, HasCode, text, ours, imported, line, world_of, IsReadyOn, Steady, Ends}
+use Rattle.sx_stuck_laws.specs.Kinds.{TellsOther}
+use Rattle.sx_stuck_laws.specs.Steady.{OwnHasCode, HasCode, text, ours, imported, line, world_of, IsReadyOn, Steady, Ends}
 use Rattle.sx_stuck_laws.proofs.Behind.{one_place, same_record, Stands, stands, name_of, defined_here, keyword_there, DefinedIn, defined_in, Free, line_apart}
-use Rattle.sx_stuck_laws.proofs.Fewer.{FindsOf, ready_fewer}
+use Rattle.sx_stuck_laws.proofs.Fewer.{ready_fewer}
 use Rattle.sx_stuck_laws.proofs.Mentioned.{is_reference, with_there, with_cases}
 use Rattle.sx_stuck_laws.proofs.Told.{told-eval, told-lines}
 

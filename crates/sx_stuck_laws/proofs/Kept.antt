@@ -1,5 +1,5 @@
 -- Which keywords are kept after an action of the stage: those that were, and at most the one that it is about.
-use Rattle.std.proofs.Common.{◌≡◌, List, [], ◌∷◌, Option, Some, None, Result, Ok, Err, refl, sym, ap, subst, ◌∙◌, inl, inr}
+use Rattle.std.proofs.Common.{◌≡◌, List, Option, Some, None, Result, Ok, Err, refl, sym, ap, subst, ◌∙◌, inl, inr}
 use Rattle.std.specs.Prelude.{◌⊎◌}
 use Rattle.sx_base.specs.Act.{after, give}
 use Rattle.sx_base.specs.Gives.{◌>>=◌}
@@ -17,7 +17,6 @@ use Rattle.sx_stage.specs.Uses.{used}
 use Rattle.sx_stage.specs.declared.keyword.Keyword.{Keyword}
 use Rattle.sx_stage.specs.declared.keyword.Keyword.TheVariants as keyword
 use Rattle.sx_stage_laws.specs.Grows.{By}
-use Rattle.sx_stage_laws.specs.Uses.{OnlyCounts, CalledOn}
 use Rattle.sx_stage_laws.proofs.Calling.{uses_drop}
 use Rattle.sx_stage_laws.proofs.Growing.{Stays, stays_transformer}
 use Rattle.sx_stuck_laws.proofs.Known.{put, put_same, put_other, label_cases}

@@ -1,5 +1,5 @@
 -- What is known of keywords after something was put down of one.
-use Rattle.std.proofs.Common.{◌≡◌, Bool, true, false, List, [], ◌∷◌, Some, None, Option, refl, sym, ◌∙◌, ap, inl, inr, if◌then◌else◌}
+use Rattle.std.proofs.Common.{◌≡◌, Bool, true, false, List, [], ◌∷◌, Some, None, refl, sym, ◌∙◌, ap, inl, inr, if◌then◌else◌}
 use Rattle.std.specs.Prelude.{cond, ◌⊎◌}
 use Rattle.indexmap.specs.IndexMap.{insert_entry}
 use Rattle.sx_base.specs.declared.name.Label.{Label}

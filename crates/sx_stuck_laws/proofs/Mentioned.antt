@@ -1,5 +1,5 @@
 -- References are what is mentioned and not bound, and the libraries of an expression are those of its references.
-use Rattle.std.proofs.Common.{◌≡◌, Bool, true, false, List, [], ◌∷◌, ◌++◌, cond, refl, sym, ap, subst, ◌∙◌, inl, inr}
+use Rattle.std.proofs.Common.{◌≡◌, Bool, true, false, List, [], ◌∷◌, ◌++◌, refl, sym, ap, subst, ◌∙◌, inl, inr}
 use Rattle.std.specs.Prelude.{◌||◌, ◌⊎◌, not, if◌then◌else◌}
 use Rattle.std.proofs.lemmas.List.Folds.{list_any-append}
 use Rattle.sx_base.specs.Same.{same_library, same_library_decides}
@@ -12,7 +12,7 @@ use Rattle.sx_core_laws.specs.Words.{Among}
 use Rattle.sx_core_laws.proofs.Decisions.{label_decides}
 use Rattle.sx_stage.specs.Libraries.{has_library, with_library, has_all, with_libraries_of, libraries_of}
 use Rattle.sx_stage_laws.proofs.Growing.{has_with}
-use Rattle.sx_whole_laws.proofs.Among.{among_first, among_second, among_parts}
+use Rattle.sx_whole_laws.proofs.Among.{among_first, among_second}
 
 -- Labels.
 

@@ -1,5 +1,5 @@
 -- What primitives and templates are refused for, and what a value that is read as syntax: never for cells that don't fit.
-use Rattle.std.proofs.Common.{◌≡◌, ℕ, zero, suc, List, [], ◌∷◌, ◌++◌, Option, Some, None, Bool, true, false, Result, Ok, Err, refl, subst, nat_le, length, ◌+◌, ◌-◌, ◌^◌, if◌then◌else◌}
+use Rattle.std.proofs.Common.{◌≡◌, ℕ, zero, suc, List, [], ◌∷◌, ◌++◌, Option, Some, None, Bool, true, false, Result, Ok, Err, refl, subst, nat_le, length, ◌+◌, ◌-◌, if◌then◌else◌}
 use Rattle.std.specs.Prelude.{nat_eq, ◌==◌}
 use Rattle.sx_base.specs.Gives.{◌>>=◌}
 use Rattle.sx_base.specs.declared.atom.Atom.TheVariants as a

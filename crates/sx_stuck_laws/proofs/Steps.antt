@@ -10,8 +10,7 @@ use Rattle.sx_base.specs.declared.name.FrameNo.{FrameNo}
 use Rattle.sx_base.specs.declared.name.Label.{Label}
 use Rattle.sx_base.specs.declared.name.Mark.{Mark}
 use Rattle.sx_base.specs.declared.span.Span.{Span}
-use Rattle.sx_region.specs.declared.region.Place.{Place}
-use Rattle.sx_tree.specs.Changes.{enter, leave}
+use Rattle.sx_tree.specs.Changes.{enter}
 use Rattle.sx_tree.specs.Tree.{Tree}
 use Rattle.sx_core.specs.Core.{PlainCore}
 use Rattle.sx_core.specs.References.{references}
@@ -25,29 +24,28 @@ use Rattle.sx_value.specs.declared.value.Value.{Value}
 use Rattle.sx_value.specs.declared.value.Value.TheVariants as value
 use Rattle.sx_value.specs.declared.cell.Cell.{Cell}
 use Rattle.sx_value.specs.declared.cell.Cell.TheVariants as cell
-use Rattle.sx_eval.specs.Codes.{code_at}
 use Rattle.sx_eval.specs.State.{Outcome, done, faulted, unfit}
 use Rattle.sx_whole_laws.specs.MadeReady.{AreNew}
-use Rattle.sx_whole_laws.specs.WholeWorld.{ValueReady, WholeWorld, WholeEnding}
+use Rattle.sx_whole_laws.specs.WholeWorld.{WholeEnding}
 use Rattle.sx_whole_laws.proofs.Among.{among_first, among_parts}
 use Rattle.sx_whole_laws.proofs.Stuck.{applied_never_stuck}
 use Rattle.sx_stage.specs.Libraries.{has_library, has_all, libraries_of, wanted}
 use Rattle.sx_stage.specs.Running.{state_on, ended_at, outcome_of_call, evaluate, call, evaluate_library, evaluate_wanted, evaluate_all, need}
 use Rattle.sx_stage.specs.Stage.{PlainStage, Does, fresh_mark, keyword_at, with_keyword, not_transformer}
 use Rattle.sx_stage.specs.Transformers.{is_variable, is_transformer, transformer_only, transformer, begin_keyword, finish_keyword, value_in, import_keyword, value_or, keyword_value, is_variable_transformer}
-use Rattle.sx_stage.specs.Uses.{procedure_in, call_procedure, tree_at, read_answer, transform, cut, transform_and_cut, transform_marked, used}
+use Rattle.sx_stage.specs.Uses.{procedure_in, call_procedure, tree_at, read_answer, transform, transform_and_cut, transform_marked, used}
 use Rattle.sx_stage.specs.declared.keyword.Keyword.{Keyword}
 use Rattle.sx_stage.specs.declared.keyword.Keyword.TheVariants as keyword
 use Rattle.sx_stage_laws.specs.Grows.{IsNotKept}
-use Rattle.sx_stage_laws.specs.Reached.{Reached, mentioned, further, RefersBack}
-use Rattle.sx_stage_laws.specs.Uses.{OnlyCounts, CalledOn}
+use Rattle.sx_stage_laws.specs.Reached.{mentioned, further, RefersBack}
+use Rattle.sx_stage_laws.specs.Uses.{OnlyCounts}
 use Rattle.sx_stage_laws.proofs.Calling.{uses_drop}
 use Rattle.sx_stage_laws.proofs.Sweeping.{wanted_reached, reached_wanted}
-use Rattle.sx_stuck_laws.specs.Behind.{IsOfTexts, IsBehind, AllBehind, IsKeywordOf, IsImported, IsExpression}
-use Rattle.sx_stuck_laws.specs.Kinds.{NotStuck, TellsOther}
-use Rattle.sx_stuck_laws.specs.Steady.{OwnHasCode, ImportedHasCode, HasCode, text, ours, imported, line, world_of, IsReadyOn, Steady, Ends, EndsSteady, EndsReady}
-use Rattle.sx_stuck_laws.specs.Uses.{OnSteady, UsesNeverStuck, TransformersNeverStuck, AsksNeverStuck, BeginsNeverStuck, FinishesNeverStuck}
-use Rattle.sx_stuck_laws.proofs.Behind.{refers_back, Stands, stands, defined_here, DefinedIn, Free, expression_free, keyword_free}
+use Rattle.sx_stuck_laws.specs.Behind.{IsOfTexts, IsBehind, AllBehind, IsImported, IsExpression}
+use Rattle.sx_stuck_laws.specs.Kinds.{TellsOther}
+use Rattle.sx_stuck_laws.specs.Steady.{OwnHasCode, HasCode, text, ours, imported, line, world_of, IsReadyOn, Steady, Ends, EndsSteady, EndsReady}
+use Rattle.sx_stuck_laws.specs.Uses.{UsesNeverStuck, TransformersNeverStuck, AsksNeverStuck, BeginsNeverStuck, FinishesNeverStuck}
+use Rattle.sx_stuck_laws.proofs.Behind.{refers_back, stands, defined_here, Free, expression_free, keyword_free}
 use Rattle.sx_stuck_laws.proofs.Evaluating.{Provided, Went, evaluate_went, library_went, keyword_new, own_new}
 use Rattle.sx_stuck_laws.proofs.Known.{put, put_same, put_other, label_cases}
 use Rattle.sx_stuck_laws.proofs.Mentioned.{library_there, all_has}

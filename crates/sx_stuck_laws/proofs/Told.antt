@@ -1,5 +1,5 @@
 -- No evaluation ends with the fault of cells that don't fit, whatever the world.
-use Rattle.std.proofs.Common.{◌≡◌, ◌≤◌, ◌-◌, ◌+◌, ℕ, zero, suc, List, [], ◌∷◌, ◌++◌, Option, Some, None, Bool, true, false, Result, Ok, Err, length, drop, refl, sym, subst, nat_lt, if◌then◌else◌, arith}
+use Rattle.std.proofs.Common.{◌-◌, ◌+◌, ℕ, zero, suc, List, [], ◌∷◌, ◌++◌, Option, Some, None, Bool, true, false, Result, Ok, Err, length, nat_lt, if◌then◌else◌}
 use Rattle.sx_base.specs.Datum.{PlainDatum}
 use Rattle.sx_base.specs.declared.fault.Bare.{Bare}
 use Rattle.sx_base.specs.declared.name.CodeNo.{CodeNo}
@@ -32,8 +32,7 @@ use Rattle.sx_eval.specs.Spread.{Call, apply_args, parted, with_elements, with_f
 use Rattle.sx_eval.specs.State.{State, Outcome, done, faulted, unfit, Go, then_do, charged, made, store}
 use Rattle.sx_eval.specs.Variables.{found, assigned, all_assigned}
 use Rattle.sx_eval.specs.Meaning.{Evaluator, answer_made, primitive_called, variable_read, variable_value, quoted_value, by_case, by_code, procedure_called, text_value_called, by_text, op_called, value_called, first_called, applied, operands, in_sequence, one_arm, two_arms, in_turn, at_once, by_letrec, fender_passed, output_given, fender_asked, on_match, tried, expressed, unrolled, evaluates, eval_of}
-use Rattle.sx_eval_laws.specs.Runs.{Everywhere}
-use Rattle.sx_stuck_laws.specs.Kinds.{TellsOther, AlwaysTellsOther, EvaluationsTellOther}
+use Rattle.sx_stuck_laws.specs.Kinds.{TellsOther, EvaluationsTellOther}
 use Rattle.sx_stuck_laws.proofs.Refusals.{Tells, tells-delta, tells-instance, tells-measure}
 use Rattle.sx_template.specs.Binds.{unbound}
 

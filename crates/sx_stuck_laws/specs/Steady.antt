@@ -13,7 +13,7 @@ use Rattle.sx_core_laws.specs.Records.{defined}
 use Rattle.sx_core_laws.specs.Follows.{line_cores}
 use Rattle.sx_value.specs.Cells.{is_found}
 use Rattle.sx_value.specs.declared.value.Value.{Value}
-use Rattle.sx_eval.specs.Codes.{Codes, code_at}
+use Rattle.sx_eval.specs.Codes.{code_at}
 use Rattle.sx_eval.specs.Setting.{PlainSetting}
 use Rattle.sx_whole_laws.specs.Evaluated.{AreFound}
 use Rattle.sx_whole_laws.specs.WholeWorld.{ValueReady, WholeWorld}
