@@ -67,7 +67,7 @@ record Ends (own : LibName) (given : List Label) (r : LibRecord) (v : State) : T
 
 module _ (own : LibName) (given : List Label) (go : Inside) (spares : Spares own given go) where
   -- the exports leave it so
-  exports-same : (s t : State) → SameScope s t → Begins own given s → Onward own given s t
+  pub exports-same : (s t : State) → SameScope s t → Begins own given s → Onward own given s t
   exports-same s t h b =
       let up : s.names.number ≤ t.names.number = let e = ap (λ (n : Named). n.number) h.names in omega (arith, e) in
       let less = kept-less own given s t up (λ k c o e. subst (λ (ks : List (Label × Keyword)). Known ks k c) h.keywords e) b.kept in (
@@ -99,7 +99,7 @@ module _ (own : LibName) (given : List Label) (go : Inside) (spares : Spares own
       (spares-splice own given go spares (body_at at start.library) 0 begun (map (stamp at.frame) forms) start (λ e. refl) b tt)
       (λ d t g. ends-finished at es d t g.0.0 g.1)
 
-started-begins : (own : LibName) (records : List LibRecord) (imports : List (List ℕ × Label)) (codes : Codes) → IsReady own records → Begins own (flat_map defined records) (started own records imports codes)
+pub started-begins : (own : LibName) (records : List LibRecord) (imports : List (List ℕ × Label)) (codes : Codes) → IsReady own records → Begins own (flat_map defined records) (started own records imports codes)
 unfolding started
 started-begins own records imports codes h = record {
   sound = started-sound own records imports codes h;

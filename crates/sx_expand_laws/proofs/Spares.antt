@@ -137,15 +137,15 @@ module _ (own : LibName) (given : List Label) where
     -- Keywords.
 
     -- the expression of a keyword
-    abbrev Expressed : State → PlainCore → State → Type 0
+    abbrev pub Expressed : State → PlainCore → State → Type 0
     Expressed s c w = O s w × (C w c × Good own w.bindings [] given s.names.number w.names.number c)
 
-    has-made : (w : State) (a b : ℕ) (c : PlainCore) (n : Named) → Good own w.bindings [] given a b c → Has c n → Made own a b n
+    pub has-made : (w : State) (a b : ℕ) (c : PlainCore) (n : Named) → Good own w.bindings [] given a b c → Has c n → Made own a b n
     has-made w a b c n h (inl x) = each-at (λ (l : Label). Made own a b l.0) (binders c) (as_label n) h.binders.made x
     has-made w a b c n h (inr x) = each-at (λ (m : CodeNo). Made own a b m.0) (code_numbers c) (as_code n) h.inner.codes.made x
 
     -- with nothing in scope
-    nothing-begins : (s : State) → B s → B (record s { scope = [] })
+    pub nothing-begins : (s : State) → B s → B (record s { scope = [] })
     nothing-begins s b = record {
       sound = record { here = b.sound.here; next = b.sound.next; defined = b.sound.defined; primitives = b.sound.primitives; in_scope = tt; numbered = b.sound.numbered };
       level = b.level;
@@ -161,7 +161,7 @@ module _ (own : LibName) (given : List Label) where
       patterns = tt;
     }
 
-    expresses : (place : Span) (level depth : ℕ) (t : Tree) (s : State) → B s → Gave (Expressed s) (apart (go.form place (level + 1) depth t) s)
+    pub expresses : (place : Span) (level depth : ℕ) (t : Tree) (s : State) → B s → Gave (Expressed s) (apart (go.form place (level + 1) depth t) s)
     expresses place level depth t s b =
         let z : State = record s { scope = [] } in
         let start = nothing-begins s b in

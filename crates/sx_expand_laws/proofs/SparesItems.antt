@@ -114,13 +114,13 @@ module _ (own : LibName) (given : List Label) where
         (λ e u h. defined depth d (waits.Procedure e.1 t ids forms) e s u refl k h)
     spares-definition depth d t _ s b k = tt
 
-    abbrev P : {A : Type 0} → State → Taken × A → Type 0
+    abbrev pub P : {A : Type 0} → State → Taken × A → Type 0
     P u p = W u p.0
 
     waits-so : (depth : ℕ) (d : Taken) (t : Tree) (s : State) → W s d → W s (with_expression at depth d t)
     waits-so depth d t s k = labels-more s d.waiting (waiting_at at depth (waits.Expression t)) k tt
 
-    spares-plan : (depth : ℕ) (d : Taken) (t : Tree) (s : State) → B s → W s d → Gave (Gives own given (P {A = Item}) s) (item_plan at depth d t s)
+    pub spares-plan : (depth : ℕ) (d : Taken) (t : Tree) (s : State) → B s → W s d → Gave (Gives own given (P {A = Item}) s) (item_plan at depth d t s)
     spares-plan depth d t s b k = item-cases (W s) (Gives own given (P {A = Item}) s) at depth s (λ e id j. j) (λ e x j. (onward-self own given s b, waits-so depth e x s j))
         (λ e x y j. gave-after (Gives own given W s) (Gives own given (P {A = Item}) s) (define_item at depth e x y s) (λ z. give (z, items.Nothing)) (spares-definition depth e x y s b j) (λ z u l. l))
         (λ e i j. (onward-self own given s b, j)) d t k
@@ -134,7 +134,7 @@ module _ (own : LibName) (given : List Label) where
         by true = tt
         by false = h
 
-    defined-told : (done : Taken) (t : Tree) (b : BindingSpec) (s : State) → Gave (λ x u. Tells s.keywords u.keywords) (define_keyword at done t b s)
+    pub defined-told : (done : Taken) (t : Tree) (b : BindingSpec) (s : State) → Gave (λ x u. Tells s.keywords u.keywords) (define_keyword at done t b s)
     unfolding define_keyword
     defined-told done t b s = gave-if (λ x u. Tells s.keywords u.keywords) (done.has_expression && not (is_mixed at.kind)) _ _ (λ e. tt)
         (λ e. gave-after (λ x u. Tells s.keywords u.keywords) (λ x u. Tells s.keywords u.keywords) (bind_keyword at.frame at.place at.level b s) (λ x s'. after (keyword_in_time at done b.id s') (λ _. give x))
@@ -183,17 +183,17 @@ module _ (own : LibName) (given : List Label) where
         gave-less (Gives own given (λ v (p : Taken × ItemStep). W v p.0) u) (Gives own given (λ v (p : Taken × ItemStep). W v p.0) s) (set_item_step at depth d t l b u)
         (set-spares at d t l b u low o.0 (unspent-all own s u (taken_labels d) o.1 k)) (λ p v g. (onward-then own given s u v o g.0, g.1)))
 
-    step-spares : (at : BodyAt) (d : Taken) (t : Tree) (s : State) → (is_top at.kind ≡ true → at.level ≡ 0) → B s → W s d → Gave (Gives own given (λ u (p : Taken × ItemStep). W u p.0) s) (item_step rs at depth d t s)
+    pub step-spares : (at : BodyAt) (d : Taken) (t : Tree) (s : State) → (is_top at.kind ≡ true → at.level ≡ 0) → B s → W s d → Gave (Gives own given (λ u (p : Taken × ItemStep). W u p.0) s) (item_step rs at depth d t s)
     unfolding item_step
     step-spares at d t s low h k =
         goes own given (λ u (p : Taken × Item). W u p.0) (λ u (p : Taken × ItemStep). W u p.0) s (item_plan at depth d t s) (λ p. item_step_of rs at depth t p.0 p.1) (spares-plan at low depth d t s h k)
         (λ p u o w. steps-spare at t p.0 p.1 u low o.0 w)
 
     -- where the form stands is the same body
-    abbrev Settles : BodyAt → State → Taken × SettledItem → Type 0
+    abbrev pub Settles : BodyAt → State → Taken × SettledItem → Type 0
     Settles at u p = W u p.0 × IsPlaced at p.1.at
 
-    settle-spares : (left : ℕ) (at : BodyAt) (d : Taken) (t : Tree) (s : State) → (is_top at.kind ≡ true → at.level ≡ 0) → B s → W s d → Gave (Gives own given (Settles at) s) (settle_item_to rs left at depth d t s)
+    pub settle-spares : (left : ℕ) (at : BodyAt) (d : Taken) (t : Tree) (s : State) → (is_top at.kind ≡ true → at.level ≡ 0) → B s → W s d → Gave (Gives own given (Settles at) s) (settle_item_to rs left at depth d t s)
     unfolding settle_item_to
     settle-spares zero at d t s low h k =
         goes own given (λ u (p : Taken × ItemStep). W u p.0) (Settles at) s (item_step rs at depth d t s) (settle.item_by (λ done l. too_many t at.place) at t) (step-spares at d t s low h k) by

@@ -1,18 +1,19 @@
 -- Evaluation in a whole world, and calls there, keep it whole.
-use Rattle.std.proofs.Common.{◌≡◌, List, [], ◌∷◌, ◌++◌, Option, Some, None, refl, subst}
+use Rattle.std.proofs.Common.{◌≡◌, ℕ, List, [], ◌∷◌, ◌++◌, Option, Some, None, refl, subst}
 use Rattle.sx_base.specs.declared.name.Label.{Label}
 use Rattle.sx_region.specs.declared.region.Place.{Place}
+use Rattle.sx_core.specs.Core.{PlainCore}
 use Rattle.sx_value.specs.Cells.{Each}
 use Rattle.sx_value.specs.declared.value.Value.{Value}
 use Rattle.sx_value.specs.declared.cell.Cell.{Cell}
 use Rattle.sx_value.specs.declared.cell.Cell.TheVariants as cell
-use Rattle.sx_eval.specs.Codes.{code_at}
+use Rattle.sx_eval.specs.Codes.{Codes, code_at, with_codes}
 use Rattle.sx_eval.specs.Evals.{setting_of, state_of, evaluated}
 use Rattle.sx_eval.specs.Procedures.{text_number}
 use Rattle.sx_eval.specs.Setting.{PlainSetting}
-use Rattle.sx_eval.specs.State.{with_cell, next_place}
-use Rattle.sx_whole_laws.specs.Evaluated.{EvalsNeverStuck, CallsNeverStuck, ScopeThere, setting_for}
-use Rattle.sx_whole_laws.specs.Extends.{Extends}
+use Rattle.sx_eval.specs.State.{State, with_cell, next_place}
+use Rattle.sx_whole_laws.specs.Evaluated.{EvalsNeverStuck, CallsNeverStuck, ScopeThere, codes_of}
+use Rattle.sx_whole_laws.specs.Extends.{Stay, Extends}
 use Rattle.sx_whole_laws.specs.Ready.{FoundFrom, BoundFrom, ReadyIn}
 use Rattle.sx_whole_laws.specs.WholeWorld.{ValueReady, WholeWorld, WholeEnding}
 use Rattle.sx_whole_laws.proofs.Growth.{grows_refl}
@@ -36,24 +37,28 @@ with_codes_whole w v x e cells world =
     world_extended w v x cells world
     (subst (λ gs. Each (λ (e : Label × Value). ValueReady v cells e.1) gs) e (globals_later w v x cells cells (grows_refl cells) w.globals world.globals))
 
-pub evals_never_stuck : EvalsNeverStuck
-evals_never_stuck w c scope n world there stay ready = by_scope scope there ready
+-- an expression, after codes were added that give no number to another code
+pub expressions_never_stuck : (w : PlainSetting) (codes : Codes) (c : PlainCore) (scope : Option Place) (s : State) (n : ℕ) → WholeWorld w s.cells → ScopeThere s.cells scope → Stay w.codes codes
+    → ReadyIn (record w { codes = codes }) s.cells scope c → WholeEnding (record w { codes = codes }) (evaluated (record w { codes = codes }) c scope s n)
+expressions_never_stuck w codes c scope s n world there stay ready = by_scope scope there ready
   where
     v : PlainSetting
-    v = setting_for w c
+    v = record w { codes = codes }
 
-    whole : WholeWorld v w.cells.list
-    whole = with_codes_whole (setting_of w) v (record { codes = stay; globals = λ l h. h }) refl w.cells.list world
+    whole : WholeWorld v s.cells
+    whole = with_codes_whole w v (record { codes = stay; globals = λ l h. h }) refl s.cells world
 
-    by_scope : (o : Option Place) → ScopeThere w.cells.list o → ReadyIn v w.cells.list o c → WholeEnding v (evaluated v c o (state_of w) n)
-    by_scope (Some place) h r = never_stuck v c place (state_of w) n whole h r
+    by_scope : (o : Option Place) → ScopeThere s.cells o → ReadyIn v s.cells o c → WholeEnding v (evaluated v c o s n)
+    by_scope (Some place) h r = never_stuck v c place s n whole h r
     by_scope None h r =
-        let s = state_of w in
         let first = cell.Scope [] None in
         let new = s.cells ++ first ∷ [] in
         never_stuck v c (next_place s) (with_cell first s) n (first_scope_added v s.cells whole) (has_added s.cells first refl)
         (ready_map v v (λ number code k. k) (FoundFrom v s.cells None) (FoundFrom v new (Some (next_place s))) (BoundFrom s.cells None) (BoundFrom new (Some (next_place s)))
         (scope_finds_all v s.cells [] None) (scope_binds v s.cells [] None) c r)
+
+pub evals_never_stuck : EvalsNeverStuck
+evals_never_stuck w c scope n world there stay ready = expressions_never_stuck (setting_of w) (with_codes c (codes_of w)) c scope (state_of w) n world there stay ready
 
 pub calls_never_stuck : CallsNeverStuck
 calls_never_stuck w f args n world r = applied_never_stuck (setting_of w) f args (state_of w) n world r

@@ -14,14 +14,15 @@ use Rattle.sx_value.specs.Cells.{Each, VariableFits, is_found}
 use Rattle.sx_value.specs.declared.value.Value.{Value}
 use Rattle.sx_value.specs.declared.cell.Cell.{Cell}
 use Rattle.sx_value.specs.declared.cell.Cell.TheVariants as cell
+use Rattle.sx_eval.specs.Codes.{Codes}
 use Rattle.sx_eval.specs.Evals.{setting_of, state_of}
-use Rattle.sx_eval.specs.Lines.{defined, lines_from, with_value, with_values, with_values_in}
+use Rattle.sx_eval.specs.Lines.{defined, with_lines, lines_from, with_value, with_values, with_values_in}
 use Rattle.sx_eval.specs.Meaning.{eval_of}
 use Rattle.sx_eval.specs.Setting.{PlainSetting}
 use Rattle.sx_eval.specs.State.{State, Outcome, done, faulted, unfit, then_do, store, with_cell, next_place}
 use Rattle.sx_eval.specs.Variables.{Entries, entry_in, set_entry, cell_with, assigned_in, assigned}
-use Rattle.sx_whole_laws.specs.Evaluated.{lines_labels, LinesReady, setting_for_lines, with_globals_from, LeavesLibrary, LibraryEnding, LibrariesNeverStuck}
-use Rattle.sx_whole_laws.specs.Extends.{Extends}
+use Rattle.sx_whole_laws.specs.Evaluated.{codes_of, lines_labels, LinesReady, LibraryReady, with_globals_from, LeavesLibrary, LibraryEnding, LibrariesNeverStuck}
+use Rattle.sx_whole_laws.specs.Extends.{Stay, Extends}
 use Rattle.sx_whole_laws.specs.Grows.{has_value, Grows}
 use Rattle.sx_whole_laws.specs.PartsReady.{EndsWell}
 use Rattle.sx_whole_laws.specs.Ready.{Variables, PatternVariables, Besides, is_one_of, FoundFrom, BoundFrom}
@@ -297,11 +298,12 @@ defined_found l (line.Define m c ∷ ls) h = by_own (same_label l m) (defined_fo
     by_own false again k = again k
 defined_found l (line.Expr c ∷ ls) h = defined_found l ls h
 
-pub libraries_never_stuck : LibrariesNeverStuck
-libraries_never_stuck w ls n world stay ready =
-    let v = setting_for_lines w ls in
-    let s = state_of w in
-    let whole = with_codes_whole (setting_of w) v (record { codes = stay; globals = λ l h. h }) refl s.cells world in
+-- lines, after their codes were added
+pub lines_never_stuck : (w : PlainSetting) (codes : Codes) (ls : List Line) (s : State) (n : ℕ) → WholeWorld w s.cells → Stay w.codes codes → LibraryReady (record w { codes = codes }) s.cells ls
+    → LibraryEnding (record w { codes = codes }) (lines_labels ls) (length s.cells) (lines_from (eval_of (record w { codes = codes })) ls (next_place s) (with_cell (cell.Scope (defined ls) None) s) n)
+lines_never_stuck w codes ls s n world stay ready =
+    let v : PlainSetting = record w { codes = codes } in
+    let whole = with_codes_whole w v (record { codes = stay; globals = λ l h. h }) refl s.cells world in
     let c = cell.Scope (defined ls) None in
     let new = s.cells ++ c ∷ [] in
     let inner = next_place s in
@@ -313,3 +315,6 @@ libraries_never_stuck w ls n world stay ready =
     (lines_set v ls inner (with_cell c s) n there has all
     (each_of (λ l. IsThere new (length s.cells) l) (lines_labels ls)
     (λ l a. subst (λ o. IsTrue (entry_there l o)) (sym (slice_get-added s.cells c)) (defined_found l ls (one_of (lines_labels ls) l a)))))
+
+pub libraries_never_stuck : LibrariesNeverStuck
+libraries_never_stuck w ls n world stay ready = lines_never_stuck (setting_of w) (with_lines ls (codes_of w)) ls (state_of w) n world stay ready

@@ -111,7 +111,7 @@ own_passed : (e : PlainCore) (number : CodeNo) (codes : Codes) → (Among (own_n
 own_passed (procedure other cs plain) number codes h = passed number other (procedure_code other cs plain) codes (λ e. h (inl e))
 own_passed _ number codes h = refl
 
-all_passed : (es : List PlainCore) (number : CodeNo) (codes : Codes) → (Among (flat_map own_number es) number → ⊥) → code_at (added es codes) number ≡ code_at codes number
+pub all_passed : (es : List PlainCore) (number : CodeNo) (codes : Codes) → (Among (flat_map own_number es) number → ⊥) → code_at (added es codes) number ≡ code_at codes number
 all_passed [] number codes h = refl
 all_passed (e ∷ es) number codes h =
     all_passed es number (own_added e codes) (λ a. h (among_second (own_number e) (flat_map own_number es) number a))

@@ -54,7 +54,7 @@ pub well_made_ready : (v : PlainSetting) (F : Variables) (G : PatternVariables) 
 well_made_ready v F G ls c f h m stand =
     made_ready v (own_variables c) F G ls [] (λ l a q. f l a) (λ l d a. absurd a) c h m.templates (well_made_sound v c m stand)
 
-found_global : (o : Option Value) → IsTrue (is_found o) → IsTrue (is_found (option_map (λ v. Some v) o))
+pub found_global : (o : Option Value) → IsTrue (is_found o) → IsTrue (is_found (option_map (λ v. Some v) o))
 found_global None h = absurd (cc)
 found_global (Some v) h = refl
 
@@ -75,7 +75,7 @@ well_made_never_stuck w ls c n world globals closed m new =
 
 -- Records.
 
-numbers_of : (ls : List Line) → flat_map own_number (lines_parts ls) ≡ flat_map code_numbers (map line_core ls)
+pub numbers_of : (ls : List Line) → flat_map own_number (lines_parts ls) ≡ flat_map code_numbers (map line_core ls)
 numbers_of [] = refl
 numbers_of (l ∷ ls) = flat_map-append own_number (parts (line_core l)) (lines_parts ls) ∙ ap (λ ns. code_numbers (line_core l) ++ ns) (numbers_of ls)
 

@@ -1,0 +1,137 @@
+-- All forms are expanded safely, however deep they may nest.
+use Rattle.std.proofs.Common.{ℕ, zero, suc, Bool, true, false, List, None, refl, sym, subst, nat_lt}
+use Rattle.std.specs.List.{flat_map}
+use Rattle.sx_base.specs.Act.{after}
+use Rattle.sx_base.specs.declared.library.LibName.{LibName}
+use Rattle.sx_base.specs.declared.name.CodeNo.{CodeNo}
+use Rattle.sx_base.specs.declared.name.Label.{Label}
+use Rattle.sx_base.specs.declared.span.Span.{Span}
+use Rattle.sx_tree.specs.Tree.{Tree}
+use Rattle.sx_core.specs.declared.record.LibRecord.{LibRecord}
+use Rattle.sx_core_laws.specs.Records.{defined}
+use Rattle.sx_shapes.specs.At.{place_of}
+use Rattle.sx_standing.specs.State.{State}
+use Rattle.sx_standing.specs.Uses.{asks_variable}
+use Rattle.sx_heads.specs.Depth.{deeper}
+use Rattle.sx_heads.specs.Plan.{plan_of}
+use Rattle.sx_heads.specs.declared.plan.Plan.{Plan}
+use Rattle.sx_heads.specs.declared.plan.Plan.TheVariants as plans
+use Rattle.sx_expand.specs.Expression.{perform, perform_settled, form_at, inside}
+use Rattle.sx_expand.specs.Inside.{Inside}
+use Rattle.sx_expand.specs.Settle.{next_form, too_many, set_step, step_of, step, settled_by, settle_to, settle}
+use Rattle.sx_expand.specs.declared.settle.Step.{Step}
+use Rattle.sx_expand.specs.declared.settle.Step.TheVariants as steps
+use Rattle.sx_expand_laws.proofs.Plans.{plan-later}
+use Rattle.sx_expand_laws.proofs.SparesAll.{inside-spares}
+use Rattle.sx_stuck_laws.specs.Uses.{Around}
+use Rattle.sx_steady_laws.proofs.Bodies.{Runs, gives, application-runs, conditional-runs, set-runs, sequence-runs, case-runs, lambda-runs, cases-run, letrec-runs, syntax-case-runs, keywords-form-runs}
+use Rattle.sx_steady_laws.proofs.Items.{item-goes}
+use Rattle.sx_steady_laws.proofs.Keywords.{Holds}
+use Rattle.sx_steady_laws.proofs.OnStage.{asks-go, next-go}
+use Rattle.sx_steady_laws.proofs.Plans.{plan-light}
+use Rattle.sx_steady_laws.proofs.Quasi.{quasi-runs}
+use Rattle.sx_steady_laws.proofs.Sure.{Sure, sure-if}
+use Rattle.sx_steady_laws.proofs.Safe.{Safe, B, Goes, goes-self, goes-light, go}
+
+module _ (own : LibName) (texts : List CodeNo) (rs : List LibRecord) (x : Around own texts rs) where
+  abbrev S : State → Type 0
+  S = Safe own texts rs
+
+  abbrev Bs : State → Type 0
+  Bs = B own texts rs
+
+  abbrev R : {A : Type 0} → State → A → State → Type 0
+  R s a u = Goes own texts rs s u
+
+  -- Forms are settled.
+
+  module _ (level : ℕ) where
+    plan-goes : (place : Span) (t : Tree) (s : State) → Bs s → S s → Sure (R s) (plan_of place level t s)
+    plan-goes place t s b h = goes-light own texts rs s (plan_of place level t s) b (plan-light own texts rs place level t s h) (plan-later own place level s b.sound.next t)
+
+    set-goes : (place : Span) (t : Tree) (l : Label) (id : Tree) (c : Bool) (s : State) → Bs s → S s → Sure (R s) (set_step place t l id c s)
+    set-goes place t l id true s b h = goes-self own texts rs s b h
+    set-goes place t l id false s b h = tt
+
+    steps-go : (place : Span) (t : Tree) (p : Plan) (s : State) → Bs s → S s → Sure (R s) (step_of rs place t p s)
+    steps-go place t (plans.Done c) s b h = goes-self own texts rs s b h
+    steps-go place t (plans.Call operator operands) s b h = goes-self own texts rs s b h
+    steps-go place t (plans.Conditional test consequent other) s b h = goes-self own texts rs s b h
+    steps-go place t (plans.Assignment l value) s b h = goes-self own texts rs s b h
+    steps-go place t (plans.Sequence forms) s b h = goes-self own texts rs s b h
+    steps-go place t (plans.Lambda ids forms) s b h = goes-self own texts rs s b h
+    steps-go place t (plans.CaseLambda cs) s b h = goes-self own texts rs s b h
+    steps-go place t (plans.Letrec star bs forms) s b h = goes-self own texts rs s b h
+    steps-go place t (plans.Matching subject literals cs span) s b h = goes-self own texts rs s b h
+    steps-go place t (plans.Keywords recursive bs forms) s b h = goes-self own texts rs s b h
+    steps-go place t (plans.Quasi which template) s b h = goes-self own texts rs s b h
+    steps-go place t (plans.Use l) s b h = goes-self own texts rs s b h
+    steps-go place t (plans.SetUse l id) s b h =
+        go own texts rs s (asks_variable rs (place_of t place) l s) (set_step place t l id) (asks-go own texts rs x (place_of t place) l s b h) (λ c u g. set-goes place t l id c u g.onward.0 g.safe)
+
+    step-goes : (place : Span) (t : Tree) (s : State) → Bs s → S s → Sure (R s) (step rs place level t s)
+    unfolding step
+    step-goes place t s b h = go own texts rs s (plan_of place level t s) (step_of rs place t) (plan-goes place t s b h) (λ p u g. steps-go place t p u g.onward.0 g.safe)
+
+    settle-goes : (left : ℕ) (place : Span) (t : Tree) (s : State) → Bs s → S s → Sure (R s) (settle_to rs left place level t s)
+    unfolding settle_to
+    settle-goes zero place t s b h = go own texts rs s (step rs place level t s) (settled_by (λ l. too_many t place) place t) (step-goes place t s b h) by
+      where
+        by : (z : Step) (u : State) → Goes own texts rs s u → Sure (R u) (settled_by (λ l. too_many t place) place t z u)
+        by (steps.Plan p) u g = goes-self own texts rs u g.onward.0 g.safe
+        by (steps.Use l) u g = tt
+    settle-goes (suc left) place t s b h =
+        go own texts rs s (step rs place level t s) (settled_by (λ l s'. after (next_form rs left place t l None s') (settle_to rs left (place_of t place) level)) place t) (step-goes place t s b h)
+        (λ z u g. by z u g (λ y v c j. settle-goes left (place_of t place) y v c j))
+      where
+        by : (z : Step) (u : State) → Goes own texts rs s u → ((y : Tree) (v : State) → Bs v → S v → Sure (R v) (settle_to rs left (place_of t place) level y v))
+            → Sure (R u) (settled_by (λ l s'. after (next_form rs left place t l None s') (settle_to rs left (place_of t place) level)) place t z u)
+        by (steps.Plan p) u g next = goes-self own texts rs u g.onward.0 g.safe
+        by (steps.Use l) u g next =
+            go own texts rs u (next_form rs left place t l None u) (settle_to rs left (place_of t place) level) (next-go own texts rs x left place t l None u g.onward.0 g.safe) (λ y v j. next y v j.onward.0 j.safe)
+
+  -- A form.
+
+  module _ (inner : Inside) (holds : Holds own texts rs inner) where
+    performs : (place : Span) (level depth : ℕ) (t : Tree) (p : Plan) → Runs own texts rs x inner holds (perform inner place level depth t p)
+    unfolding perform
+    performs place level depth t (plans.Done c) = gives own texts rs x inner holds c
+    performs place level depth t (plans.Call operator operands) = application-runs own texts rs x inner holds place level (deeper depth) operator operands
+    performs place level depth t (plans.Conditional test consequent other) = conditional-runs own texts rs x inner holds place level (deeper depth) test consequent other
+    performs place level depth t (plans.Assignment l value) = set-runs own texts rs x inner holds place level (deeper depth) l value
+    performs place level depth t (plans.Sequence forms) = sequence-runs own texts rs x inner holds place level (deeper depth) forms
+    performs place level depth t (plans.Lambda ids forms) = lambda-runs own texts rs x inner holds place level (deeper depth) t ids forms
+    performs place level depth t (plans.CaseLambda cs) = cases-run own texts rs x inner holds place level (deeper depth) t cs
+    performs place level depth t (plans.Letrec star bs forms) = letrec-runs own texts rs x inner holds place level (deeper depth) t star bs forms
+    performs place level depth t (plans.Matching subject literals cs span) = syntax-case-runs own texts rs x inner holds place level (deeper depth) literals subject cs span
+    performs place level depth t (plans.Keywords recursive bs forms) = keywords-form-runs own texts rs x inner holds place level (deeper depth) recursive bs forms
+    performs place level depth t (plans.Quasi which template) = quasi-runs own texts rs x inner holds place level t (deeper depth) which template
+    performs place level depth t (plans.Use k) = λ s b h. tt
+    performs place level depth t (plans.SetUse l id) = λ s b h. tt
+
+    form-goes : (place : Span) (level depth : ℕ) (t : Tree) (s : State) → Bs s → S s → Sure (R s) (form_at inner place level depth t s)
+    unfolding form_at
+    form-goes place level depth t s b h =
+        sure-if (R s) (nat_lt 600 depth) _ (after (settle inner.earlier place level t s) (perform_settled inner level depth)) (λ e. tt)
+        (λ e. go own texts rs s (settle inner.earlier place level t s) (perform_settled inner level depth)
+        (subst (λ (qs : List LibRecord). Sure (R s) (settle qs place level t s)) (sym holds.earlier) (settle-goes level s.uses_left place t s b h))
+        (λ d u g. performs d.place level depth d.form d.plan u g.onward.0 g.safe))
+
+  pub inside-holds : (room : ℕ) → Holds own texts rs (inside rs room)
+  unfolding inside
+  inside-holds zero = record {
+    spares = inside-spares own (flat_map defined rs) rs zero;
+    earlier = refl;
+    form = λ place level depth t s b h. tt;
+    procedure = λ place level depth t ids forms s b h. tt;
+    item = λ at depth d t s low b h k. tt;
+  }
+  inside-holds (suc room) =
+      let holds = inside-holds room in
+      record {
+        spares = inside-spares own (flat_map defined rs) rs (suc room);
+        earlier = refl;
+        form = λ place level depth t s b h. form-goes (inside rs room) holds place level depth t s b h;
+        procedure = λ place level depth t ids forms s b h. case-runs own texts rs x (inside rs room) holds place level depth t ids forms s b h;
+        item = λ at depth d t s low b h k. item-goes own texts rs x (inside rs room) holds at depth d t s low b h k;
+      }

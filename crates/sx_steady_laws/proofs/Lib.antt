@@ -1,0 +1,17 @@
+pub mod Says
+pub mod TemplatesSay
+pub mod PatternsSay
+pub mod QuasisSay
+pub mod RecordFormsSay
+pub mod Sure
+pub mod Safe
+pub mod Binders
+pub mod Plans
+pub mod OnStage
+pub mod Keywords
+pub mod Bodies
+pub mod Quasi
+pub mod Items
+pub mod All
+pub mod Libraries
+pub mod Standing

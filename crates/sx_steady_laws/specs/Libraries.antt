@@ -1,0 +1,45 @@
+-- No expansion of a library gets stuck.
+use Rattle.std.specs.Prelude.{◌≡◌, List, [], Result, Ok, Err, ℕ, IsTrue}
+use Rattle.sx_base.specs.declared.fault.Fault.{Fault}
+use Rattle.sx_base.specs.declared.library.LibName.{LibName}
+use Rattle.sx_base.specs.declared.name.CodeNo.{CodeNo}
+use Rattle.sx_base.specs.declared.name.Label.{Label}
+use Rattle.sx_base.specs.declared.span.Span.{Span}
+use Rattle.sx_tree.specs.Tree.{Tree}
+use Rattle.sx_core.specs.declared.record.LibRecord.{LibRecord}
+use Rattle.sx_core_laws.specs.Words.{Each, Among}
+use Rattle.sx_core_laws.specs.Follows.{names_of}
+use Rattle.sx_value.specs.Cells.{is_found}
+use Rattle.sx_eval.specs.Codes.{Codes, code_at}
+use Rattle.sx_whole_laws.specs.WholeWorld.{WholeWorld}
+use Rattle.sx_expand.specs.Expanding.{ready, library_record}
+use Rattle.sx_expand_laws.specs.Ready.{IsReady}
+use Rattle.sx_expand_laws.specs.Serves.{IsThere}
+use Rattle.sx_stuck_laws.specs.Behind.{IsOfTexts, IsBehind, AllBehind}
+use Rattle.sx_stuck_laws.specs.Kinds.{NotStuck}
+
+-- The codes of the procedures that are texts: a world with them and nothing else is whole, and they are named as texts are.
+pub record AreTexts (codes : Codes) : Type 0 where
+  pub whole : WholeWorld (record { codes = codes; globals = []; frames = [] }) []
+  pub named : (n : CodeNo) → IsTrue (is_found (code_at codes n)) → IsOfTexts n.0.library
+
+-- where there is a fault, it isn't that of cells that don't fit
+abbrev pub IsNotStuck : {A : Type 0} → Result A Fault → Type 0
+IsNotStuck (Ok x) = Unit {0}
+IsNotStuck (Err f) = NotStuck f.kind
+
+-- A library or program whose name is new, behind records that stand behind one another. Nothing is asked of its imports and forms.
+abbrev pub ExpansionsNeverStuck : Type 0
+ExpansionsNeverStuck = (own : LibName) (path : List ℕ) (records : List LibRecord) (imports : List (List ℕ × Label)) (version : List ℕ) (place : Span)
+    (exports : List (List ℕ × Tree)) (forms : List Tree) (codes : Codes) → IsReady own records → AllBehind [] records → (IsOfTexts own → ⊥) → AreTexts codes
+    → IsNotStuck (library_record (ready own path records imports codes) records version place exports forms)
+
+-- The record that expansion gives stands behind them too, so the law applies to one library after another.
+abbrev pub RecordsStandBehind : Type 0
+RecordsStandBehind = (own : LibName) (path : List ℕ) (records : List LibRecord) (imports : List (List ℕ × Label)) (version : List ℕ) (place : Span)
+    (exports : List (List ℕ × Tree)) (forms : List Tree) (codes : Codes) (r : LibRecord) → IsReady own records → AllBehind [] records → (IsOfTexts own → ⊥)
+    → Each (λ (e : List ℕ × Label). IsThere records e.1.0.library) imports → library_record (ready own path records imports codes) records version place exports forms ≡ Ok r → IsBehind records r
+
+-- One that stands behind some records stands behind more, if none of them has its name.
+abbrev pub MoreStandBefore : Type 0
+MoreStandBefore = (few many : List LibRecord) (r : LibRecord) → ((q : LibRecord) → Among few q → Among many q) → (Among (names_of many) r.name → ⊥) → IsBehind few r → IsBehind many r

@@ -1,0 +1,9 @@
+pub mod Refusals
+pub mod Told
+pub mod Fewer
+pub mod Mentioned
+pub mod Behind
+pub mod Known
+pub mod Evaluating
+pub mod Steps
+pub mod Kept

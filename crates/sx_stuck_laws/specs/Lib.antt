@@ -1,0 +1,4 @@
+pub mod Kinds
+pub mod Behind
+pub mod Steady
+pub mod Uses

@@ -1,0 +1,20 @@
+//! Laws of steady stages. Each function here computes nothing: what it promises is the law.
+
+ghost use Rattle.sx_stuck_laws.specs.Kinds.{EvaluationsTellOther};
+ghost use Rattle.sx_stuck_laws.specs.Uses.{UsesNeverStuck, TransformersNeverStuck, AsksNeverStuck, BeginsNeverStuck, FinishesNeverStuck};
+
+/// Whatever the world, an evaluation that ends with a fault ends with another one than that of cells that don't
+/// fit.
+pub fn evaluations_tell_other_faults()
+    ensures { EvaluationsTellOther }
+{}
+
+/// On a steady stage no use of a keyword gets stuck, and the stage is steady afterwards. So it is where a keyword
+/// is asked for its transformer or for its kind, and where an own keyword begins and is finished.
+pub fn uses_never_get_stuck()
+    ensures uses { UsesNeverStuck }
+    ensures transformers { TransformersNeverStuck }
+    ensures asks { AsksNeverStuck }
+    ensures begins { BeginsNeverStuck }
+    ensures finishes { FinishesNeverStuck }
+{}
