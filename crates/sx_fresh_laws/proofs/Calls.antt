@@ -102,7 +102,7 @@ module _ (P : LeafContext → Type 0) where
 
     compared_ok : (r : Option Relation) (zs : List ℤ) → MadeOr (numbers.compared r zs)
     compared_ok None zs = tt
-    compared_ok (Some r) zs = said_made _
+    compared_ok (Some r) zs = tt
 
     first_ok : (op : ℕ) (zs : List ℤ) → MadeOr (numbers.of_first op zs)
     first_ok op [] = tt
@@ -111,11 +111,11 @@ module _ (P : LeafContext → Type 0) where
     few_ok : (op : ℕ) (zs : List ℤ) → MadeOr (numbers.of_few op zs)
     few_ok op [] = tt
     few_ok op (z ∷ []) =
-        made_if (op == 190) _ _ (said_made _)
-        (made_if (op == 147) _ _ (said_made _)
-        (made_if (op == 139) _ _ (said_made _)
-        (made_if (op == 145) _ _ (said_made _)
-        (made_if (op == 102) _ _ (said_made _)
+        made_if (op == 190) _ _ tt
+        (made_if (op == 147) _ _ tt
+        (made_if (op == 139) _ _ tt
+        (made_if (op == 145) _ _ tt
+        (made_if (op == 102) _ _ tt
         (made_if (op == 38) _ _ (whole_ok (pos (unsigned_abs z))) tt)))))
     few_ok op (x ∷ d ∷ []) = integer_ok (numbers.small_quotient op x d)
     few_ok op (x ∷ d ∷ y ∷ zs) = tt
@@ -209,7 +209,7 @@ module _ (P : LeafContext → Type 0) where
 
     texts_ok : (r : Option Relation) (ss : List (List ℕ)) → MadeOr (strings.texts_compared r ss)
     texts_ok None ss = tt
-    texts_ok (Some r) ss = said_made _
+    texts_ok (Some r) ss = tt
 
     strings_ok : (op : ℕ) (args : List Value) → MadeOr (strings_made op args cells)
     unfolding strings_made
@@ -221,12 +221,12 @@ module _ (P : LeafContext → Type 0) where
     -- Identifiers.
 
     leaves_ok : (op : ℕ) (frames : Scope) (t u : Tree) → MadeOr (identifiers.of_leaves op frames t u)
-    leaves_ok op frames t u = made_if (op == 219) _ _ (said_made _) (made_if (op == 220) _ _ (said_made _) tt)
+    leaves_ok op frames t u = made_if (op == 219) _ _ tt (made_if (op == 220) _ _ tt tt)
 
     identifier_ok : (op : ℕ) (args : List Value) (frames : Scope) → ValuesHold P args → MadeOr (identifier_made op args frames)
     unfolding identifier_made
     identifier_ok op [] frames r = tt
-    identifier_ok op (x ∷ []) frames r = made_if (op == 218) _ _ (said_made _) (made_if (op == 215) _ _ (made_if (basics.is_procedure x) _ _ r.0 tt) tt)
+    identifier_ok op (x ∷ []) frames r = made_if (op == 218) _ _ tt (made_if (op == 215) _ _ (made_if (basics.is_procedure x) _ _ r.0 tt) tt)
     identifier_ok op (x ∷ y ∷ []) frames r =
         some_made (identifiers.identifier x) _ (λ t. some_made (identifiers.identifier y) _ (λ u. leaves_ok op frames t u))
     identifier_ok op (x ∷ y ∷ z ∷ args) frames r = tt
@@ -370,16 +370,16 @@ module _ (P : LeafContext → Type 0) where
     kind_ok : (op : ℕ) (x : Value) → MadeOr (kind_made op x)
     unfolding kind_made
     kind_ok op x =
-        made_if (op == 141) _ _ (said_made _)
-        (made_if (op == 146) _ _ (said_made _)
-        (made_if (op == 140) _ _ (said_made _)
-        (made_if (op == 47) _ _ (said_made _)
-        (made_if (op == 177) _ _ (said_made _)
-        (made_if (op == 173) _ _ (said_made _)
-        (made_if (op == 88) _ _ (said_made _)
-        (made_if (op == 189) _ _ (said_made _)
-        (made_if (op == 143) _ _ (said_made _)
-        (made_if (op == 148) _ _ (said_made _)
+        made_if (op == 141) _ _ tt
+        (made_if (op == 146) _ _ tt
+        (made_if (op == 140) _ _ tt
+        (made_if (op == 47) _ _ tt
+        (made_if (op == 177) _ _ tt
+        (made_if (op == 173) _ _ tt
+        (made_if (op == 88) _ _ tt
+        (made_if (op == 189) _ _ tt
+        (made_if (op == 143) _ _ tt
+        (made_if (op == 148) _ _ tt
         (made_if (op == 118) _ _ (integer_kind_ok x) tt))))))))))
 
     basic_ok : (op : ℕ) (args : List Value) → ValuesHold P args → MadeOr (basic_made op args cells)
@@ -389,7 +389,7 @@ module _ (P : LeafContext → Type 0) where
         made_if (nat_le 51 op && nat_le op 80) _ _ (given_made (part 4 (basics.letters_of op) cells x) (part_holds 4 (basics.letters_of op) x r.0)) (kind_ok op x)
     basic_ok op (x ∷ y ∷ []) r =
         made_if (op == 90) _ _ ((r.0, tt), r.1.0)
-        (made_if (op == 98) _ _ (said_made _) (made_if (op == 100) _ _ (said_made _) tt))
+        (made_if (op == 98) _ _ tt (made_if (op == 100) _ _ tt tt))
     basic_ok op (x ∷ y ∷ z ∷ args) r = tt
 
     -- Elements of strings and vectors.
@@ -402,8 +402,8 @@ module _ (P : LeafContext → Type 0) where
     unfolding part_made
     part_ok op [] = tt
     part_ok op (x ∷ []) =
-        made_if (op == 166) _ _ (some_made (strings.string_of cells x) _ (λ s. natural_ok _))
-        (made_if (op == 185) _ _ (some_made (strings.vector_of cells x) _ (λ xs. natural_ok _)) tt)
+        made_if (op == 166) _ _ (some_made (strings.string_of cells x) _ (λ s. tt))
+        (made_if (op == 185) _ _ (some_made (strings.vector_of cells x) _ (λ xs. tt)) tt)
     part_ok op (x ∷ k ∷ []) =
         made_if (op == 167) _ _
         (some_made (strings.string_of cells x) _ (λ s. some_made (strings.index_below (length (chars s)) k) _ (λ i. char_given_ok (slice_get (chars s) i))))
@@ -488,7 +488,7 @@ module _ (P : LeafContext → Type 0) where
     list_ok : (op : ℕ) (args : List Value) → ValuesHold P args → MadeOr (list_made op args cells)
     unfolding list_made
     list_ok op [] r = tt
-    list_ok op (x ∷ []) r = made_if (op == 126) _ _ (said_made _) (some_values (list_elements cells x) _ (elements_hold P cells cells_hold x) (elements_ok op))
+    list_ok op (x ∷ []) r = made_if (op == 126) _ _ tt (some_values (list_elements cells x) _ (elements_hold P cells cells_hold x) (elements_ok op))
     list_ok op (x ∷ l ∷ []) r =
         some_values (list_elements cells l) _ (elements_hold P cells cells_hold l)
         (λ xs k. made_if (op == 205 || op == 204) _ _ (rest_ok l _ xs r.1.0)
@@ -500,7 +500,7 @@ module _ (P : LeafContext → Type 0) where
     equal_ok op [] r = tt
     equal_ok op (x ∷ []) r = tt
     equal_ok op (x ∷ y ∷ []) r =
-        made_if (op == 99) _ _ (said_made _)
+        made_if (op == 99) _ _ tt
         (some_values (list_elements cells y) _ (elements_hold P cells cells_hold y)
         (λ xs k. made_if (op == 203) _ _ (rest_ok y _ xs r.1.0)
         (made_if (op == 207) _ _ (entry_ok _ xs k) (made_if (op == 199) _ _ (without_ok _ xs k) tt))))

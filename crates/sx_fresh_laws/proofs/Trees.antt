@@ -4,7 +4,7 @@ use Rattle.sx_base.specs.declared.atom.Atom.TheVariants as a
 use Rattle.sx_base.specs.declared.fault.Bare.{Bare}
 use Rattle.sx_base.specs.declared.span.Span.{Span}
 use Rattle.sx_tree.specs.Context.{LeafContext}
-use Rattle.sx_tree.specs.Measures.{fits, within}
+use Rattle.sx_tree.specs.Measures.{fits, too_deep, within}
 use Rattle.sx_tree.specs.Tree.{Tree, atom, leaf, pair, vector, nil, chain, spanned, unspanned, is_list, rest_of, list_of, vector_of}
 use Rattle.sx_value.specs.Cells.{Each}
 use Rattle.sx_fresh_laws.specs.Leaves.{TreeHolds}
@@ -51,6 +51,6 @@ module _ (P : LeafContext → Type 0) where
   unfolding within
   within_holds t h = by_test (fits t)
     where
-      by_test : (b : Bool) → OkHolds (TreeHolds P) (if b then Ok t else Err _)
+      by_test : (b : Bool) → OkHolds (TreeHolds P) (if b then Ok t else Err too_deep)
       by_test true = h
       by_test false = tt

@@ -1,0 +1,5 @@
+pub mod Living
+pub mod States
+pub mod Keeping
+pub mod Uses
+pub mod Records
