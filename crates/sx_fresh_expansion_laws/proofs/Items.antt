@@ -3,6 +3,7 @@ use Rattle.std.proofs.Common.{◌≡◌, ◌≤◌, ℕ, Bool, true, false, List
 use Rattle.std.specs.Prelude.{◌||◌, ◌&&◌, not}
 use Rattle.sx_base.specs.Act.{after, give}
 use Rattle.sx_base.specs.declared.fault.Fault.{Fault}
+use Rattle.sx_base.specs.declared.fault.FaultKind.TheVariants as kind
 use Rattle.sx_base.specs.declared.library.LibName.{LibName}
 use Rattle.sx_base.specs.declared.name.Label.{Label}
 use Rattle.sx_base.specs.declared.name.Mark.{Mark}
@@ -16,7 +17,7 @@ use Rattle.sx_shapes.specs.declared.shape.Shape.{Shape}
 use Rattle.sx_shapes.specs.declared.shape.Shape.TheVariants as shapes
 use Rattle.sx_standing.specs.Binders.{bind_variable}
 use Rattle.sx_standing.specs.Standing.{standing_of, role_of}
-use Rattle.sx_standing.specs.State.{State}
+use Rattle.sx_standing.specs.State.{State, fault_word}
 use Rattle.sx_standing.specs.Uses.{bind_keyword}
 use Rattle.sx_standing.specs.declared.binders.BoundSpec.{BoundSpec}
 use Rattle.sx_standing.specs.declared.standing.Role.{Role}
@@ -88,7 +89,7 @@ module _ (own : LibName) (K : ℕ → Mark → Type 0) (P : ℕ → LeafContext 
     unfolding in_time
     in-time d id l s h k = by (any_changed false s (heads_like d id))
       where
-        by : (b : Bool) → (Gave own K P lives first) DefinedAt s (after (if b then _ else Ok (record d { moved = d.moved || any_changed true s (heads_like d id) }, s)) (λ taken. give (taken, l)))
+        by : (b : Bool) → (Gave own K P lives first) DefinedAt s (after (if b then fault_word kind.LateDefinition id id at.place s else Ok (record d { moved = d.moved || any_changed true s (heads_like d id) }, s)) (λ taken. give (taken, l)))
         by true = tt
         by false = ((state-self own K P lives first) s h, k)
 
@@ -125,7 +126,7 @@ module _ (own : LibName) (K : ℕ → Mark → Type 0) (P : ℕ → LeafContext 
     unfolding keyword_in_time
     keyword-in-time d id b s h k = by (d.moved || any_changed true s (heads_like d id))
       where
-        by : (c : Bool) → (Gave own K P lives first) {A = BoundSpec} (BoundHolds own K P lives first) s (after {A = Unit {0}} (if c then _ else Ok (tt, s)) (λ _. give b))
+        by : (c : Bool) → (Gave own K P lives first) {A = BoundSpec} (BoundHolds own K P lives first) s (after {A = Unit {0}} (if c then fault_word kind.LateDefinition id id at.place s else Ok (tt, s)) (λ _. give b))
         by true = tt
         by false = ((state-self own K P lives first) s h, k)
 

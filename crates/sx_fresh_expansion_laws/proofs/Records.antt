@@ -102,7 +102,7 @@ module _ (P : LeafContext → Type 0) (written : P blank) (by_records : P (recor
   NamesHold n = T n.name × (T n.constructor × T n.predicate)
 
   fixed-holds : (name id : Tree) → T name → T id → FieldHolds (fixed_field name id)
-  fixed-holds name id h k = (k, (like-holds name _ h, tt))
+  fixed-holds name id h k = (k, (like-holds name [] h, tt))
 
   immutable-holds : (name : Tree) (ts : List Tree) → T name → Ts ts → OptionHolds FieldHolds (immutable_field name ts)
   unfolding immutable_field
@@ -114,7 +114,7 @@ module _ (P : LeafContext → Type 0) (written : P blank) (by_records : P (recor
   mutable-holds : (name : Tree) (ts : List Tree) → T name → Ts ts → OptionHolds FieldHolds (mutable_field name ts)
   unfolding mutable_field
   mutable-holds name [] h k = tt
-  mutable-holds name (id ∷ []) h k = if-holds FieldHolds (is_leaf id) _ None (k.0, (like-holds name _ h, like-holds name _ h)) tt
+  mutable-holds name (id ∷ []) h k = if-holds FieldHolds (is_leaf id) _ None (k.0, (like-holds name [] h, like-holds name [] h)) tt
   mutable-holds name (id ∷ (get ∷ [])) h k = tt
   mutable-holds name (id ∷ (get ∷ (put ∷ []))) h k =
       if-holds FieldHolds (is_leaf id) _ None (if-holds FieldHolds (is_leaf get) _ None (if-holds FieldHolds (is_leaf put) _ None (k.0, (k.1.0, k.1.1.0)) tt) tt) tt
@@ -401,7 +401,7 @@ module _ (P : LeafContext → Type 0) (written : P blank) (by_records : P (recor
   names-hold : (t : Tree) → T t → OptionHolds NamesHold (names_of t)
   unfolding names_of
   names-hold t h =
-      if-holds NamesHold (is_leaf t) (Some (made_names t)) (if_some (proper_elements t) given_names) (h, (like-holds t _ h, like-holds t _ h))
+      if-holds NamesHold (is_leaf t) (Some (made_names t)) (if_some (proper_elements t) given_names) (h, (like-holds t [] h, like-holds t [] h))
       (some-holds Ts NamesHold (proper_elements t) given_names (proper-holds P t h) given-names-hold)
 
   only-id-holds : (ts : List Tree) → Ts ts → OptionHolds T (only_id ts)

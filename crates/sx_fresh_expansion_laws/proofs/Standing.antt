@@ -156,7 +156,7 @@ module _ (own : LibName) (K : ℕ → Mark → Type 0) (P : ℕ → LeafContext 
 
   -- what comes into scope goes
   pub gave-within : {A : Type 0} (W : ℕ → A → Type 0) (m : Does A) (s : State) → Gave W s (m s) → Gave W s (within m s)
-  gave-within W m s h = by (m s) h
+  gave-within {A} W m s h = by (m s) h
     where
       by : (r : Result (A × State) Fault) → Gave W s r → Gave W s (after r (leaving (length s.scope)))
       by (Ok p) k = (record { stage = k.0.stage; bindings = k.0.bindings }, k.1)
@@ -201,8 +201,8 @@ module _ (own : LibName) (K : ℕ → Mark → Type 0) (P : ℕ → LeafContext 
 
   bind-as-holds : (frame : FrameNo) (id : Tree) (place : Span) (level : ℕ) (top : Bool) (n : Named) (s : State) → F s → T s.names.number id → Gave Taken s (bind_as frame id place level top n s)
   bind-as-holds frame id place level top n s h k =
-      gave-after Taken Taken s (put_row id place frame (record { 0 = n }) s) _ (put-row-holds id place frame (record { 0 = n }) s h k)
-      (λ x t i y. gave-after Taken Taken t (put_variable (record { 0 = n }) (variable_for id level top s.index) t) (λ _. give (record { 0 = n })) (put-variable-holds (record { 0 = n }) (variable_for id level top s.index) t (state-then s t h i))
+      gave-after Taken (Taken {A = Label}) s (put_row id place frame (record { 0 = n }) s) _ (put-row-holds id place frame (record { 0 = n }) s h k)
+      (λ x t i y. gave-after Taken (Taken {A = Label}) t (put_variable (record { 0 = n }) (variable_for id level top s.index) t) (λ _. give (record { 0 = n })) (put-variable-holds (record { 0 = n }) (variable_for id level top s.index) t (state-then s t h i))
       (λ z u j w. (state-self u (state-then t u (state-then s t h i) j), tt)))
 
   pub variable-holds : (frame : FrameNo) (place : Span) (level : ℕ) (top : Bool) (id : Tree) (s : State) → F s → T s.names.number id → Gave Taken s (bind_variable frame place level top id s)

@@ -1,0 +1,11 @@
+pub mod Shapes
+pub mod Templates
+pub mod Patterns
+pub mod Records
+pub mod Quasi
+pub mod QuasiSyntax
+pub mod Changing
+pub mod Stages
+pub mod Standing
+pub mod Plans
+pub mod Items

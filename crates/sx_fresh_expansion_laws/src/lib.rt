@@ -1,0 +1,5 @@
+//! That the marks of an expansion are new when they are taken.
+#![tactic(auto)]
+
+/// Nothing yet.
+pub fn nothing() {}
