@@ -33,17 +33,17 @@ use Rattle.sx_heads.specs.declared.taken.Waiting.{Waiting}
 use Rattle.sx_heads.specs.declared.taken.Waits.{Waits}
 use Rattle.sx_heads.specs.declared.taken.Waits.TheVariants as waits
 use Rattle.sx_value.specs.Cells.{Each}
-use Rattle.sx_fresh_laws.proofs.Eachs.{OptionHolds, each_and, each_mapped}
+use Rattle.sx_fresh_laws.specs.Leaves.{OptionHolds}
+use Rattle.sx_fresh_laws.proofs.Eachs.{each_and, each_mapped}
 use Rattle.sx_fresh_laws.proofs.Trees.{OkHolds}
+use Rattle.sx_fresh_expansion_laws.specs.Forms.{WaitsHold}
 use Rattle.sx_fresh_expansion_laws.specs.Living.{Lives}
 use Rattle.sx_fresh_expansion_laws.proofs.Shapes.{FormalsHold, ShapeHolds, shape-holds}
 use Rattle.sx_fresh_expansion_laws.proofs.Standing.{F, From, T, Ts, tree-up, trees-up, option-up, state-self, state-then, Gave, gave-after, gave-if, SpecAt, BoundHolds, variable-holds, bind-keyword-holds}
 
 module _ (own : LibName) (K : ℕ → Mark → Type 0) (P : ℕ → LeafContext → Type 0) (lives : Lives own K P) (first : ℕ) where
   abbrev pub WaitsAt : ℕ → Waits → Type 0
-  WaitsAt n (waits.Variable l value) = OptionHolds ((T own K P lives first) n) value
-  WaitsAt n (waits.Procedure l t ids forms) = (T own K P lives first) n t × (FormalsHold (P n) ids × (Ts own K P lives first) n forms)
-  WaitsAt n (waits.Expression t) = (T own K P lives first) n t
+  WaitsAt n w = WaitsHold (P n) w
 
   abbrev pub WaitingAt : ℕ → Waiting → Type 0
   WaitingAt n w = WaitsAt n w.what

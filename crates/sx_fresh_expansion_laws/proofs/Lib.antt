@@ -9,3 +9,5 @@ pub mod Stages
 pub mod Standing
 pub mod Plans
 pub mod Items
+pub mod Knowing
+pub mod Taking

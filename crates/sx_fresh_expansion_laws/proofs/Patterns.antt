@@ -19,7 +19,8 @@ use Rattle.sx_pattern.specs.declared.compile.Compiled.{Compiled}
 use Rattle.sx_pattern.specs.declared.compile.PatternVariable.{PatternVariable}
 use Rattle.sx_value.specs.Cells.{Each}
 use Rattle.sx_fresh_laws.specs.Leaves.{TreeHolds, PatternHolds, PatternsHold}
-use Rattle.sx_fresh_laws.proofs.Eachs.{OptionHolds, each_and}
+use Rattle.sx_fresh_laws.specs.Leaves.{OptionHolds}
+use Rattle.sx_fresh_laws.proofs.Eachs.{each_and}
 
 -- the type of the parts so far, which its crate keeps to itself
 abbrev Given : {A B : Type 0} → (A → B) → Type 0

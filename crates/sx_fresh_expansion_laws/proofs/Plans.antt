@@ -34,7 +34,7 @@ use Rattle.sx_heads.specs.declared.plan.Plan.{Plan}
 use Rattle.sx_heads.specs.declared.plan.Plan.TheVariants as plans
 use Rattle.sx_value.specs.Cells.{Each}
 use Rattle.sx_fresh_laws.specs.Leaves.{TemplateHolds}
-use Rattle.sx_fresh_laws.proofs.Eachs.{OptionHolds}
+use Rattle.sx_fresh_laws.specs.Leaves.{OptionHolds}
 use Rattle.sx_fresh_laws.proofs.Trees.{OkHolds}
 use Rattle.sx_fresh_expansion_laws.specs.Living.{Lives}
 use Rattle.sx_fresh_expansion_laws.proofs.Shapes.{FormalsHold, LambdaHolds, PatternCaseHolds, ShapeHolds, proper-holds, shape-holds}

@@ -24,7 +24,8 @@ use Rattle.sx_quasi.specs.declared.word.Word.{Word}
 use Rattle.sx_quasi.specs.declared.word.Word.TheVariants as word
 use Rattle.sx_value.specs.Cells.{Each}
 use Rattle.sx_fresh_laws.specs.Leaves.{TreeHolds}
-use Rattle.sx_fresh_laws.proofs.Eachs.{OptionHolds, each_and, each_both, each_taken, each_dropped}
+use Rattle.sx_fresh_laws.specs.Leaves.{OptionHolds}
+use Rattle.sx_fresh_laws.proofs.Eachs.{each_and, each_both, each_taken, each_dropped}
 use Rattle.sx_fresh_laws.proofs.Trees.{OkHolds}
 use Rattle.sx_fresh_expansion_laws.proofs.Shapes.{then-holds, ok-if, some-holds, proper-holds}
 

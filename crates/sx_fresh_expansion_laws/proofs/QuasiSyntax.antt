@@ -25,7 +25,8 @@ use Rattle.sx_quasi.specs.declared.word.Reach.{Reach}
 use Rattle.sx_quasi.specs.declared.word.Reach.TheVariants as reached
 use Rattle.sx_value.specs.Cells.{Each}
 use Rattle.sx_fresh_laws.specs.Leaves.{TreeHolds}
-use Rattle.sx_fresh_laws.proofs.Eachs.{OptionHolds, each_and, each_taken, each_dropped}
+use Rattle.sx_fresh_laws.specs.Leaves.{OptionHolds}
+use Rattle.sx_fresh_laws.proofs.Eachs.{each_and, each_taken, each_dropped}
 use Rattle.sx_fresh_laws.proofs.Trees.{OkHolds, spanned_holds, list_of_holds, vector_of_holds, within_holds}
 use Rattle.sx_fresh_expansion_laws.proofs.Quasi.{TakenHolds, taken-holds, operand-holds}
 use Rattle.sx_fresh_expansion_laws.proofs.Shapes.{ok-if}

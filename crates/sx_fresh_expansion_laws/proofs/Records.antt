@@ -28,7 +28,8 @@ use Rattle.sx_records.specs.declared.clause.Uid.TheVariants as uid
 use Rattle.sx_records.specs.declared.names.RecordNames.{RecordNames}
 use Rattle.sx_value.specs.Cells.{Each}
 use Rattle.sx_fresh_laws.specs.Leaves.{TreeHolds}
-use Rattle.sx_fresh_laws.proofs.Eachs.{OptionHolds, each_and}
+use Rattle.sx_fresh_laws.specs.Leaves.{OptionHolds}
+use Rattle.sx_fresh_laws.proofs.Eachs.{each_and}
 use Rattle.sx_fresh_laws.proofs.Trees.{OkHolds, list_of_holds, vector_of_holds, within_holds}
 use Rattle.sx_fresh_expansion_laws.proofs.Shapes.{then-holds, ok-if, some-holds, if-holds, all-of-holds, proper-holds}
 

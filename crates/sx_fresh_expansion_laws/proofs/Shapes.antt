@@ -17,7 +17,8 @@ use Rattle.sx_shapes.specs.declared.shape.Shape.TheVariants as shapes
 use Rattle.sx_shapes.specs.declared.lists.Split.{Split}
 use Rattle.sx_value.specs.Cells.{Each}
 use Rattle.sx_fresh_laws.specs.Leaves.{TreeHolds}
-use Rattle.sx_fresh_laws.proofs.Eachs.{OptionHolds, each_and}
+use Rattle.sx_fresh_laws.specs.Leaves.{OptionHolds}
+use Rattle.sx_fresh_laws.proofs.Eachs.{each_and}
 use Rattle.sx_fresh_laws.proofs.Matches.{elements_of_tree}
 use Rattle.sx_fresh_laws.proofs.Trees.{OkHolds}
 

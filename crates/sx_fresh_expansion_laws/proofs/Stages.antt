@@ -46,7 +46,8 @@ use Rattle.sx_stage.specs.declared.fuel.TheConstants.{FUEL}
 use Rattle.sx_fresh_laws.specs.Below.{mark_named}
 use Rattle.sx_fresh_laws.specs.Leaves.{TreeHolds, ValueHolds, ValuesHold, VariableHolds, CellHolds, CellsHold, CoreHolds, CoresHold, InitsHold, CasesHold, ClausesHold, CodeHolds, CodesHold, GlobalsHold, LineHolds, LinesHold}
 use Rattle.sx_fresh_laws.specs.Names.{Rises, SettingHolds, StateHolds, OutcomeHolds}
-use Rattle.sx_fresh_laws.proofs.Eachs.{OptionHolds, each_at, each_and, each_taken, each_mapped}
+use Rattle.sx_fresh_laws.specs.Leaves.{OptionHolds}
+use Rattle.sx_fresh_laws.proofs.Eachs.{each_at, each_and, each_taken, each_mapped}
 use Rattle.sx_fresh_laws.proofs.Meaning.{holds-eval, holds-call, holds-lines}
 use Rattle.sx_fresh_laws.proofs.Read.{ReadHolds, read-holds}
 use Rattle.sx_fresh_laws.proofs.Variables.{looked_up, EntriesHold}

@@ -49,7 +49,8 @@ use Rattle.sx_standing.specs.declared.binders.BoundSpec.{BoundSpec}
 use Rattle.sx_template.specs.Compile as templates
 use Rattle.sx_value.specs.Cells.{Each}
 use Rattle.sx_fresh_laws.specs.Leaves.{TreeHolds, CoreHolds, TemplateHolds, PatternHolds}
-use Rattle.sx_fresh_laws.proofs.Eachs.{OptionHolds, each_and, each_mapped}
+use Rattle.sx_fresh_laws.specs.Leaves.{OptionHolds}
+use Rattle.sx_fresh_laws.proofs.Eachs.{each_and, each_mapped}
 use Rattle.sx_fresh_laws.proofs.Trees.{OkHolds}
 use Rattle.sx_fresh_laws.proofs.Variables.{looked_up}
 use Rattle.sx_fresh_laws.proofs.Wider.{tree_wider, core_wider}

@@ -20,7 +20,8 @@ use Rattle.sx_template.specs.Compile.{Context, variable_made, bound_made, label_
 use Rattle.sx_pattern.specs.Keywords.{is_ellipsis}
 use Rattle.sx_value.specs.Cells.{Each}
 use Rattle.sx_fresh_laws.specs.Leaves.{TreeHolds, TemplateHolds, ItemsHold}
-use Rattle.sx_fresh_laws.proofs.Eachs.{OptionHolds, each_and, each_both}
+use Rattle.sx_fresh_laws.specs.Leaves.{OptionHolds}
+use Rattle.sx_fresh_laws.proofs.Eachs.{each_and, each_both}
 use Rattle.sx_fresh_laws.proofs.Trees.{OkHolds, spanned_holds, unspanned_holds, list_of_holds, vector_of_holds, within_holds}
 
 -- The types of what is made of a form and of an item, which their crate keeps to itself. Of the first only what is said of it is

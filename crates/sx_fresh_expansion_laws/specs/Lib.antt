@@ -1,2 +1,5 @@
 pub mod Living
 pub mod States
+pub mod Forms
+pub mod Known
+pub mod Uses

@@ -43,7 +43,8 @@ use Rattle.sx_prims.specs.Strings.{part_made, unpacked_made, string_made, digits
 use Rattle.sx_prims.specs.Syntax as identifiers
 use Rattle.sx_prims.specs.Syntax.{identifier_made, temporaries_made}
 use Rattle.sx_fresh_laws.specs.Leaves.{TreeHolds, ValueHolds, ValuesHold, CellsHold}
-use Rattle.sx_fresh_laws.proofs.Eachs.{each_both, each_and, each_taken, each_reversed, OptionHolds}
+use Rattle.sx_fresh_laws.specs.Leaves.{OptionHolds}
+use Rattle.sx_fresh_laws.proofs.Eachs.{each_both, each_and, each_taken, each_reversed}
 use Rattle.sx_fresh_laws.proofs.Reading.{PairOr, ValueOr, ValuesOr, value_at, vector_at_holds, pair_holds, elements_hold, tail_holds}
 use Rattle.sx_fresh_laws.proofs.Trees.{OkHolds, within_holds, vector_of_holds, list_of_holds}
 

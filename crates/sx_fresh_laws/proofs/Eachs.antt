@@ -2,6 +2,7 @@
 use Rattle.std.proofs.Common.{◌≡◌, ℕ, zero, suc, List, [], ◌∷◌, ◌++◌, Option, Some, None, take, drop, reverse, map, sym, subst, slice_get}
 use mathlib.Core.List.{reverse-cons}
 use Rattle.sx_value.specs.Cells.{Each}
+use Rattle.sx_fresh_laws.specs.Leaves.{OptionHolds}
 
 pub each_both : {A : Type 0} (P : A → Type 0) (xs ys : List A) → Each P xs → Each P ys → Each P (xs ++ ys)
 each_both P [] ys h k = k
@@ -31,11 +32,6 @@ each_dropped P (suc n) (x ∷ xs) h = each_dropped P n xs h.1
 pub each_reversed : {A : Type 0} (P : A → Type 0) (xs : List A) → Each P xs → Each P (reverse xs)
 each_reversed P [] h = tt
 each_reversed {A} P (x ∷ xs) h = subst (λ (ys : List A). Each P ys) (sym (reverse-cons x xs)) (each_and P (reverse xs) x (each_reversed P xs h.1) h.0)
-
--- what holds of an element that may not be there
-abbrev pub OptionHolds : {A : Type 0} → (A → Type 0) → Option A → Type 0
-OptionHolds P None = Unit {0}
-OptionHolds P (Some x) = P x
 
 pub each_at : {A : Type 0} (P : A → Type 0) (xs : List A) (i : ℕ) → Each P xs → OptionHolds P (slice_get xs i)
 each_at P [] i h = tt

@@ -20,7 +20,8 @@ use Rattle.sx_template.specs.Lengths.{agree, or_none}
 use Rattle.sx_eval.specs.Instances.{Binds, with_bind, gathered, gathered_items}
 use Rattle.sx_eval.specs.Variables.{bind_found}
 use Rattle.sx_fresh_laws.specs.Leaves.{ValueHolds, ValuesHold, BindHolds, BindsHold, CellsHold, TemplateHolds, ItemsHold}
-use Rattle.sx_fresh_laws.proofs.Eachs.{OptionHolds, each_and}
+use Rattle.sx_fresh_laws.specs.Leaves.{OptionHolds}
+use Rattle.sx_fresh_laws.proofs.Eachs.{each_and}
 use Rattle.sx_fresh_laws.proofs.Matches.{AllBound}
 use Rattle.sx_fresh_laws.proofs.Storing.{StoredHolds, ValuesStored, pairs_hold, vector_holds}
 use Rattle.sx_fresh_laws.proofs.Trees.{OkHolds}

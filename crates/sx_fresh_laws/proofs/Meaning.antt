@@ -44,7 +44,8 @@ use Rattle.sx_eval.specs.Variables.{Entries, found, unset, assigned, all_assigne
 use Rattle.sx_fresh_laws.specs.Leaves.{ValueHolds, ValuesHold, VariableHolds, CellHolds, CellsHold, TemplateHolds, CoreHolds, CoresHold, InitsHold, CasesHold, ClausesHold, CodeHolds, CodesHold, GlobalsHold, LineHolds, LinesHold}
 use Rattle.sx_fresh_laws.specs.Names.{Rises, SettingHolds, StateHolds, OutcomeHolds}
 use Rattle.sx_fresh_laws.proofs.Calls.{AnswerOr, delta_ok}
-use Rattle.sx_fresh_laws.proofs.Eachs.{OptionHolds, each_both, each_and, each_dropped}
+use Rattle.sx_fresh_laws.specs.Leaves.{OptionHolds}
+use Rattle.sx_fresh_laws.proofs.Eachs.{each_both, each_and, each_dropped}
 use Rattle.sx_fresh_laws.proofs.Instances.{GatheredOr, gathered_hold, instance_holds}
 use Rattle.sx_fresh_laws.proofs.Matches.{AllBound, FoundOr, matched_holds}
 use Rattle.sx_fresh_laws.proofs.Reading.{ValuesOr, elements_hold}

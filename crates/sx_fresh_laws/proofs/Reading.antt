@@ -8,7 +8,8 @@ use Rattle.sx_value.specs.declared.cell.Cell.{Cell}
 use Rattle.sx_value.specs.declared.cell.Cell.TheVariants as cell
 use Rattle.sx_prims.specs.Chains.{pair_of, is_nil, chain_on, chain_to, chain, list_elements, then_tail, tail_after}
 use Rattle.sx_fresh_laws.specs.Leaves.{ValueHolds, ValuesHold, CellHolds, CellsHold}
-use Rattle.sx_fresh_laws.proofs.Eachs.{OptionHolds, each_at}
+use Rattle.sx_fresh_laws.specs.Leaves.{OptionHolds}
+use Rattle.sx_fresh_laws.proofs.Eachs.{each_at}
 
 module _ (P : LeafContext → Type 0) where
   abbrev pub PairOr : Option (Value × Value) → Type 0

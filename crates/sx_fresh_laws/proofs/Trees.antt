@@ -8,7 +8,7 @@ use Rattle.sx_tree.specs.Measures.{fits, too_deep, within}
 use Rattle.sx_tree.specs.Tree.{Tree, atom, leaf, pair, vector, nil, chain, spanned, unspanned, is_list, rest_of, list_of, vector_of}
 use Rattle.sx_value.specs.Cells.{Each}
 use Rattle.sx_fresh_laws.specs.Leaves.{TreeHolds}
-use Rattle.sx_fresh_laws.proofs.Eachs.{OptionHolds}
+use Rattle.sx_fresh_laws.specs.Leaves.{OptionHolds}
 
 abbrev pub OkHolds : {A E : Type 0} → (A → Type 0) → Result A E → Type 0
 OkHolds P (Ok x) = P x

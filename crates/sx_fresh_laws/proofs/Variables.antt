@@ -16,7 +16,8 @@ use Rattle.sx_value.specs.declared.cell.Cell.TheVariants as cell
 use Rattle.sx_eval.specs.Codes.{same_code, code_at}
 use Rattle.sx_eval.specs.Variables.{Entries, entry_in, bind_in, parent_in, upwards, here_or_up, found, bind_found, unset, set_entry, cell_with, assigned_in, assigned, all_assigned}
 use Rattle.sx_fresh_laws.specs.Leaves.{ValueHolds, ValuesHold, BindHolds, VariableHolds, CellHolds, CellsHold, CodeHolds, CodesHold, GlobalsHold}
-use Rattle.sx_fresh_laws.proofs.Eachs.{OptionHolds, each_at}
+use Rattle.sx_fresh_laws.specs.Leaves.{OptionHolds}
+use Rattle.sx_fresh_laws.proofs.Eachs.{each_at}
 
 -- what is found in a table
 pub looked_up : {K V : Type 0} (P : V → Type 0) (same : K → Bool) (es : List (K × V)) → Each (λ (e : K × V). P e.1) es → OptionHolds P (lookup same es)

@@ -21,6 +21,11 @@ use Rattle.sx_value.specs.declared.value.Value.TheVariants as value
 use Rattle.sx_value.specs.declared.cell.Cell.{Cell}
 use Rattle.sx_value.specs.declared.cell.Cell.TheVariants as cell
 
+-- of what may not be there
+abbrev pub OptionHolds : {A : Type 0} → (A → Type 0) → Option A → Type 0
+OptionHolds P None = Unit {0}
+OptionHolds P (Some x) = P x
+
 module _ (P : LeafContext → Type 0) where
   abbrev pub TreeHolds : Tree → Type 0
   TreeHolds (tree.atom s a) = Unit {0}
