@@ -11,3 +11,8 @@ pub mod Plans
 pub mod Items
 pub mod Knowing
 pub mod Taking
+pub mod Forms
+pub mod Inserts
+pub mod Settled
+pub mod Around
+pub mod Recorded

@@ -3,3 +3,5 @@ pub mod States
 pub mod Forms
 pub mod Known
 pub mod Uses
+pub mod Keeping
+pub mod RecordMarks
