@@ -15,10 +15,10 @@ use Rattle.sx_frames.specs.Scope.{Scope, same_frame, label_at, with_row, bound}
 use Rattle.std.specs.Prelude.{is_some}
 use Rattle.sx_scope.specs.Stands.{row_for}
 use Rattle.sx_value.specs.Cells.{Each}
-use Rattle.sx_fresh_laws.specs.Leaves.{TreeHolds}
+use Rattle.sx_fresh_laws.specs.Leaves.{OptionHolds, TreeHolds}
 use Rattle.sx_fresh_laws.proofs.Eachs.{each_and, each_mapped}
 use Rattle.sx_fresh_laws.proofs.Trees.{OkHolds}
-use Rattle.sx_fresh_expansion_laws.specs.Living.{ChangeMet, Lives, RowsHold}
+use Rattle.sx_fresh_expansion_laws.specs.Living.{IsChangeOf, Lives, RowsHold}
 
 -- Rows.
 
@@ -42,11 +42,11 @@ bound-holds K fs f r h k = by_there (is_some (label_at fs f r.symbol r.marks))
     by_there true = tt
     by_there false = with-row-holds K fs f r h k
 
-module _ (own : LibName) (K : ℕ → Mark → Type 0) (P : ℕ → LeafContext → Type 0) (lives : Lives own K P) where
+module _ (own : LibName) (K : ℕ → Mark → Type 0) (J : ℕ → FrameNo → Type 0) (P : ℕ → LeafContext → Type 0) (lives : Lives own K J P) where
   pub rise : (m n : ℕ) → m ≤ n → (c : LeafContext) → P m c → P n c
   rise m n le c h = lives.rises.later m n c le h
 
-  one-change : (n : ℕ) (x : Change) → ChangeMet K n x → (t : Tree) → TreeHolds (P n) t → TreeHolds (P n) (changed (x ∷ []) t)
+  one-change : (n : ℕ) (x : Change) → IsChangeOf (K n) (J n) x → (t : Tree) → TreeHolds (P n) t → TreeHolds (P n) (changed (x ∷ []) t)
   one-change n x k (atom s a) h = tt
   one-change n x k (leaf s y c) h = lives.changed n x c k h
   one-change n x k (pair s a d) h = (one-change n x k a h.0, one-change n x k d h.1)
@@ -55,15 +55,19 @@ module _ (own : LibName) (K : ℕ → Mark → Type 0) (P : ℕ → LeafContext 
   pub enter-holds : (n : ℕ) (m : Mark) (t : Tree) → K n m → TreeHolds (P n) t → TreeHolds (P n) (enter m t)
   enter-holds n m t k h = one-change n (change.Enter m) k t h
 
-  pub leave-holds : (n : ℕ) (m : Mark) (f : Option FrameNo) (t : Tree) → K n m → TreeHolds (P n) t → TreeHolds (P n) (leave m f t)
-  leave-holds n m f t k h = one-change n (change.Leave m f) k t h
+  pub leave-holds : (n : ℕ) (m : Mark) (f : Option FrameNo) (t : Tree) → K n m → OptionHolds (J n) f → TreeHolds (P n) t → TreeHolds (P n) (leave m f t)
+  leave-holds n m f t k j h = one-change n (change.Leave m f) (k, j) t h
 
-  pub stamp-holds : (n : ℕ) (f : FrameNo) (t : Tree) → TreeHolds (P n) t → TreeHolds (P n) (stamp f t)
-  stamp-holds n f t h = one-change n (change.Stamp f) tt t h
+  pub stamp-holds : (n : ℕ) (f : FrameNo) (t : Tree) → J n f → TreeHolds (P n) t → TreeHolds (P n) (stamp f t)
+  stamp-holds n f t j h = one-change n (change.Stamp f) j t h
 
-  pub stamps-hold : (n : ℕ) (f : FrameNo) (ts : List Tree) → Each (TreeHolds (P n)) ts → Each (TreeHolds (P n)) (map (stamp f) ts)
-  stamps-hold n f [] h = tt
-  stamps-hold n f (t ∷ ts) h = (stamp-holds n f t h.0, stamps-hold n f ts h.1)
+  pub stamps-hold : (n : ℕ) (f : FrameNo) (ts : List Tree) → J n f → Each (TreeHolds (P n)) ts → Each (TreeHolds (P n)) (map (stamp f) ts)
+  stamps-hold n f [] j h = tt
+  stamps-hold n f (t ∷ ts) j h = (stamp-holds n f t j h.0, stamps-hold n f ts j h.1)
+
+  pub frame-up : (m n : ℕ) → m ≤ n → (o : Option FrameNo) → OptionHolds (J m) o → OptionHolds (J n) o
+  frame-up m n le None h = tt
+  frame-up m n le (Some f) h = lives.frames m n f le h
 
   -- the marks of the row of a leaf; what is no leaf has none
   pub row-marks : (n : ℕ) (t : Tree) (l : Label) → TreeHolds (P n) t → Each (K n) (row_for t l).marks

@@ -1,5 +1,5 @@
 -- Known marks are such as may be met, and the mark of the next name is none of them.
-use Rattle.std.proofs.Common.{◌≡◌, ◌≤◌, ◌<◌, ◌⊎◌, ℕ, Bool, true, false, List, [], ◌∷◌, ◌++◌, drop, Option, None, Some, refl, sym, ap, ◌∙◌, subst, arith, inl, inr, if◌then◌else◌}
+use Rattle.std.proofs.Common.{◌≡◌, ◌≤◌, ◌<◌, ◌⊎◌, ℕ, Bool, true, false, List, [], ◌∷◌, ◌++◌, refl, sym, ap, ◌∙◌, subst, arith, inl, inr}
 use Rattle.std.specs.Prelude.{cond}
 use Rattle.sx_base.specs.Named.{Named}
 use Rattle.sx_base.specs.declared.library.LibName.{LibName}
@@ -7,16 +7,15 @@ use Rattle.sx_base.specs.declared.library.LibName.TheVariants as library
 use Rattle.sx_base.specs.declared.name.FrameNo.{FrameNo}
 use Rattle.sx_base.specs.declared.name.Label.{Label}
 use Rattle.sx_base.specs.declared.name.Mark.{Mark}
-use Rattle.sx_tree.specs.Context.{LeafContext, blank, entered, stamped, framed, unmarked, left, act}
+use Rattle.sx_tree.specs.Context.{LeafContext, blank}
 use Rattle.sx_tree.specs.Leaves.{contexts}
-use Rattle.sx_tree.specs.Marks.{same_mark, is_first}
+use Rattle.sx_tree.specs.Marks.{same_mark}
 use Rattle.sx_tree.specs.SameMarks.{same_mark_decides}
 use Rattle.sx_tree.specs.Tree as tree
 use Rattle.sx_tree.specs.Tree.{Tree}
-use Rattle.sx_tree.specs.declared.change.Change.{Change}
-use Rattle.sx_tree.specs.declared.change.Change.TheVariants as change
 use Rattle.sx_tree.specs.declared.stamp.Stamp.{Stamp}
 use Rattle.sx_frames.specs.Rows.{Row}
+use Rattle.sx_quasi.specs.QuasiSyntax.{core_mark}
 use Rattle.sx_frames.specs.Scope.{Scope}
 use Rattle.sx_hygiene_laws.specs.Binder.{IsOfOther, IsNew}
 use Rattle.sx_hygiene_laws.specs.Marked.{has_mark, StampedWithout, Lacks, Among, Untouched}
@@ -25,12 +24,15 @@ use Rattle.sx_stage.specs.Stage.{PlainStage}
 use Rattle.sx_standing.specs.State.{State, stage_of}
 use Rattle.sx_value.specs.Cells.{Each}
 use Rattle.sx_fresh_laws.specs.Leaves.{TreeHolds, ValueHolds, CellsHold, CodesHold, GlobalsHold}
-use Rattle.sx_fresh_laws.proofs.Eachs.{each_dropped, each_mapped}
+use Rattle.sx_fresh_laws.specs.Below.{mark_named}
+use Rattle.sx_fresh_laws.specs.Names.{temporary_context}
 use Rattle.sx_fresh_laws.proofs.Wider.{cells_wider, codes_wider, globals_wider}
-use Rattle.sx_fresh_expansion_laws.specs.Known.{IsKnown, HasKnown}
-use Rattle.sx_fresh_expansion_laws.specs.Living.{ChangeMet, Lives, RowsHold}
+use Rattle.sx_fresh_expansion_laws.specs.History.{HasKnownHistory}
+use Rattle.sx_fresh_expansion_laws.specs.Known.{IsKnownName, IsKnown, IsKnownFrame, HasKnown}
+use Rattle.sx_fresh_expansion_laws.specs.Living.{Lives, RowsHold}
 use Rattle.sx_fresh_expansion_laws.specs.States.{StageHolds, StateHolds}
 use Rattle.sx_fresh_expansion_laws.specs.Uses.{IsNewOn, IsNewIn}
+use Rattle.sx_fresh_expansion_laws.proofs.Having.{act-has, history-marks, beginning-has, act-follows, has-wider, history-wider}
 use Rattle.sx_fresh_expansion_laws.proofs.Stages.{keywords-wider}
 use Rattle.sx_fresh_expansion_laws.proofs.Standing.{bindings-wider}
 
@@ -41,50 +43,54 @@ module _ (libs : List LibName) (own : LibName) where
   abbrev P : ℕ → LeafContext → Type 0
   P n c = HasKnown libs own n c
 
-  known-later : (m n : ℕ) (x : Mark) → m ≤ n → K m x → K n x
-  known-later m n x le (inl a) = inl a
-  known-later m n x le (inr p) = inr (p.0, let lt = p.1 in omega (arith, lt, le))
+  abbrev J : ℕ → FrameNo → Type 0
+  J n f = IsKnownFrame libs own n f
 
-  marks-later : (m n : ℕ) → m ≤ n → (ms : List Mark) → Each (K m) ms → Each (K n) ms
-  marks-later m n le ms h = each_mapped (K m) (K n) (λ x k. known-later m n x le k) ms h
+  abbrev StampAt : ℕ → Stamp → Type 0
+  StampAt n t = J n t.frame × Each (K n) t.marks
+
+  name-later : (m n : ℕ) (x : Named) → m ≤ n → IsKnownName libs own m x → IsKnownName libs own n x
+  name-later m n x le (inl a) = inl a
+  name-later m n x le (inr p) = inr (p.0, let lt = p.1 in omega (arith, lt, le))
+
+  known-later : (m n : ℕ) (x : Mark) → m ≤ n → K m x → K n x
+  known-later m n x le h = name-later m n x.0 le h
+
+  frame-later : (m n : ℕ) (f : FrameNo) → m ≤ n → J m f → J n f
+  frame-later m n f le h = name-later m n f.0 le h
 
   has-later : (m n : ℕ) (c : LeafContext) → m ≤ n → P m c → P n c
-  has-later m n c le h = record {
-    marks = marks-later m n le c.marks h.marks;
-    stamps = each_mapped (λ (t : Stamp). Each (K m) t.marks) (λ (t : Stamp). Each (K n) t.marks) (λ t k. marks-later m n le t.marks k) c.stamps h.stamps;
-  }
+  has-later m n c le h = has-wider (K m) (K n) (J m) (J n) (λ x k. known-later m n x le k) (λ f k. frame-later m n f le k) c h
 
-  entered-has : (n : ℕ) (m : Mark) (c : LeafContext) → K n m → P n c → P n (entered m c)
-  entered-has n m c k h = record { marks = (k, h.marks); stamps = h.stamps }
+  history-later : (m n : ℕ) (c : LeafContext) → m ≤ n → HasKnownHistory libs own m c → HasKnownHistory libs own n c
+  history-later m n c le h = history-wider (K m) (K n) (J m) (J n) (λ x k. known-later m n x le k) (λ f k. frame-later m n f le k) c h
 
-  stamped-has : (n : ℕ) (f : FrameNo) (c : LeafContext) → P n c → P n (stamped f c)
-  stamped-has n f c h = record { marks = h.marks; stamps = (h.marks, h.stamps) }
-
-  framed-has : (n : ℕ) (f : Option FrameNo) (c : LeafContext) → P n c → P n (framed f c)
-  framed-has n None c h = h
-  framed-has n (Some f) c h = stamped-has n f c h
-
-  left-has : (n : ℕ) (m : Mark) (f : Option FrameNo) (c : LeafContext) → K n m → P n c → P n (left m f c)
-  left-has n m f c k h = by (is_first m c.marks)
-    where
-      by : (b : Bool) → P n (if b then unmarked c else framed f (entered m c))
-      by true = record { marks = each_dropped (K n) 1 c.marks h.marks; stamps = h.stamps }
-      by false = framed-has n f (entered m c) (entered-has n m c k h)
-
-  changed-has : (n : ℕ) (x : Change) (c : LeafContext) → ChangeMet K n x → P n c → P n (act x c)
-  changed-has n (change.Enter m) c k h = entered-has n m c k h
-  changed-has n (change.Leave m f) c k h = left-has n m f c k h
-  changed-has n (change.Stamp f) c k h = stamped-has n f c h
-
-  pub lives-known : Among libs library.Core → Lives own K P
+  pub lives-known : Among libs library.Core → Lives own K J P
   lives-known core = record {
     rises = record { later = has-later; temporary = λ m n low lt. record { marks = (inr (refl, lt), tt); stamps = tt } };
     known = known-later;
     taken = λ m n lt. inr (refl, lt);
-    changed = changed-has;
+    frames = frame-later;
+    made = λ m n lt. inr (refl, lt);
+    introduced = inl core;
+    changed = λ n x c k h. act-has (K n) (J n) x c k h;
     read = record { marks = tt; stamps = tt };
     core = λ k. record { marks = (inl core, tt); stamps = tt };
     marks = λ n c h. h.marks;
+  }
+
+  pub lives-on : Among libs library.Core → Lives own K J (HasKnownHistory libs own)
+  lives-on core = record {
+    rises = record { later = history-later; temporary = λ m n low lt. beginning-has (K n) (J n) (temporary_context own m) (inr (mark_named own m, (inr (refl, lt), refl))) };
+    known = known-later;
+    taken = λ m n lt. inr (refl, lt);
+    frames = frame-later;
+    made = λ m n lt. inr (refl, lt);
+    introduced = inl core;
+    changed = λ n x c k h. act-follows (K n) (J n) x c k h;
+    read = beginning-has (K 0) (J 0) blank (inl refl);
+    core = λ k. beginning-has (K 0) (J 0) (record { marks = core_mark k ∷ []; stamps = [] }) (inr (core_mark k, (inl core, refl)));
+    marks = λ n c h. (history-marks (K n) (J n) c h).marks;
   }
 
   -- The mark of the next name is new.
@@ -111,9 +117,9 @@ module _ (libs : List LibName) (own : LibName) where
     lacks-mark [] h = refl
     lacks-mark (x ∷ ms) h = ap (λ b. cond b true (has_mark M ms)) (other-mark x h.0) ∙ lacks-mark ms h.1
 
-    lacks-stamps : (ts : List Stamp) → Each (λ (t : Stamp). Each (K n) t.marks) ts → StampedWithout M ts
+    lacks-stamps : (ts : List Stamp) → Each (StampAt n) ts → StampedWithout M ts
     lacks-stamps [] h = tt
-    lacks-stamps (t ∷ ts) h = (lacks-mark t.marks h.0, lacks-stamps ts h.1)
+    lacks-stamps (t ∷ ts) h = (lacks-mark t.marks h.0.1, lacks-stamps ts h.1)
 
     pub lacks-it : (c : LeafContext) → P n c → Lacks M c
     lacks-it c h = record { marks = lacks-mark c.marks h.marks; stamps = lacks-stamps c.stamps h.stamps }

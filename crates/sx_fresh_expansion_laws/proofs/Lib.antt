@@ -9,10 +9,12 @@ pub mod Stages
 pub mod Standing
 pub mod Plans
 pub mod Items
+pub mod Having
 pub mod Knowing
 pub mod Taking
 pub mod Forms
 pub mod Inserts
 pub mod Settled
+pub mod Making
 pub mod Around
 pub mod Recorded

@@ -54,7 +54,7 @@ use Rattle.sx_fresh_laws.proofs.Variables.{looked_up, EntriesHold}
 use Rattle.sx_fresh_laws.proofs.Wider.{tree_wider, value_wider, cells_wider, core_wider, codes_wider, globals_wider, lines_wider}
 use Rattle.sx_fresh_expansion_laws.specs.Living.{Lives, RowsHold}
 use Rattle.sx_fresh_expansion_laws.specs.States.{ExpressionHolds, KeywordHolds, KeywordsHold, RecordsHold, StageHolds}
-use Rattle.sx_fresh_expansion_laws.proofs.Changing.{rise, rows-wider, enter-holds, leave-holds}
+use Rattle.sx_fresh_expansion_laws.proofs.Changing.{rise, rows-wider, enter-holds, leave-holds, frame-up}
 
 -- Tables with one more entry, or one in place of another.
 
@@ -147,7 +147,7 @@ keywords-wider P Q k ks h = each_mapped (λ (x : Label × Keyword). KeywordHolds
 pub records-wider : (P Q : LeafContext → Type 0) → ((c : LeafContext) → P c → Q c) → (rs : List LibRecord) → RecordsHold P rs → RecordsHold Q rs
 records-wider P Q k rs h = each_mapped (λ (r : LibRecord). LinesHold P r.run) (λ (r : LibRecord). LinesHold Q r.run) (λ r j. lines_wider P Q k r.run j) rs h
 
-module _ (own : LibName) (K : ℕ → Mark → Type 0) (P : ℕ → LeafContext → Type 0) (lives : Lives own K P) where
+module _ (own : LibName) (K : ℕ → Mark → Type 0) (J : ℕ → FrameNo → Type 0) (P : ℕ → LeafContext → Type 0) (lives : Lives own K J P) where
   abbrev G : ℕ → PlainStage → Type 0
   G m g = StageHolds own K P m g
 
@@ -196,9 +196,9 @@ module _ (own : LibName) (K : ℕ → Mark → Type 0) (P : ℕ → LeafContext 
     library = k.library;
     frames = rows-wider (K g.names.number) (K new.names.number) (λ x j. lives.known g.names.number new.names.number x k.up j) g.frames h.frames;
     cells = k.cells;
-    codes = codes_wider (P g.names.number) (P new.names.number) (rise own K P lives g.names.number new.names.number k.up) g.codes h.codes;
-    globals = globals_wider (P g.names.number) (P new.names.number) (rise own K P lives g.names.number new.names.number k.up) g.globals h.globals;
-    keywords = keywords-wider (P g.names.number) (P new.names.number) (rise own K P lives g.names.number new.names.number k.up) g.keywords h.keywords;
+    codes = codes_wider (P g.names.number) (P new.names.number) (rise own K J P lives g.names.number new.names.number k.up) g.codes h.codes;
+    globals = globals_wider (P g.names.number) (P new.names.number) (rise own K J P lives g.names.number new.names.number k.up) g.globals h.globals;
+    keywords = keywords-wider (P g.names.number) (P new.names.number) (rise own K J P lives g.names.number new.names.number k.up) g.keywords h.keywords;
   }
 
   ended-holds : (place : Span) (m : ℕ) (g : PlainStage) (o : Outcome) → G m g → OutcomeHolds own P g.names.number o → GaveStage WithFuel m (ended_at place g o)
@@ -239,7 +239,7 @@ module _ (own : LibName) (K : ℕ → Mark → Type 0) (P : ℕ → LeafContext 
 
   library-left : (r : LibRecord) (m : ℕ) (g : PlainStage) (new : run.State) (left : ℕ) → G m g → LinesHold (P g.names.number) r.run → StateHolds own P g.names.number new → G m (left_by_library r g new left)
   library-left r m g new left h k j =
-      let up : (c : LeafContext) → P g.names.number c → P new.names.number c = rise own K P lives g.names.number new.names.number j.up in
+      let up : (c : LeafContext) → P g.names.number c → P new.names.number c = rise own K J P lives g.names.number new.names.number j.up in
       record {
         up = omega (arith, h.up, j.up);
         library = j.library;
@@ -277,7 +277,7 @@ module _ (own : LibName) (K : ℕ → Mark → Type 0) (P : ℕ → LeafContext 
       let here = stage-self m g h in
       stage-less-gave m g (after (evaluate_wanted place ks r g) (λ _. evaluate_all place ks rs)) h
       (stage-after Done Done g.names.number (evaluate_wanted place ks r g) (λ _. evaluate_all place ks rs) (wanted-holds place ks r g.names.number g here k.0)
-      (λ x t j i. all-hold place ks rs t.names.number t (stage-self g.names.number t j) (records-wider (P g.names.number) (P t.names.number) (rise own K P lives g.names.number t.names.number j.up) rs k.1)))
+      (λ x t j i. all-hold place ks rs t.names.number t (stage-self g.names.number t j) (records-wider (P g.names.number) (P t.names.number) (rise own K J P lives g.names.number t.names.number j.up) rs k.1)))
     where
       stage-less-gave : (m : ℕ) (g : PlainStage) (r : Result (Unit {0} × PlainStage) Fault) → G m g → GaveStage Done g.names.number r → GaveStage Done m r
       stage-less-gave m g (Ok p) h j = (stage-less m g.names.number p.1 h.up j.0, tt)
@@ -298,7 +298,7 @@ module _ (own : LibName) (K : ℕ → Mark → Type 0) (P : ℕ → LeafContext 
       less (after (need place rs c g) (λ _ t. after (evaluate place c t) (λ p. transformer_only place p.0)))
       (stage-after Done IsValue g.names.number (need place rs c g) (λ _ t. after (evaluate place c t) (λ p. transformer_only place p.0)) (need-holds place rs c g.names.number g (stage-self m g h) k)
       (λ x t i y. stage-after WithFuel IsValue t.names.number (evaluate place c t) (λ p. transformer_only place p.0)
-      (evaluate-holds place c t.names.number t (stage-self g.names.number t i) (core_wider (P g.names.number) (P t.names.number) (rise own K P lives g.names.number t.names.number i.up) c j))
+      (evaluate-holds place c t.names.number t (stage-self g.names.number t i) (core_wider (P g.names.number) (P t.names.number) (rise own K J P lives g.names.number t.names.number i.up) c j))
       (λ p u a b. only-holds place p.0 u.names.number u (stage-self t.names.number u a) b)))
     where
       less : (r : Result (Value × PlainStage) Fault) → GaveStage IsValue g.names.number r → GaveStage IsValue m r
@@ -330,7 +330,7 @@ module _ (own : LibName) (K : ℕ → Mark → Type 0) (P : ℕ → LeafContext 
   finish-holds place rs l c m g h k j =
       gave-less Done m g (after (transformer place rs c g) (λ v t. give tt (with_keyword l (keyword.Kept (Some c) v) t))) h
       (stage-after IsValue Done g.names.number (transformer place rs c g) (λ v t. give tt (with_keyword l (keyword.Kept (Some c) v) t)) (transformer-holds place rs c g.names.number g (stage-self m g h) k j)
-      (λ v t i x. (keyword-put l (keyword.Kept (Some c) v) t.names.number t (stage-self g.names.number t i) (core_wider (P g.names.number) (P t.names.number) (rise own K P lives g.names.number t.names.number i.up) c j, x), tt)))
+      (λ v t i x. (keyword-put l (keyword.Kept (Some c) v) t.names.number t (stage-self g.names.number t i) (core_wider (P g.names.number) (P t.names.number) (rise own K J P lives g.names.number t.names.number i.up) c j, x), tt)))
 
   import-holds : (place : Span) (rs : List LibRecord) (l : Label) (e : Option PlainCore) (m : ℕ) (g : PlainStage) → G m g → Rs g.names.number rs → ExpressionHolds (P g.names.number) e → GaveStage IsValue m (import_keyword place rs l e g)
   unfolding import_keyword
@@ -416,14 +416,14 @@ module _ (own : LibName) (K : ℕ → Mark → Type 0) (P : ℕ → LeafContext 
       (stage-after IsTree IsTree g.names.number (transform place v t g) (λ u new. give u (cut (length g.cells) new)) (transform-holds place v t g.names.number g (stage-self m g h) k j)
       (λ u new i x. (cut-holds (length g.cells) new.names.number new (stage-self g.names.number new i), x)))
 
-  marked-holds : (place : Span) (v : Value) (t : Tree) (f : Option FrameNo) (x : Mark) (m : ℕ) (g : PlainStage) → G m g → IsValue g.names.number v → IsTree g.names.number t → K g.names.number x
+  marked-holds : (place : Span) (v : Value) (t : Tree) (f : Option FrameNo) (x : Mark) (m : ℕ) (g : PlainStage) → G m g → IsValue g.names.number v → IsTree g.names.number t → K g.names.number x → OptionHolds (J g.names.number) f
       → GaveStage IsTree m (transform_marked place v t f x g)
   unfolding transform_marked
-  marked-holds place v t f x m g h k j i =
+  marked-holds place v t f x m g h k j i q =
       gave-less IsTree m g (after (transform_and_cut place v (enter x t) g) (λ u. give (leave x f u))) h
       (stage-after IsTree IsTree g.names.number (transform_and_cut place v (enter x t) g) (λ u. give (leave x f u))
-      (transformed-holds place v (enter x t) g.names.number g (stage-self m g h) k (enter-holds own K P lives g.names.number x t i j))
-      (λ u new a b. (stage-self g.names.number new a, leave-holds own K P lives new.names.number x f u (lives.known g.names.number new.names.number x a.up i) b)))
+      (transformed-holds place v (enter x t) g.names.number g (stage-self m g h) k (enter-holds own K J P lives g.names.number x t i j))
+      (λ u new a b. (stage-self g.names.number new a, leave-holds own K J P lives new.names.number x f u (lives.known g.names.number new.names.number x a.up i) (frame-up own K J P lives g.names.number new.names.number a.up f q) b)))
 
   -- the mark of the name that is taken
   taken-mark : (n : Named) (k : ℕ) → n.library ≡ own → n.number < k → K k (record { 0 = n })
@@ -435,25 +435,25 @@ module _ (own : LibName) (K : ℕ → Mark → Type 0) (P : ℕ → LeafContext 
     up = omega (arith, h.up, le);
     library = e;
     frames = rows-wider (K g.names.number) (K n.number) (λ x i. lives.known g.names.number n.number x le i) g.frames h.frames;
-    cells = cells_wider (P g.names.number) (P n.number) (rise own K P lives g.names.number n.number le) g.cells h.cells;
-    codes = codes_wider (P g.names.number) (P n.number) (rise own K P lives g.names.number n.number le) g.codes h.codes;
-    globals = globals_wider (P g.names.number) (P n.number) (rise own K P lives g.names.number n.number le) g.globals h.globals;
-    keywords = keywords-wider (P g.names.number) (P n.number) (rise own K P lives g.names.number n.number le) g.keywords h.keywords;
+    cells = cells_wider (P g.names.number) (P n.number) (rise own K J P lives g.names.number n.number le) g.cells h.cells;
+    codes = codes_wider (P g.names.number) (P n.number) (rise own K J P lives g.names.number n.number le) g.codes h.codes;
+    globals = globals_wider (P g.names.number) (P n.number) (rise own K J P lives g.names.number n.number le) g.globals h.globals;
+    keywords = keywords-wider (P g.names.number) (P n.number) (rise own K J P lives g.names.number n.number le) g.keywords h.keywords;
   }
 
   pub next-holds : (m : ℕ) (g : PlainStage) → G m g → G m (record g { names = name_after g.names })
   next-holds m g h = renamed-stage m g (name_after g.names) h h.library (omega arith)
 
-  pub used-holds : (place : Span) (rs : List LibRecord) (t : Tree) (l : Label) (e : Option PlainCore) (f : Option FrameNo) (m : ℕ) (g : PlainStage) → G m g → Rs g.names.number rs → ExpressionHolds (P g.names.number) e → IsTree g.names.number t
+  pub used-holds : (place : Span) (rs : List LibRecord) (t : Tree) (l : Label) (e : Option PlainCore) (f : Option FrameNo) (m : ℕ) (g : PlainStage) → G m g → Rs g.names.number rs → ExpressionHolds (P g.names.number) e → IsTree g.names.number t → OptionHolds (J g.names.number) f
       → GaveStage IsTree m (used place rs t l e f g)
   unfolding used
-  used-holds place rs t l e f m g h k j i =
+  used-holds place rs t l e f m g h k j i q =
       gave-less IsTree m g (after (keyword_value place rs l e g) (λ v u. after (fresh_mark u) (transform_marked place v t f))) h
       (stage-after IsValue IsTree g.names.number (keyword_value place rs l e g) (λ v u. after (fresh_mark u) (transform_marked place v t f)) (value-holds place rs l e g.names.number g (stage-self m g h) k j)
       (λ v u a b.
       let n = u.names.number in
       let next : PlainStage = record u { names = name_after u.names } in
       marked-holds place v t f (record { 0 = u.names }) n next (next-holds n u (stage-self g.names.number u a))
-      (value_wider (P n) (P (n + 1)) (rise own K P lives n (n + 1) (omega arith)) v b)
-      (tree_wider (P g.names.number) (P (n + 1)) (rise own K P lives g.names.number (n + 1) (omega (arith, a.up))) t i)
-      (taken-mark u.names (n + 1) a.library (omega arith))))
+      (value_wider (P n) (P (n + 1)) (rise own K J P lives n (n + 1) (omega arith)) v b)
+      (tree_wider (P g.names.number) (P (n + 1)) (rise own K J P lives g.names.number (n + 1) (omega (arith, a.up))) t i)
+      (taken-mark u.names (n + 1) a.library (omega arith)) (frame-up own K J P lives g.names.number (n + 1) (omega (arith, a.up)) f q)))

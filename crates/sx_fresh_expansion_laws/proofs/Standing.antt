@@ -56,7 +56,7 @@ use Rattle.sx_fresh_laws.proofs.Variables.{looked_up}
 use Rattle.sx_fresh_laws.proofs.Wider.{tree_wider, core_wider}
 use Rattle.sx_fresh_expansion_laws.specs.Living.{Lives, RowsHold}
 use Rattle.sx_fresh_expansion_laws.specs.States.{ExpressionHolds, BindingHolds, BindingsHold, RecordsHold, StageHolds, StateHolds}
-use Rattle.sx_fresh_expansion_laws.proofs.Changing.{rise, bound-holds, enter-holds, leave-holds, row-marks}
+use Rattle.sx_fresh_expansion_laws.proofs.Changing.{rise, bound-holds, enter-holds, leave-holds, frame-up, row-marks}
 use Rattle.sx_fresh_expansion_laws.proofs.Patterns.{VariableHolds, GaveBy, CompiledFrom, compiled-holds}
 use Rattle.sx_fresh_expansion_laws.proofs.Records.{record-holds}
 use Rattle.sx_fresh_expansion_laws.proofs.Shapes.{FormalsHold, SpecHolds}
@@ -73,7 +73,7 @@ binding-wider P Q k (binding.Primitive op) h = tt
 pub bindings-wider : (P Q : LeafContext → Type 0) → ((c : LeafContext) → P c → Q c) → (bs : List (Label × Binding)) → BindingsHold P bs → BindingsHold Q bs
 bindings-wider P Q k bs h = each_mapped (λ (b : Label × Binding). BindingHolds P b.1) (λ (b : Label × Binding). BindingHolds Q b.1) (λ b j. binding-wider P Q k b.1 j) bs h
 
-module _ (own : LibName) (K : ℕ → Mark → Type 0) (P : ℕ → LeafContext → Type 0) (lives : Lives own K P) (first : ℕ) where
+module _ (own : LibName) (K : ℕ → Mark → Type 0) (J : ℕ → FrameNo → Type 0) (P : ℕ → LeafContext → Type 0) (lives : Lives own K J P) (first : ℕ) where
   abbrev pub F : State → Type 0
   F s = StateHolds own K P first s
 
@@ -91,7 +91,7 @@ module _ (own : LibName) (K : ℕ → Mark → Type 0) (P : ℕ → LeafContext 
   C n c = CoreHolds (P n) c
 
   pub up : (m n : ℕ) → m ≤ n → (c : LeafContext) → P m c → P n c
-  up m n le = rise own K P lives m n le
+  up m n le = rise own K J P lives m n le
 
   pub tree-up : (m n : ℕ) → m ≤ n → (t : Tree) → T m t → T n t
   tree-up m n le t h = tree_wider (P m) (P n) (up m n le) t h
@@ -109,13 +109,13 @@ module _ (own : LibName) (K : ℕ → Mark → Type 0) (P : ℕ → LeafContext 
   -- States.
 
   pub state-self : (s : State) → F s → From s s
-  state-self s h = record { stage = stage-self own K P lives first (stage_of s) h.stage; bindings = h.bindings }
+  state-self s h = record { stage = stage-self own K J P lives first (stage_of s) h.stage; bindings = h.bindings }
 
   pub state-then : (s t : State) → F s → From s t → F t
-  state-then s t h k = record { stage = stage-less own K P lives first s.names.number (stage_of t) h.stage.up k.stage; bindings = k.bindings }
+  state-then s t h k = record { stage = stage-less own K J P lives first s.names.number (stage_of t) h.stage.up k.stage; bindings = k.bindings }
 
   pub from-then : (s t u : State) → From s t → From t u → From s u
-  from-then s t u h k = record { stage = stage-less own K P lives s.names.number t.names.number (stage_of u) h.stage.up k.stage; bindings = k.bindings }
+  from-then s t u h k = record { stage = stage-less own K J P lives s.names.number t.names.number (stage_of u) h.stage.up k.stage; bindings = k.bindings }
 
   -- Where it gives a value and a state, that is a later one in which all may be met, and this holds of the value.
   abbrev pub Gave : {A : Type 0} → (ℕ → A → Type 0) → State → Result (A × State) Fault → Type 0
@@ -171,16 +171,20 @@ module _ (own : LibName) (K : ℕ → Mark → Type 0) (P : ℕ → LeafContext 
       by (Err f) k = tt
 
   -- what is done on the stage
-  pub gave-staged : {A : Type 0} (W : ℕ → A → Type 0) (s : State) (r : Result (A × PlainStage) Fault) → F s → GaveStage own K P lives W s.names.number r → Gave W s (staged s r)
+  pub gave-staged : {A : Type 0} (W : ℕ → A → Type 0) (s : State) (r : Result (A × PlainStage) Fault) → F s → GaveStage own K J P lives W s.names.number r → Gave W s (staged s r)
   gave-staged W s (Ok p) h k = (record { stage = k.0; bindings = bindings-wider (P s.names.number) (P p.1.names.number) (up s.names.number p.1.names.number k.0.up) s.bindings h.bindings }, k.1)
   gave-staged W s (Err f) h k = tt
 
   -- one name was taken
   pub counted-holds : (s : State) → F s → From s (record s { names = record { library = s.names.library; number = s.names.number + 1 } })
   counted-holds s h = record {
-    stage = next-holds own K P lives s.names.number (stage_of s) (stage-self own K P lives first (stage_of s) h.stage);
+    stage = next-holds own K J P lives s.names.number (stage_of s) (stage-self own K J P lives first (stage_of s) h.stage);
     bindings = bindings-wider (P s.names.number) (P (s.names.number + 1)) (up s.names.number (s.names.number + 1) (omega arith)) s.bindings h.bindings;
   }
+
+  -- the frame that is made of the next name
+  pub frame-made : (s : State) → F s → J (s.names.number + 1) (record { 0 = s.names })
+  frame-made s h = subst (λ (l : LibName). J (s.names.number + 1) (record { 0 = record { library = l; number = s.names.number } })) (sym h.stage.library) (lives.made s.names.number (s.names.number + 1) (omega arith))
 
   abbrev pub Taken : {A : Type 0} → ℕ → A → Type 0
   Taken n x = Unit {0}
@@ -194,10 +198,10 @@ module _ (own : LibName) (K : ℕ → Mark → Type 0) (P : ℕ → LeafContext 
 
   pub put-row-holds : (id : Tree) (place : Span) (frame : FrameNo) (l : Label) (s : State) → F s → T s.names.number id → Gave Taken s (put_row id place frame l s)
   put-row-holds id place frame l s h k =
-      row-put-holds id place s (bound s.frames frame (row_for id l)) h (bound-holds (K s.names.number) s.frames frame (row_for id l) h.stage.frames (row-marks own K P lives s.names.number id l k))
+      row-put-holds id place s (bound s.frames frame (row_for id l)) h (bound-holds (K s.names.number) s.frames frame (row_for id l) h.stage.frames (row-marks own K J P lives s.names.number id l k))
 
   put-variable-holds : (l : Label) (v : VarInfo) (s : State) → F s → Gave Taken s (put_variable l v s)
-  put-variable-holds l v s h = (record { stage = let g = stage-self own K P lives first (stage_of s) h.stage in record { up = g.up; library = g.library; frames = g.frames; cells = g.cells; codes = g.codes; globals = g.globals; keywords = g.keywords };
+  put-variable-holds l v s h = (record { stage = let g = stage-self own K J P lives first (stage_of s) h.stage in record { up = g.up; library = g.library; frames = g.frames; cells = g.cells; codes = g.codes; globals = g.globals; keywords = g.keywords };
       bindings = each_and (λ (b : Label × Binding). BindingHolds (P s.names.number) b.1) s.bindings (l, binding.Variable v) h.bindings tt }, tt)
 
   bind-as-holds : (frame : FrameNo) (id : Tree) (place : Span) (level : ℕ) (top : Bool) (n : Named) (s : State) → F s → T s.names.number id → Gave Taken s (bind_as frame id place level top n s)
@@ -262,7 +266,7 @@ module _ (own : LibName) (K : ℕ → Mark → Type 0) (P : ℕ → LeafContext 
   -- Keywords.
 
   put-keyword-holds : (l : Label) (level : ℕ) (s : State) → F s → Gave Taken s (put_keyword l level s)
-  put-keyword-holds l level s h = (record { stage = let g = stage-self own K P lives first (stage_of s) h.stage in record { up = g.up; library = g.library; frames = g.frames; cells = g.cells; codes = g.codes; globals = g.globals; keywords = g.keywords };
+  put-keyword-holds l level s h = (record { stage = let g = stage-self own K J P lives first (stage_of s) h.stage in record { up = g.up; library = g.library; frames = g.frames; cells = g.cells; codes = g.codes; globals = g.globals; keywords = g.keywords };
       bindings = each_and (λ (b : Label × Binding). BindingHolds (P s.names.number) b.1) s.bindings (l, binding.Macro level None) h.bindings tt }, tt)
 
   bind-keyword-as-holds : (frame : FrameNo) (place : Span) (level : ℕ) (b : BindingSpec) (n : Named) (s : State) → F s → SpecAt s.names.number b → Gave BoundHolds s (bind_keyword_as frame place level b n s)
@@ -273,7 +277,7 @@ module _ (own : LibName) (K : ℕ → Mark → Type 0) (P : ℕ → LeafContext 
       gave-after Taken BoundHolds t (put_keyword l level t) _ (put-keyword-holds l level t ht)
       (λ z u j w. let hu = state-then t u ht j in
       gave-after Taken BoundHolds u (on_stage (stage.begin_keyword l (place_of b.init place)) u) (λ _. give (record { label = l; init = b.init }))
-      (gave-staged Taken u (stage.begin_keyword l (place_of b.init place) (stage_of u)) hu (begin-holds own K P lives l (place_of b.init place) u.names.number (stage_of u) (stage-self own K P lives first (stage_of u) hu.stage)))
+      (gave-staged Taken u (stage.begin_keyword l (place_of b.init place) (stage_of u)) hu (begin-holds own K J P lives l (place_of b.init place) u.names.number (stage_of u) (stage-self own K J P lives first (stage_of u) hu.stage)))
       (λ a v g c. (state-self v (state-then u v hu g), tree-up s.names.number v.names.number (omega (arith, i.stage.up, j.stage.up, g.stage.up)) b.init k.1))))
 
   pub bind-keyword-holds : (frame : FrameNo) (place : Span) (level : ℕ) (b : BindingSpec) (s : State) → F s → SpecAt s.names.number b → Gave BoundHolds s (bind_keyword frame place level b s)
@@ -294,7 +298,7 @@ module _ (own : LibName) (K : ℕ → Mark → Type 0) (P : ℕ → LeafContext 
     pub finish-keyword-holds : (place : Span) (l : Label) (c : PlainCore) (s : State) → F s → C s.names.number c → Gave Taken s (finish_keyword rs place l c s)
     unfolding finish_keyword
     finish-keyword-holds place l c s h k =
-        gave-staged Taken s (stage.finish_keyword place rs l c (stage_of s)) h (finish-holds own K P lives place rs l c s.names.number (stage_of s) (stage-self own K P lives first (stage_of s) h.stage) (records-at s h) k)
+        gave-staged Taken s (stage.finish_keyword place rs l c (stage_of s)) h (finish-holds own K J P lives place rs l c s.names.number (stage_of s) (stage-self own K J P lives first (stage_of s) h.stage) (records-at s h) k)
 
     -- Uses.
 
@@ -313,13 +317,13 @@ module _ (own : LibName) (K : ℕ → Mark → Type 0) (P : ℕ → LeafContext 
     unfolding asks_variable
     asks-variable-holds place l s h =
         gave-staged Taken s (stage.is_variable_transformer place rs l (macro_expression (bound_to s.bindings l)) (stage_of s)) h
-        (asks-holds own K P lives place rs l (macro_expression (bound_to s.bindings l)) s.names.number (stage_of s) (stage-self own K P lives first (stage_of s) h.stage) (records-at s h) (macro-holds l s h))
+        (asks-holds own K J P lives place rs l (macro_expression (bound_to s.bindings l)) s.names.number (stage_of s) (stage-self own K J P lives first (stage_of s) h.stage) (records-at s h) (macro-holds l s h))
 
-    pub use-keyword-holds : (place : Span) (t : Tree) (l : Label) (frame : Option FrameNo) (s : State) → F s → T s.names.number t → Gave T s (use_keyword rs place t l frame s)
+    pub use-keyword-holds : (place : Span) (t : Tree) (l : Label) (frame : Option FrameNo) (s : State) → F s → T s.names.number t → OptionHolds (J s.names.number) frame → Gave T s (use_keyword rs place t l frame s)
     unfolding use_keyword
-    use-keyword-holds place t l frame s h k =
+    use-keyword-holds place t l frame s h k q =
         gave-staged T s (used place rs t l (macro_expression (bound_to s.bindings l)) frame (stage_of s)) h
-        (used-holds own K P lives place rs t l (macro_expression (bound_to s.bindings l)) frame s.names.number (stage_of s) (stage-self own K P lives first (stage_of s) h.stage) (records-at s h) (macro-holds l s h) k)
+        (used-holds own K J P lives place rs t l (macro_expression (bound_to s.bindings l)) frame s.names.number (stage_of s) (stage-self own K J P lives first (stage_of s) h.stage) (records-at s h) (macro-holds l s h) k q)
 
   -- Record forms.
 
@@ -327,7 +331,7 @@ module _ (own : LibName) (K : ℕ → Mark → Type 0) (P : ℕ → LeafContext 
   read-at n = up 0 n (omega arith) blank lives.read
 
   by-records-at : (n : ℕ) → P n (record { marks = []; stamps = record { frame = core_frame; marks = [] } ∷ [] })
-  by-records-at n = lives.changed n (change.Stamp core_frame) blank tt (read-at n)
+  by-records-at n = lives.changed n (change.Stamp core_frame) blank (lives.frames 0 n core_frame (omega arith) lives.introduced) (read-at n)
 
   record-tree-holds : (place : Span) (t : Tree) (f : CoreForm) (count : ℕ) (s : State) → F s → T s.names.number t → Gave T s (record_tree place t f count s)
   unfolding record_tree
@@ -345,22 +349,22 @@ module _ (own : LibName) (K : ℕ → Mark → Type 0) (P : ℕ → LeafContext 
       by true = (let i = state-self s h in record { stage = i.stage; bindings = i.bindings }, tt)
       by false = (state-self s h, tt)
 
-  record-marked-holds : (place : Span) (t : Tree) (f : CoreForm) (frame : Option FrameNo) (m : Mark) (s : State) → F s → T s.names.number t → K s.names.number m → Gave T s (record_marked place t f frame m s)
+  record-marked-holds : (place : Span) (t : Tree) (f : CoreForm) (frame : Option FrameNo) (m : Mark) (s : State) → F s → T s.names.number t → K s.names.number m → OptionHolds (J s.names.number) frame → Gave T s (record_marked place t f frame m s)
   unfolding record_marked
-  record-marked-holds place t f frame m s h k j =
+  record-marked-holds place t f frame m s h k j q =
       gave-after Taken T s (count_record_type f s) _ (count-holds f s h)
       (λ n u i y. gave-after T T u (record_tree place (enter m t) f n u) (λ v. give (leave m frame v))
-      (record-tree-holds place (enter m t) f n u (state-then s u h i) (tree-up s.names.number u.names.number i.stage.up (enter m t) (enter-holds own K P lives s.names.number m t j k)))
-      (λ v w g x. (state-self w (state-then u w (state-then s u h i) g), leave-holds own K P lives w.names.number m frame v (lives.known s.names.number w.names.number m (omega (arith, i.stage.up, g.stage.up)) j) x)))
+      (record-tree-holds place (enter m t) f n u (state-then s u h i) (tree-up s.names.number u.names.number i.stage.up (enter m t) (enter-holds own K J P lives s.names.number m t j k)))
+      (λ v w g x. (state-self w (state-then u w (state-then s u h i) g), leave-holds own K J P lives w.names.number m frame v (lives.known s.names.number w.names.number m (omega (arith, i.stage.up, g.stage.up)) j) (frame-up own K J P lives s.names.number w.names.number (omega (arith, i.stage.up, g.stage.up)) frame q) x)))
 
-  pub use-record-holds : (place : Span) (t : Tree) (f : CoreForm) (frame : Option FrameNo) (s : State) → F s → T s.names.number t → Gave T s (use_record place t f frame s)
+  pub use-record-holds : (place : Span) (t : Tree) (f : CoreForm) (frame : Option FrameNo) (s : State) → F s → T s.names.number t → OptionHolds (J s.names.number) frame → Gave T s (use_record place t f frame s)
   unfolding use_record fresh
-  use-record-holds place t f frame s h k =
+  use-record-holds place t f frame s h k q =
       let u : State = record s { names = record { library = s.names.library; number = s.names.number + 1 } } in
       let i = counted-holds s h in
       gave-from T s u (record_marked place t f frame (record { 0 = s.names }) u) i
       (record-marked-holds place t f frame (record { 0 = s.names }) u (state-then s u h i) (tree-up s.names.number (s.names.number + 1) (omega arith) t k)
-      (subst (λ (l : LibName). K (s.names.number + 1) (record { 0 = record { library = l; number = s.names.number } })) (sym h.stage.library) (lives.taken s.names.number (s.names.number + 1) (omega arith))))
+      (subst (λ (l : LibName). K (s.names.number + 1) (record { 0 = record { library = l; number = s.names.number } })) (sym h.stage.library) (lives.taken s.names.number (s.names.number + 1) (omega arith))) (frame-up own K J P lives s.names.number (s.names.number + 1) (omega arith) frame q))
 
   -- Templates and patterns.
 
@@ -390,7 +394,7 @@ module _ (own : LibName) (K : ℕ → Mark → Type 0) (P : ℕ → LeafContext 
           let low = (j s.names.number (omega arith)).1.1 in
           let c = j p.1.number low in
           (record {
-            stage = renamed-stage own K P lives s.names.number (stage_of s) p.1 (stage-self own K P lives first (stage_of s) h.stage) c.1.0 low;
+            stage = renamed-stage own K J P lives s.names.number (stage_of s) p.1 (stage-self own K J P lives first (stage_of s) h.stage) c.1.0 low;
             bindings = bindings-wider (P s.names.number) (P p.1.number) (up s.names.number p.1.number low) s.bindings h.bindings;
           }, c.0)
 
@@ -400,10 +404,10 @@ module _ (own : LibName) (K : ℕ → Mark → Type 0) (P : ℕ → LeafContext 
     where
       by : (r : Result (Unit {0}) Fault) → Gave Taken s (staged s (stage_patterns.unchanged (stage_of s) r))
       by (Err f) = tt
-      by (Ok x) = (record { stage = stage-self own K P lives first (stage_of s) h.stage; bindings = h.bindings }, tt)
+      by (Ok x) = (record { stage = stage-self own K J P lives first (stage_of s) h.stage; bindings = h.bindings }, tt)
 
   put-pattern-variable-holds : (l : Label) (level depth : ℕ) (s : State) → F s → Gave Taken s (put_pattern_variable l level depth s)
-  put-pattern-variable-holds l level depth s h = (record { stage = let g = stage-self own K P lives first (stage_of s) h.stage in record { up = g.up; library = g.library; frames = g.frames; cells = g.cells; codes = g.codes; globals = g.globals; keywords = g.keywords };
+  put-pattern-variable-holds l level depth s h = (record { stage = let g = stage-self own K J P lives first (stage_of s) h.stage in record { up = g.up; library = g.library; frames = g.frames; cells = g.cells; codes = g.codes; globals = g.globals; keywords = g.keywords };
       bindings = each_and (λ (b : Label × Binding). BindingHolds (P s.names.number) b.1) s.bindings (l, binding.PatternVariable level depth) h.bindings tt }, tt)
 
   abbrev pub VariableAt : ℕ → PatternVariable → Type 0

@@ -22,7 +22,7 @@ use Rattle.sx_standing.specs.State.{State, fresh}
 use Rattle.sx_value.specs.declared.value.Value.{Value}
 use Rattle.sx_fresh_laws.specs.Leaves.{TreeHolds}
 use Rattle.sx_fresh_laws.proofs.Wider.{tree_wider}
-use Rattle.sx_fresh_expansion_laws.specs.Known.{IsKnown, HasKnown}
+use Rattle.sx_fresh_expansion_laws.specs.Known.{IsKnown, IsKnownFrame, HasKnown}
 use Rattle.sx_fresh_expansion_laws.specs.States.{ExpressionHolds, RecordsHold, StageHolds, StateHolds}
 use Rattle.sx_fresh_expansion_laws.specs.Uses.{IsNewOn, IsNewIn, UsesTakeNewMarks}
 use Rattle.sx_fresh_expansion_laws.proofs.Changing.{rise}
@@ -33,6 +33,9 @@ module _ (libs : List LibName) (own : LibName) where
   abbrev K : ℕ → Mark → Type 0
   K n m = IsKnown libs own n m
 
+  abbrev J : ℕ → FrameNo → Type 0
+  J n f = IsKnownFrame libs own n f
+
   abbrev P : ℕ → LeafContext → Type 0
   P n c = HasKnown libs own n c
 
@@ -42,9 +45,9 @@ module _ (libs : List LibName) (own : LibName) where
         → (used place records t l e frame g ≡ transform_marked place v t frame (record { 0 = h.names }) (record h { names = name_after h.names })) × (IsNewOn (record { 0 = h.names }) h × Untouched (record { 0 = h.names }) t)
     unfolding used
     keyword-new place records t l e frame g h v holds rs ex tr is =
-        let given = subst (GaveStage own K P (lives-known libs own core) (IsValue own K P (lives-known libs own core)) g.names.number) is (value-holds own K P (lives-known libs own core) place records l e g.names.number g holds rs ex) in
+        let given = subst (GaveStage own K J P (lives-known libs own core) (IsValue own K J P (lives-known libs own core)) g.names.number) is (value-holds own K J P (lives-known libs own core) place records l e g.names.number g holds rs ex) in
         (ap (λ (r : Result (Value × PlainStage) Fault). after r (λ v t'. after (fresh_mark t') (transform_marked place v t frame))) is,
-        (new-on libs own new g.names.number h given.0, new-tree libs own new h.names given.0.library t (tree_wider (P g.names.number) (P h.names.number) (rise own K P (lives-known libs own core) g.names.number h.names.number given.0.up) t tr)))
+        (new-on libs own new g.names.number h given.0, new-tree libs own new h.names given.0.library t (tree_wider (P g.names.number) (P h.names.number) (rise own K J P (lives-known libs own core) g.names.number h.names.number given.0.up) t tr)))
 
   record-new : (new : Among libs own → ⊥) (place : Span) (t : Tree) (f : CoreForm) (frame : Option FrameNo) (s : State) → StateHolds own K P s.names.number s → TreeHolds (P s.names.number) t
       → (use_record place t f frame s ≡ record_marked place t f frame (record { 0 = s.names }) (record s { names = name_after s.names })) × (IsNewIn (record { 0 = s.names }) s × Untouched (record { 0 = s.names }) t)

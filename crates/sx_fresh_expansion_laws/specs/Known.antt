@@ -1,7 +1,9 @@
--- Marks that are known: those of certain libraries, and of the library that is expanded those that were taken before a name.
+-- Names that are known: those of certain libraries, and of the library that is expanded those that were taken before a name.
 use Rattle.std.specs.Prelude.{◌≡◌, ◌<◌, ◌⊎◌, ℕ, List, [], ◌∷◌, map}
+use Rattle.sx_base.specs.Named.{Named}
 use Rattle.sx_base.specs.declared.library.LibName.{LibName}
 use Rattle.sx_base.specs.declared.library.LibName.TheVariants as library
+use Rattle.sx_base.specs.declared.name.FrameNo.{FrameNo}
 use Rattle.sx_base.specs.declared.name.Mark.{Mark}
 use Rattle.sx_tree.specs.Context.{LeafContext}
 use Rattle.sx_tree.specs.declared.stamp.Stamp.{Stamp}
@@ -9,13 +11,23 @@ use Rattle.sx_core.specs.declared.record.LibRecord.{LibRecord}
 use Rattle.sx_hygiene_laws.specs.Marked.{Among}
 use Rattle.sx_value.specs.Cells.{Each}
 
-abbrev pub IsKnown : List LibName → LibName → ℕ → Mark → Type 0
-IsKnown libs own n m = Among libs m.0.library ⊎ ((m.0.library ≡ own) × (m.0.number < n))
+abbrev pub IsKnownName : List LibName → LibName → ℕ → Named → Type 0
+IsKnownName libs own n x = Among libs x.library ⊎ ((x.library ≡ own) × (x.number < n))
 
--- the marks of a leaf, and those that it had at its stamps
-pub record HasKnown (libs : List LibName) (own : LibName) (n : ℕ) (c : LeafContext) : Type 0 where
-  pub marks : Each (IsKnown libs own n) c.marks
-  pub stamps : Each (λ (t : Stamp). Each (IsKnown libs own n) t.marks) c.stamps
+abbrev pub IsKnown : List LibName → LibName → ℕ → Mark → Type 0
+IsKnown libs own n m = IsKnownName libs own n m.0
+
+abbrev pub IsKnownFrame : List LibName → LibName → ℕ → FrameNo → Type 0
+IsKnownFrame libs own n f = IsKnownName libs own n f.0
+
+-- the marks of a leaf, the frames of its stamps, and the marks that it had then are such
+pub record HasMarks (K : Mark → Type 0) (J : FrameNo → Type 0) (c : LeafContext) : Type 0 where
+  pub marks : Each K c.marks
+  pub stamps : Each (λ (t : Stamp). J t.frame × Each K t.marks) c.stamps
+
+-- they are known
+abbrev pub HasKnown : List LibName → LibName → ℕ → LeafContext → Type 0
+HasKnown libs own n c = HasMarks (IsKnown libs own n) (IsKnownFrame libs own n) c
 
 -- the implementation, and the libraries of records
 abbrev pub libraries_of : List LibRecord → List LibName

@@ -3,5 +3,7 @@ pub mod States
 pub mod Forms
 pub mod Known
 pub mod Uses
+pub mod Made
+pub mod History
 pub mod Keeping
 pub mod RecordMarks
