@@ -2,25 +2,14 @@
 use Rattle.std.proofs.Common.{◌≡◌, ℕ, zero, suc, List, Result, Ok, Err, refl, subst}
 use Rattle.sx_base.specs.declared.fault.Fault.{Fault}
 use Rattle.sx_base.specs.declared.library.LibName.{LibName}
-use Rattle.sx_base.specs.declared.library.LibName.TheVariants as library
 use Rattle.sx_base.specs.declared.name.FrameNo.{FrameNo}
 use Rattle.sx_base.specs.declared.name.Mark.{Mark}
-use Rattle.sx_base.specs.declared.span.Span.{Span}
 use Rattle.sx_tree.specs.Context.{LeafContext}
-use Rattle.sx_tree.specs.Tree.{Tree}
-use Rattle.sx_core.specs.Core.{PlainCore}
-use Rattle.sx_core.specs.declared.code.Lambda.{Lambda}
 use Rattle.sx_core.specs.declared.record.LibRecord.{LibRecord}
-use Rattle.sx_shapes.specs.declared.shape.FormalIds.{FormalIds}
 use Rattle.sx_standing.specs.State.{State}
-use Rattle.sx_heads.specs.declared.taken.BodyAt.{BodyAt}
-use Rattle.sx_heads.specs.declared.taken.Taken.{Taken}
-use Rattle.sx_hygiene_laws.specs.Marked.{Among}
 use Rattle.sx_expand.specs.Body.{item}
 use Rattle.sx_expand.specs.Expression.{lambda_case, form_at, inside}
 use Rattle.sx_expand.specs.Inside.{Inside}
-use Rattle.sx_fresh_laws.specs.Leaves.{TreeHolds}
-use Rattle.sx_fresh_expansion_laws.specs.Forms.{TreesHold, FormalsHold, TakenHolds}
 use Rattle.sx_fresh_expansion_laws.specs.Keeping.{Keeps, around, MarksStayKnown, HistoriesStay}
 use Rattle.sx_fresh_expansion_laws.specs.Known.{IsKnown, IsKnownFrame, HasKnown}
 use Rattle.sx_fresh_expansion_laws.specs.History.{HasKnownHistory}
@@ -33,7 +22,7 @@ use Rattle.sx_fresh_expansion_laws.proofs.Items.{TakenAt}
 use Rattle.sx_fresh_expansion_laws.proofs.Knowing.{lives-known, lives-on}
 use Rattle.sx_fresh_expansion_laws.proofs.Settled.{form-at-holds, item-holds, inside-keeps}
 use Rattle.sx_fresh_expansion_laws.proofs.Stages.{records-wider}
-use Rattle.sx_fresh_expansion_laws.proofs.Standing.{F, T, Ts, C, Gave, state-self}
+use Rattle.sx_fresh_expansion_laws.proofs.Standing.{F, C, Gave, state-self}
 
 module _ (own : LibName) (K : ℕ → Mark → Type 0) (J : ℕ → FrameNo → Type 0) (P : ℕ → LeafContext → Type 0) (lives : Lives own K J P) where
   -- what was given is told by the account

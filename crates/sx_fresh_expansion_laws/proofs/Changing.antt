@@ -1,6 +1,5 @@
 -- Trees that are entered, left and stamped, and rows of leaves.
-use Rattle.std.proofs.Common.{◌≡◌, ◌≤◌, ℕ, List, [], ◌∷◌, ◌++◌, map, Option, None, Some, Bool, true, false, Result, Ok, Err, if◌then◌else◌}
-use Rattle.sx_base.specs.declared.fault.Bare.{Bare}
+use Rattle.std.proofs.Common.{◌≤◌, ℕ, List, [], ◌∷◌, ◌++◌, map, Option, None, Some, Bool, true, false, Ok, Err, if◌then◌else◌}
 use Rattle.sx_base.specs.declared.library.LibName.{LibName}
 use Rattle.sx_base.specs.declared.name.FrameNo.{FrameNo}
 use Rattle.sx_base.specs.declared.name.Label.{Label}

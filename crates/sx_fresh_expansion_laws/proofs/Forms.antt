@@ -1,7 +1,6 @@
 -- Expressions keep that all in the state of an expansion may be met, given that what is done inside them does.
-use Rattle.std.proofs.Common.{◌≡◌, ◌≤◌, ◌+◌, ℕ, zero, suc, Bool, true, false, List, [], ◌∷◌, ◌++◌, map, Option, None, Some, Result, Ok, Err, arith, if◌then◌else◌}
-use Rattle.sx_base.specs.Act.{after, give, each, gather}
-use Rattle.sx_base.specs.declared.fault.Fault.{Fault}
+use Rattle.std.proofs.Common.{◌≤◌, ◌+◌, ℕ, Bool, true, false, List, [], ◌∷◌, map, Option, None, Some, arith}
+use Rattle.sx_base.specs.Act.{after, give}
 use Rattle.sx_base.specs.declared.library.LibName.{LibName}
 use Rattle.sx_base.specs.declared.name.FrameNo.{FrameNo}
 use Rattle.sx_base.specs.declared.name.Label.{Label}
@@ -10,12 +9,11 @@ use Rattle.sx_base.specs.declared.span.Span.{Span}
 use Rattle.sx_tree.specs.Changes.{stamp}
 use Rattle.sx_tree.specs.Context.{LeafContext}
 use Rattle.sx_tree.specs.Tree.{Tree}
-use Rattle.sx_core.specs.Core.{PlainCore, one_armed, two_armed, assignment, sequence, procedure, letrec, call, matching, cores}
+use Rattle.sx_core.specs.Core.{PlainCore, two_armed, assignment, procedure, letrec, call, matching, cores}
 use Rattle.sx_core.specs.CoreView.{inits, cases, clauses}
 use Rattle.sx_core.specs.declared.code.Clause.{Clause}
 use Rattle.sx_core.specs.declared.code.Init.{Init}
 use Rattle.sx_core.specs.declared.code.Lambda.{Lambda}
-use Rattle.sx_core.specs.declared.record.LibRecord.{LibRecord}
 use Rattle.sx_core.specs.declared.record.Line.{Line}
 use Rattle.sx_core.specs.declared.record.Line.TheVariants as line
 use Rattle.sx_shapes.specs.At.{place_of}
@@ -26,7 +24,7 @@ use Rattle.sx_shapes.specs.declared.shape.PatternCase.{PatternCase}
 use Rattle.sx_standing.specs.Binders.{bind_formals, bind_specs}
 use Rattle.sx_standing.specs.InScope.{apart}
 use Rattle.sx_standing.specs.Patterns.{pattern_of, check_literals, bind_pattern}
-use Rattle.sx_standing.specs.State.{State, Does, fresh, fresh_frame}
+use Rattle.sx_standing.specs.State.{State, fresh, fresh_frame}
 use Rattle.sx_standing.specs.Uses.{bind_keywords, finish_keyword}
 use Rattle.sx_standing.specs.declared.binders.BoundSpec.{BoundSpec}
 use Rattle.sx_heads.specs.Depth.{deeper}
@@ -36,21 +34,21 @@ use Rattle.sx_heads.specs.declared.taken.Taken.{Taken}
 use Rattle.sx_heads.specs.declared.taken.Waiting.{Waiting}
 use Rattle.sx_heads.specs.declared.taken.Waits.{Waits}
 use Rattle.sx_heads.specs.declared.taken.Waits.TheVariants as waits
-use Rattle.sx_expand.specs.Body.{splice, no_value, value_of, finish_as, finish_one, finish_all, sequence_of, inits_in, values_in, with_inits, body_core, finish, lambda_at, body_in, body}
+use Rattle.sx_expand.specs.Body.{splice, value_of, finish_as, finish_one, finish_all, sequence_of, inits_in, values_in, with_inits, body_core, finish, lambda_at, body_in, body}
 use Rattle.sx_expand.specs.Expression.{in_order, case_in, lambda_case, lambda, one_case, all_cases, case_lambda, one_init, all_inits, letrec_in, letrec_form, application, alternate, conditional, set, in_sequence, fender, clause_in, pattern_clause, all_clauses, syntax_case, keywords_form}
 use Rattle.sx_expand.specs.Inside.{Inside}
 use Rattle.sx_expand.specs.Keywords.{keyword, seen_in, keyword_in, all_keywords, keywords, with_keywords}
 use Rattle.sx_value.specs.Cells.{Each}
-use Rattle.sx_fresh_laws.specs.Leaves.{CoreHolds, CoresHold, InitsHold, CasesHold, ClausesHold, PatternHolds, LineHolds}
+use Rattle.sx_fresh_laws.specs.Leaves.{CoresHold, InitsHold, CasesHold, ClausesHold, PatternHolds, LineHolds}
 use Rattle.sx_fresh_laws.specs.Leaves.{OptionHolds}
 use Rattle.sx_fresh_laws.proofs.Eachs.{each_mapped}
 use Rattle.sx_fresh_expansion_laws.specs.Living.{Lives}
 use Rattle.sx_fresh_expansion_laws.specs.States.{RecordsHold}
 use Rattle.sx_fresh_laws.proofs.Wider.{pattern_wider}
 use Rattle.sx_fresh_expansion_laws.proofs.Changing.{stamp-holds, stamps-hold}
-use Rattle.sx_fresh_expansion_laws.proofs.Items.{WaitsAt, WaitingAt, TakenAt, formals-up, waiting-up, taken-up}
+use Rattle.sx_fresh_expansion_laws.proofs.Items.{WaitsAt, WaitingAt, TakenAt, formals-up, waiting-up}
 use Rattle.sx_fresh_expansion_laws.proofs.Shapes.{FormalsHold, LambdaHolds, PatternCaseHolds}
-use Rattle.sx_fresh_expansion_laws.proofs.Standing.{F, From, T, Ts, C, up, tree-up, trees-up, core-up, option-up, state-self, state-then, from-then, Gave, gave-from, gave-after, gave-if, gave-each, gave-gather, gave-within, gave-apart, counted-holds, frame-made, SpecAt, BoundHolds, spec-up, bound-up, CompiledHolds, VariableAt, bind-formals-holds, bind-specs-holds, bind-keywords-holds, finish-keyword-holds, pattern-holds, literals-hold, bind-pattern-holds}
+use Rattle.sx_fresh_expansion_laws.proofs.Standing.{F, T, Ts, C, up, tree-up, trees-up, core-up, option-up, state-self, state-then, Gave, gave-from, gave-after, gave-if, gave-each, gave-gather, gave-within, gave-apart, counted-holds, frame-made, SpecAt, BoundHolds, spec-up, bound-up, CompiledHolds, bind-formals-holds, bind-specs-holds, bind-keywords-holds, finish-keyword-holds, pattern-holds, literals-hold, bind-pattern-holds}
 
 module _ (own : LibName) (K : ℕ → Mark → Type 0) (J : ℕ → FrameNo → Type 0) (P : ℕ → LeafContext → Type 0) (lives : Lives own K J P) (first : ℕ) where
   abbrev pub CaseAt : ℕ → Lambda → Type 0
@@ -335,8 +333,10 @@ module _ (own : LibName) (K : ℕ → Mark → Type 0) (J : ℕ → FrameNo → 
         (λ e v q a. let hv = (state-then own K J P lives first) u v hu q in
         (gave-after own K J P lives first) (C own K J P lives first) ClauseAt v (go.form place level depth (stamp f c.output) v) (λ o. give (record { pattern = p.pattern; fender = e; output = o }))
         (keeps.form place level depth (stamp f c.output) v hv (stamp-holds own K J P lives v.names.number f c.output (lives.frames s.names.number v.names.number f (omega (arith, i.stage.up, j.stage.up, q.stage.up)) r) ((tree-up own K J P lives first) s.names.number v.names.number (omega (arith, i.stage.up, j.stage.up, q.stage.up)) c.output k.1.1)))
-        (λ o w b d. ((state-self own K J P lives first) w ((state-then own K J P lives first) v w hv b),
-        (pattern_wider (P t.names.number) (P w.names.number) ((up own K J P lives first) t.names.number w.names.number (omega (arith, j.stage.up, q.stage.up, b.stage.up))) p.pattern y.0, (core-option-up v.names.number w.names.number b.stage.up e a, d)))))))
+        (λ o w b d. (
+          (state-self own K J P lives first) w ((state-then own K J P lives first) v w hv b),
+          (pattern_wider (P t.names.number) (P w.names.number) ((up own K J P lives first) t.names.number w.names.number (omega (arith, j.stage.up, q.stage.up, b.stage.up))) p.pattern y.0, (core-option-up v.names.number w.names.number b.stage.up e a, d)),
+        )))))
 
     abbrev PatternCaseAt : ℕ → PatternCase → Type 0
     PatternCaseAt n c = PatternCaseHolds (P n) c

@@ -1,8 +1,8 @@
 -- Changes with certain marks and frames leave a leaf that had them alone with them alone; and so it is of its history.
-use Rattle.std.proofs.Common.{◌≡◌, ℕ, Bool, true, false, List, [], ◌∷◌, ◌++◌, drop, Option, None, Some, refl, sym, ap, ◌∙◌, subst, inl, inr, if◌then◌else◌}
+use Rattle.std.proofs.Common.{◌≡◌, Bool, true, false, List, [], ◌∷◌, ◌++◌, Option, None, Some, refl, sym, ap, ◌∙◌, subst, inl, inr, if◌then◌else◌}
 use Rattle.sx_base.specs.declared.name.FrameNo.{FrameNo}
 use Rattle.sx_base.specs.declared.name.Mark.{Mark}
-use Rattle.sx_tree.specs.Context.{LeafContext, blank, entered, stamped, framed, unmarked, left, act, acts}
+use Rattle.sx_tree.specs.Context.{LeafContext, entered, stamped, framed, unmarked, left, act, acts}
 use Rattle.sx_tree.specs.Marks.{is_first}
 use Rattle.sx_tree.specs.declared.change.Change.{Change}
 use Rattle.sx_tree.specs.declared.change.Change.TheVariants as change

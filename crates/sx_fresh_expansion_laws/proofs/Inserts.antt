@@ -1,19 +1,15 @@
 -- `quasiquote` and `quasisyntax` forms keep that all in the state of an expansion may be met, given that what is done inside them does.
-use Rattle.std.proofs.Common.{◌≡◌, ◌≤◌, ◌+◌, ℕ, zero, suc, Bool, true, false, List, [], ◌∷◌, ◌++◌, map, Option, None, Some, Result, Ok, Err, arith, if◌then◌else◌}
-use Rattle.sx_base.specs.Act.{after, give, each}
+use Rattle.std.proofs.Common.{◌≤◌, ◌+◌, ℕ, zero, suc, Bool, true, false, List, [], ◌∷◌, ◌++◌, map, Result, Ok, Err, arith, if◌then◌else◌}
+use Rattle.sx_base.specs.Act.{after, give}
 use Rattle.sx_base.specs.declared.fault.Fault.{Fault}
 use Rattle.sx_base.specs.declared.library.LibName.{LibName}
 use Rattle.sx_base.specs.declared.name.FrameNo.{FrameNo}
 use Rattle.sx_base.specs.declared.name.Mark.{Mark}
-use Rattle.sx_base.specs.declared.name.Name.{Name}
-use Rattle.sx_base.specs.declared.op.Op.{Op}
 use Rattle.sx_base.specs.declared.span.Span.{Span}
 use Rattle.sx_tree.specs.Changes.{stamp}
 use Rattle.sx_tree.specs.Context.{LeafContext}
-use Rattle.sx_tree.specs.Leaves.{strip}
 use Rattle.sx_tree.specs.Tree.{Tree}
-use Rattle.sx_core.specs.Core.{PlainCore, quoted, primitive, call, cores, instance, matching}
-use Rattle.sx_core.specs.CoreView.{clauses}
+use Rattle.sx_core.specs.Core.{PlainCore, cores, instance}
 use Rattle.sx_core.specs.Pattern.{PlainPattern, PlainPatterns, patterns}
 use Rattle.sx_core.specs.Pattern as pattern
 use Rattle.sx_core.specs.Template.{PlainTemplate}
@@ -27,9 +23,9 @@ use Rattle.sx_quasi.specs.declared.quasi_syntax.Insert.{Insert}
 use Rattle.sx_quasi.specs.declared.quasi_syntax.QuasiSyntax.{QuasiSyntax}
 use Rattle.sx_quasi.specs.declared.word.Family.{Family}
 use Rattle.sx_quasi.specs.declared.word.Family.TheVariants as family
-use Rattle.sx_quasi_code.specs.Filled.{op_of, call_of, next_code, called, filled, all_filled}
+use Rattle.sx_quasi_code.specs.Filled.{next_code, filled, all_filled}
 use Rattle.sx_quasi_code.specs.Form.{quote_by, syntax_by, form_of, parts_of, code_of}
-use Rattle.sx_quasi_code.specs.Inserted.{dots, ellipsis, variable_of, insert_variable, insert_variables, listed, pattern_under, insert_pattern, inserts_pattern, list_op, only_clause, match_of, bind_inserts, inserted_in, inserted, plain_instance, syntax_code}
+use Rattle.sx_quasi_code.specs.Inserted.{dots, ellipsis, insert_variable, insert_variables, listed, pattern_under, insert_pattern, match_of, bind_inserts, inserted_in, inserted, syntax_code}
 use Rattle.sx_quasi_code.specs.Parts.{part, most_round, with_made, quasi_parts, all_quasi_parts, insert_part, inserts_parts}
 use Rattle.sx_quasi_code.specs.declared.form.QuasiForm.{QuasiForm}
 use Rattle.sx_quasi_code.specs.declared.form.QuasiForm.TheVariants as forms
@@ -43,15 +39,15 @@ use Rattle.sx_heads.specs.Depth.{deeper}
 use Rattle.sx_expand.specs.Inside.{Inside}
 use Rattle.sx_expand.specs.Quasi.{part_core, parts_in_order, quasi_made, quasi_form}
 use Rattle.sx_value.specs.Cells.{Each}
-use Rattle.sx_fresh_laws.specs.Leaves.{TreeHolds, CoresHold, TemplateHolds, PatternHolds, PatternsHold}
+use Rattle.sx_fresh_laws.specs.Leaves.{CoresHold, TemplateHolds, PatternHolds, PatternsHold}
 use Rattle.sx_fresh_laws.proofs.Eachs.{each_and, each_mapped}
 use Rattle.sx_fresh_laws.proofs.Trees.{OkHolds}
 use Rattle.sx_fresh_expansion_laws.specs.Living.{Lives}
 use Rattle.sx_fresh_expansion_laws.proofs.Changing.{stamp-holds}
 use Rattle.sx_fresh_expansion_laws.proofs.Forms.{Keeps}
 use Rattle.sx_fresh_expansion_laws.proofs.Quasi.{QuasiHolds, QuasisHold, quasi-holds}
-use Rattle.sx_fresh_expansion_laws.proofs.QuasiSyntax.{InsertHolds, quasi-syntax-holds}
-use Rattle.sx_fresh_expansion_laws.proofs.Standing.{F, From, T, Ts, C, up, tree-up, core-up, state-self, state-then, Gave, gave-from, gave-after, gave-each, gave-within, counted-holds, frame-made, VariableAt, put-row-holds, template-holds, bind-pattern-holds}
+use Rattle.sx_fresh_expansion_laws.proofs.QuasiSyntax.{quasi-syntax-holds}
+use Rattle.sx_fresh_expansion_laws.proofs.Standing.{F, T, C, up, tree-up, core-up, state-self, state-then, Gave, gave-from, gave-after, gave-each, gave-within, counted-holds, frame-made, VariableAt, put-row-holds, template-holds, bind-pattern-holds}
 
 module _ (own : LibName) (K : ℕ → Mark → Type 0) (J : ℕ → FrameNo → Type 0) (P : ℕ → LeafContext → Type 0) (lives : Lives own K J P) (first : ℕ) where
   abbrev Any : {A : Type 0} → ℕ → A → Type 0

@@ -1,5 +1,5 @@
 -- What is taken of a form of a body has the leaves of the form.
-use Rattle.std.proofs.Common.{◌≡◌, ◌≤◌, ℕ, Bool, true, false, List, [], ◌∷◌, ◌++◌, Option, None, Some, Result, Ok, Err, if◌then◌else◌}
+use Rattle.std.proofs.Common.{◌≤◌, ℕ, Bool, true, false, List, Result, Ok, Err, if◌then◌else◌}
 use Rattle.std.specs.Prelude.{◌||◌, ◌&&◌, not}
 use Rattle.sx_base.specs.Act.{after, give}
 use Rattle.sx_base.specs.declared.fault.Fault.{Fault}
@@ -34,13 +34,12 @@ use Rattle.sx_heads.specs.declared.taken.Waiting.{Waiting}
 use Rattle.sx_heads.specs.declared.taken.Waits.{Waits}
 use Rattle.sx_heads.specs.declared.taken.Waits.TheVariants as waits
 use Rattle.sx_value.specs.Cells.{Each}
-use Rattle.sx_fresh_laws.specs.Leaves.{OptionHolds}
 use Rattle.sx_fresh_laws.proofs.Eachs.{each_and, each_mapped}
 use Rattle.sx_fresh_laws.proofs.Trees.{OkHolds}
 use Rattle.sx_fresh_expansion_laws.specs.Forms.{WaitsHold}
 use Rattle.sx_fresh_expansion_laws.specs.Living.{Lives}
 use Rattle.sx_fresh_expansion_laws.proofs.Shapes.{FormalsHold, ShapeHolds, shape-holds}
-use Rattle.sx_fresh_expansion_laws.proofs.Standing.{F, From, T, Ts, tree-up, trees-up, option-up, state-self, state-then, Gave, gave-after, gave-if, SpecAt, BoundHolds, variable-holds, bind-keyword-holds}
+use Rattle.sx_fresh_expansion_laws.proofs.Standing.{F, T, Ts, tree-up, trees-up, option-up, state-self, state-then, Gave, gave-after, gave-if, SpecAt, BoundHolds, variable-holds, bind-keyword-holds}
 
 module _ (own : LibName) (K : ℕ → Mark → Type 0) (J : ℕ → FrameNo → Type 0) (P : ℕ → LeafContext → Type 0) (lives : Lives own K J P) (first : ℕ) where
   abbrev pub WaitsAt : ℕ → Waits → Type 0
@@ -108,8 +107,11 @@ module _ (own : LibName) (K : ℕ → Mark → Type 0) (J : ℕ → FrameNo → 
         (λ e u i y. ((state-self own K J P lives first) u ((state-then own K J P lives first) s u h i), more-waits u.names.number at depth e.0 (waits.Variable e.1 value) y ((option-up own K J P lives first) s.names.number u.names.number i.stage.up value j.1)))
     define-item-holds d t (shapes.DefineProcedure id ids forms) s h k g j =
         (gave-after own K J P lives first) DefinedAt TakenAt s (define at d t id s) (λ e. give (with_waiting at depth e.0 (waits.Procedure e.1 t ids forms))) (define-holds d t id s h k j.0)
-        (λ e u i y. ((state-self own K J P lives first) u ((state-then own K J P lives first) s u h i), more-waits u.names.number at depth e.0 (waits.Procedure e.1 t ids forms) y
-        ((tree-up own K J P lives first) s.names.number u.names.number i.stage.up t g, (formals-up s.names.number u.names.number i.stage.up ids j.1.0, (trees-up own K J P lives first) s.names.number u.names.number i.stage.up forms j.1.1))))
+        (λ e u i y. (
+          (state-self own K J P lives first) u ((state-then own K J P lives first) s u h i),
+          more-waits u.names.number at depth e.0 (waits.Procedure e.1 t ids forms) y
+              ((tree-up own K J P lives first) s.names.number u.names.number i.stage.up t g, (formals-up s.names.number u.names.number i.stage.up ids j.1.0, (trees-up own K J P lives first) s.names.number u.names.number i.stage.up forms j.1.1)),
+        ))
     define-item-holds d t (shapes.Quote datum) s h k g j = tt
     define-item-holds d t (shapes.Lambda ids forms) s h k g j = tt
     define-item-holds d t (shapes.CaseLambda cs) s h k g j = tt

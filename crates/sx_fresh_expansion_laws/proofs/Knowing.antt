@@ -1,11 +1,10 @@
 -- Known marks are such as may be met, and the mark of the next name is none of them.
-use Rattle.std.proofs.Common.{◌≡◌, ◌≤◌, ◌<◌, ◌⊎◌, ℕ, Bool, true, false, List, [], ◌∷◌, ◌++◌, refl, sym, ap, ◌∙◌, subst, arith, inl, inr}
+use Rattle.std.proofs.Common.{◌≡◌, ◌≤◌, ℕ, Bool, true, false, List, [], ◌∷◌, ◌++◌, refl, ap, ◌∙◌, subst, arith, inl, inr}
 use Rattle.std.specs.Prelude.{cond}
 use Rattle.sx_base.specs.Named.{Named}
 use Rattle.sx_base.specs.declared.library.LibName.{LibName}
 use Rattle.sx_base.specs.declared.library.LibName.TheVariants as library
 use Rattle.sx_base.specs.declared.name.FrameNo.{FrameNo}
-use Rattle.sx_base.specs.declared.name.Label.{Label}
 use Rattle.sx_base.specs.declared.name.Mark.{Mark}
 use Rattle.sx_tree.specs.Context.{LeafContext, blank}
 use Rattle.sx_tree.specs.Leaves.{contexts}
@@ -23,7 +22,7 @@ use Rattle.sx_hygiene_laws.specs.Marked as marked
 use Rattle.sx_stage.specs.Stage.{PlainStage}
 use Rattle.sx_standing.specs.State.{State, stage_of}
 use Rattle.sx_value.specs.Cells.{Each}
-use Rattle.sx_fresh_laws.specs.Leaves.{TreeHolds, ValueHolds, CellsHold, CodesHold, GlobalsHold}
+use Rattle.sx_fresh_laws.specs.Leaves.{TreeHolds}
 use Rattle.sx_fresh_laws.specs.Below.{mark_named}
 use Rattle.sx_fresh_laws.specs.Names.{temporary_context}
 use Rattle.sx_fresh_laws.proofs.Wider.{cells_wider, codes_wider, globals_wider}

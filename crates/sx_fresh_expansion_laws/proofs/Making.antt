@@ -1,8 +1,7 @@
 -- The stamps of leaves with known marks and frames name frames that were made.
-use Rattle.std.proofs.Common.{◌≡◌, ◌<◌, ◌⊎◌, ℕ, List, subst, sym, inl, inr}
+use Rattle.std.proofs.Common.{ℕ, List, subst, inl, inr}
 use Rattle.sx_base.specs.declared.library.LibName.{LibName}
 use Rattle.sx_base.specs.declared.name.FrameNo.{FrameNo}
-use Rattle.sx_base.specs.declared.name.Mark.{Mark}
 use Rattle.sx_tree.specs.Context.{LeafContext}
 use Rattle.sx_tree.specs.declared.stamp.Stamp.{Stamp}
 use Rattle.sx_hygiene_laws.specs.Marked.{Among}

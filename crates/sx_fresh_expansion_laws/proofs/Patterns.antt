@@ -1,5 +1,5 @@
 -- The literals and the variables of a pattern have the leaves of its form; its variables take names.
-use Rattle.std.proofs.Common.{◌≡◌, ◌≤◌, ℕ, ◌+◌, Bool, true, false, List, [], ◌∷◌, ◌++◌, Option, None, Some, Result, Ok, Err, arith, refl, if◌then◌else◌}
+use Rattle.std.proofs.Common.{◌≡◌, ◌≤◌, ℕ, ◌+◌, Bool, true, false, List, [], ◌∷◌, Option, None, Some, Result, Ok, Err, arith, if◌then◌else◌}
 use Rattle.sx_base.specs.Act.{after}
 use Rattle.sx_base.specs.Gives.{◌>>=◌}
 use Rattle.sx_base.specs.Named.{Named}
@@ -11,7 +11,7 @@ use Rattle.sx_tree.specs.Tree as tree
 use Rattle.sx_tree.specs.Tree.{Tree}
 use Rattle.sx_frames.specs.Scope.{Scope}
 use Rattle.sx_scope.specs.Stands.{stands}
-use Rattle.sx_core.specs.Pattern.{PlainPattern, list, vector, PlainPatterns, none, more, dots, patterns, patterns_on}
+use Rattle.sx_core.specs.Pattern.{PlainPattern, list, vector, PlainPatterns, none, patterns_on}
 use Rattle.sx_core.specs.declared.core_form.CoreForm.TheVariants as form
 use Rattle.sx_pattern.specs.Compile.{Taken, Element, Walked, is_known, is_literal, named, new_variable, leaf_pattern, no_parts, with_part, dots_of, parts_of, with_repeated, next_ellipsis, repeated_part, element, step, walked, list_with, vector_with, pattern, element_patterns, tail_pattern, literals_checked, with_variables, compiled}
 use Rattle.sx_pattern.specs.Keywords.{is_form}

@@ -1,7 +1,7 @@
 -- What is to be done with a form has the leaves of the form.
-use Rattle.std.proofs.Common.{◌≡◌, ◌≤◌, ℕ, Bool, true, false, List, [], ◌∷◌, Option, None, Some, Result, Ok, Err, if◌then◌else◌}
+use Rattle.std.proofs.Common.{ℕ, Bool, true, false, List, [], ◌∷◌, Option, None, Some, Result, Ok, Err, if◌then◌else◌}
 use Rattle.std.specs.Prelude.{nat_eq}
-use Rattle.sx_base.specs.Act.{after, give}
+use Rattle.sx_base.specs.Act.{after}
 use Rattle.sx_base.specs.declared.fault.Fault.{Fault}
 use Rattle.sx_base.specs.declared.library.LibName.{LibName}
 use Rattle.sx_base.specs.declared.name.Label.{Label}
@@ -10,7 +10,7 @@ use Rattle.sx_base.specs.declared.name.Mark.{Mark}
 use Rattle.sx_base.specs.declared.span.Span.{Span}
 use Rattle.sx_tree.specs.Context.{LeafContext}
 use Rattle.sx_tree.specs.Tree.{Tree, atom, leaf, pair, vector}
-use Rattle.sx_core.specs.Core.{PlainCore, instance}
+use Rattle.sx_core.specs.Core.{instance}
 use Rattle.sx_core.specs.Labels.{has_label}
 use Rattle.sx_core.specs.declared.core_form.CoreForm.{CoreForm}
 use Rattle.sx_core.specs.declared.core_form.CoreForm.TheVariants as core_forms
@@ -39,7 +39,7 @@ use Rattle.sx_fresh_laws.specs.Leaves.{OptionHolds}
 use Rattle.sx_fresh_laws.proofs.Trees.{OkHolds}
 use Rattle.sx_fresh_expansion_laws.specs.Living.{Lives}
 use Rattle.sx_fresh_expansion_laws.proofs.Shapes.{FormalsHold, LambdaHolds, PatternCaseHolds, ShapeHolds, proper-holds, shape-holds}
-use Rattle.sx_fresh_expansion_laws.proofs.Standing.{F, From, T, Ts, C, state-self, state-then, Gave, gave-after, gave-if, Taken, SpecAt, tree-up, template-holds}
+use Rattle.sx_fresh_expansion_laws.proofs.Standing.{F, From, T, Ts, C, state-self, state-then, Gave, gave-after, gave-if, SpecAt, tree-up, template-holds}
 
 module _ (own : LibName) (K : ℕ → Mark → Type 0) (J : ℕ → FrameNo → Type 0) (P : ℕ → LeafContext → Type 0) (lives : Lives own K J P) (first : ℕ) where
   abbrev pub PlanAt : ℕ → Plan → Type 0

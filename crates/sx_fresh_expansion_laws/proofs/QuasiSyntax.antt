@@ -1,9 +1,8 @@
 -- What a `quasisyntax` form comes to has the leaves of the form, and those of its inserts.
-use Rattle.std.proofs.Common.{◌≡◌, ℕ, zero, suc, ◌-◌, Bool, true, false, List, [], ◌∷◌, ◌++◌, length, take, drop, map, Option, None, Some, Result, Ok, Err, if◌then◌else◌}
+use Rattle.std.proofs.Common.{ℕ, zero, suc, ◌-◌, Bool, true, false, List, [], ◌∷◌, ◌++◌, length, take, drop, Option, None, Some, Result, Ok, Err, if◌then◌else◌}
 use Rattle.std.specs.Prelude.{◌||◌}
 use Rattle.sx_base.specs.Gives.{◌>>=◌}
 use Rattle.sx_base.specs.declared.fault.Bare.{Bare}
-use Rattle.sx_base.specs.declared.fault.Fault.{Fault}
 use Rattle.sx_base.specs.declared.span.Span.{Span}
 use Rattle.sx_tree.specs.Context.{LeafContext}
 use Rattle.sx_tree.specs.Measures.{within}
@@ -12,7 +11,7 @@ use Rattle.sx_shapes.specs.Lists.{is_nil, tail_of}
 use Rattle.sx_quasi.specs.Words.{inner, reach}
 use Rattle.sx_quasi.specs.Parts.{taken_at, rest_at, splits, first_word, operand_of}
 use Rattle.sx_quasi.specs.Quasi.{at_form}
-use Rattle.sx_quasi.specs.QuasiSyntax.{Looked, Inserts, then_insert, core_mark, insert_leaf, insert, no_trees, changed_row, leaves, spliced, as_row, with_part, unchanged, rebuilt, list_joined, vector_joined, joined, Element, forms, step_by, step, walked, leaf_part, operand_or_bad, begun_by, begins, Tail, finished, flat, split_tail, escapes, list_made, vector_made, syntax_at, elements_made, tail_made, answer, quasi_syntax}
+use Rattle.sx_quasi.specs.QuasiSyntax.{Looked, Inserts, then_insert, core_mark, insert_leaf, insert, no_trees, leaves, spliced, with_part, unchanged, rebuilt, list_joined, vector_joined, joined, Element, forms, step_by, step, walked, operand_or_bad, begun_by, begins, Tail, finished, flat, split_tail, escapes, list_made, vector_made, syntax_at, elements_made, tail_made, answer, quasi_syntax}
 use Rattle.sx_quasi.specs.declared.parts.Taken.{Taken}
 use Rattle.sx_quasi.specs.declared.parts.Taken.TheVariants as taken
 use Rattle.sx_quasi.specs.declared.quasi_syntax.Begun.{Begun}

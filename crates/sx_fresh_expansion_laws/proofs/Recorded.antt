@@ -1,16 +1,14 @@
 -- The marks in the record of a library: of the libraries before, or its own.
-use Rattle.std.proofs.Common.{◌≡◌, ◌≤◌, ℕ, zero, suc, Bool, true, false, List, [], ◌∷◌, ◌++◌, map, Option, None, Some, Result, Ok, Err, refl, sym, ap, subst, arith, inl, inr, if◌then◌else◌}
-use Rattle.std.specs.Prelude.{◌⊎◌}
+use Rattle.std.proofs.Common.{◌≡◌, ℕ, zero, suc, Bool, true, false, List, [], ◌∷◌, ◌++◌, map, Option, None, Some, Result, Ok, Err, refl, sym, subst, arith, inl, inr, if◌then◌else◌}
 use Rattle.std.specs.BTreeMap.{insert_entry}
 use Rattle.std.specs.Ordering.{nat_cmp, match_ordering}
 use Rattle.std.specs.declared.cmp.Ordering.{Ordering}
 use Rattle.std.specs.declared.cmp.Ordering.TheVariants as ordering
-use Rattle.sx_base.specs.Act.{after, give, each}
+use Rattle.sx_base.specs.Act.{after, give}
 use Rattle.sx_base.specs.Named.{Named}
 use Rattle.sx_base.specs.Same.{same_library}
 use Rattle.sx_base.specs.declared.fault.Fault.{Fault}
 use Rattle.sx_base.specs.declared.library.LibName.{LibName}
-use Rattle.sx_base.specs.declared.library.LibName.TheVariants as library
 use Rattle.sx_base.specs.declared.name.FrameNo.{FrameNo}
 use Rattle.sx_base.specs.declared.name.Label.{Label}
 use Rattle.sx_base.specs.declared.name.Mark.{Mark}
@@ -19,7 +17,7 @@ use Rattle.sx_tree.specs.Changes.{stamp}
 use Rattle.sx_tree.specs.Context.{LeafContext, blank}
 use Rattle.sx_tree.specs.Tree.{Tree}
 use Rattle.sx_tree.specs.declared.frame_row.FrameRow.{FrameRow}
-use Rattle.sx_frames.specs.Listed.{rows_from, put_place, placed, joined, rows_in}
+use Rattle.sx_frames.specs.Listed.{rows_from, placed, joined, rows_in}
 use Rattle.sx_frames.specs.Rows.{Row}
 use Rattle.sx_frames.specs.Scope.{Scope, row_in, with_row, adopted}
 use Rattle.sx_scope.specs.Stands.{stands}
@@ -28,8 +26,7 @@ use Rattle.sx_core.specs.Labels.{same_label, has_label}
 use Rattle.sx_core.specs.declared.binding.Binding.{Binding}
 use Rattle.sx_core.specs.declared.binding.Binding.TheVariants as binding
 use Rattle.sx_core.specs.declared.record.LibRecord.{LibRecord}
-use Rattle.sx_core.specs.declared.record.Line.{Line}
-use Rattle.sx_records.specs.Frame.{core_row, rows_for, introduced_numbers, record_frame}
+use Rattle.sx_records.specs.Frame.{rows_for, introduced_numbers, record_frame}
 use Rattle.sx_eval.specs.Codes.{Codes}
 use Rattle.sx_hygiene_laws.specs.Marked.{Among}
 use Rattle.sx_stage.specs.Stage.{keyword_at, expression_in, expression_of}
@@ -45,7 +42,7 @@ use Rattle.sx_expand.specs.Body.{finish_all}
 use Rattle.sx_expand.specs.Expanding.{ready, body_of, library_record}
 use Rattle.sx_expand.specs.Expression.{inside}
 use Rattle.sx_expand.specs.Inside.{Inside}
-use Rattle.sx_expand.specs.Top.{stands_for, export, all_exports, exports, record_of, give_record, record_in, body_at, finished, first_pass, top}
+use Rattle.sx_expand.specs.Top.{stands_for, export, all_exports, exports, give_record, record_in, body_at, finished, first_pass, top}
 use Rattle.sx_expand.specs.declared.top.TopAt.{TopAt}
 use Rattle.sx_fresh_laws.specs.Leaves.{OptionHolds, TreeHolds, CodesHold, LineHolds, LinesHold}
 use Rattle.sx_fresh_laws.proofs.Eachs.{each_both, each_mapped}
@@ -55,15 +52,15 @@ use Rattle.sx_fresh_expansion_laws.specs.History.{HasHistory}
 use Rattle.sx_fresh_expansion_laws.specs.Known.{IsKnownName, IsKnown, IsKnownFrame, HasMarks, libraries_of}
 use Rattle.sx_fresh_expansion_laws.specs.Living.{Lives, RowsHold}
 use Rattle.sx_fresh_expansion_laws.specs.RecordMarks.{IsOfOne, IsFrameOfOne, HasOnly, KnownBy, RecordHasOnly, WasRead, StartsAreKnown, RecordsHaveOwnMarks}
-use Rattle.sx_fresh_expansion_laws.specs.States.{ExpressionHolds, KeywordHolds, BindingHolds, BindingsHold, RecordsHold, StageHolds, StateHolds}
+use Rattle.sx_fresh_expansion_laws.specs.States.{ExpressionHolds, KeywordHolds, BindingHolds, BindingsHold, RecordsHold, StateHolds}
 use Rattle.sx_fresh_expansion_laws.proofs.Changing.{rise, with-row-holds, stamps-hold}
-use Rattle.sx_fresh_expansion_laws.proofs.Forms.{Keeps, LineAt, splice-holds, lines-hold}
+use Rattle.sx_fresh_expansion_laws.proofs.Forms.{Keeps, splice-holds, lines-hold}
 use Rattle.sx_fresh_expansion_laws.proofs.Items.{TakenAt, taken-up}
 use Rattle.sx_fresh_expansion_laws.proofs.Having.{has-wider, history-wider}
 use Rattle.sx_fresh_expansion_laws.proofs.Knowing.{lives-known, lives-on}
 use Rattle.sx_fresh_expansion_laws.proofs.Settled.{inside-keeps}
 use Rattle.sx_fresh_expansion_laws.proofs.Stages.{records-wider}
-use Rattle.sx_fresh_expansion_laws.proofs.Standing.{F, From, Ts, Gave, gave-after, gave-each, state-self, state-then, bindings-wider}
+use Rattle.sx_fresh_expansion_laws.proofs.Standing.{F, Ts, Gave, gave-after, gave-each, state-self, state-then, bindings-wider}
 
 -- Rows.
 

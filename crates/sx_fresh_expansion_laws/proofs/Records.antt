@@ -1,22 +1,19 @@
 -- What record forms stand for has the leaves of the form, and those that such forms introduce.
-use Rattle.std.proofs.Common.{◌≡◌, ℕ, ◌+◌, Bool, true, false, List, [], ◌∷◌, ◌++◌, Option, None, Some, Result, Ok, Err, codes, if◌then◌else◌}
+use Rattle.std.proofs.Common.{ℕ, ◌+◌, Bool, List, [], ◌∷◌, ◌++◌, Option, None, Some, Ok, Err, codes}
 use Rattle.sx_base.specs.Gives.{◌>>=◌}
-use Rattle.sx_base.specs.declared.fault.Bare.{Bare}
-use Rattle.sx_base.specs.declared.fault.Fault.{Fault}
 use Rattle.sx_base.specs.declared.span.Span.{Span}
 use Rattle.sx_tree.specs.Context.{LeafContext, blank}
 use Rattle.sx_tree.specs.Leaves.{context_of}
 use Rattle.sx_tree.specs.Tree.{Tree, atom, leaf, pair, vector, list_of, vector_of}
 use Rattle.sx_frames.specs.Scope.{Scope}
-use Rattle.sx_scope.specs.Stands.{symbol_of}
 use Rattle.sx_core.specs.declared.core_form.CoreForm.{CoreForm}
 use Rattle.sx_core.specs.declared.core_form.CoreForm.TheVariants as form
 use Rattle.sx_shapes.specs.Lists.{is_leaf, proper_elements, if_some, all_of}
 use Rattle.sx_records.specs.Clauses.{keyword_of, fixed_field, immutable_field, mutable_field, field_by, field_in, field_of, fields_clause, parent_clause, parent_rtd_clause, protocol_clause, only_truth, sealed_clause, opaque_clause, nongenerative_clause, clause_by, clause_in, clause_of, no_clauses, if_free, with_clause, or_bad, next_clause, all_clauses}
 use Rattle.sx_records.specs.Definitions.{Row, rtd, rcd, type_word, constructor_word, definition, definition_by, mutability, field_entry, field_entries, or_no_fields, fields_part, type_in, parent_type, uid_in, uid_part, or_false, type_operator, type_made, type_value, constructor_in, parent_constructor, protocol_part, constructor_operator, constructor_made, constructor_value, keyword_clause, keyword_body, keyword_value, keyword_definition, constructor_definition, predicate_definition, place_in, accessor_operator, accessor_value, accessor_definition, mutator_operator, mutator_value, mutator_definition, with_mutator, with_field, with_fields, first_definitions, definitions}
-use Rattle.sx_records.specs.Forms.{at_form, bad_form, only_id, descriptor_form, definitions_for, named_form, defining_form, record_forms}
+use Rattle.sx_records.specs.Forms.{at_form, only_id, descriptor_form, definitions_for, named_form, defining_form, record_forms}
 use Rattle.sx_records.specs.Introduced.{core_stamp, introduced, plain, boolean, Made, list_made, list_of_two, list_of_three, vector_made, quoted}
-use Rattle.sx_records.specs.Names.{like, made_accessor, made_mutator, made_names, given_names, names_of}
+use Rattle.sx_records.specs.Names.{like, made_names, given_names, names_of}
 use Rattle.sx_records.specs.declared.clause.Clauses.{Clauses}
 use Rattle.sx_records.specs.declared.clause.Field.{Field}
 use Rattle.sx_records.specs.declared.clause.Parent.{Parent}
@@ -31,7 +28,7 @@ use Rattle.sx_fresh_laws.specs.Leaves.{TreeHolds}
 use Rattle.sx_fresh_laws.specs.Leaves.{OptionHolds}
 use Rattle.sx_fresh_laws.proofs.Eachs.{each_and}
 use Rattle.sx_fresh_laws.proofs.Trees.{OkHolds, list_of_holds, vector_of_holds, within_holds}
-use Rattle.sx_fresh_expansion_laws.proofs.Shapes.{then-holds, ok-if, some-holds, if-holds, all-of-holds, proper-holds}
+use Rattle.sx_fresh_expansion_laws.proofs.Shapes.{then-holds, some-holds, if-holds, all-of-holds, proper-holds}
 
 module _ (P : LeafContext → Type 0) (written : P blank) (by_records : P (record { marks = []; stamps = core_stamp ∷ [] })) where
   abbrev T : Tree → Type 0

@@ -1,8 +1,7 @@
 -- Forms are settled, and all forms keep that all in the state of an expansion may be met.
-use Rattle.std.proofs.Common.{◌≡◌, ◌≤◌, ◌+◌, ℕ, zero, suc, Bool, true, false, List, [], ◌∷◌, ◌++◌, map, Option, None, Some, Result, Ok, Err, arith, if◌then◌else◌}
+use Rattle.std.proofs.Common.{ℕ, zero, suc, Bool, true, false, List, Option, None, Some, arith}
 use Rattle.std.specs.Prelude.{nat_lt}
 use Rattle.sx_base.specs.Act.{after, give}
-use Rattle.sx_base.specs.declared.fault.Fault.{Fault}
 use Rattle.sx_base.specs.declared.library.LibName.{LibName}
 use Rattle.sx_base.specs.declared.name.FrameNo.{FrameNo}
 use Rattle.sx_base.specs.declared.name.Label.{Label}
@@ -16,7 +15,7 @@ use Rattle.sx_shapes.specs.declared.shape.BindingSpec.{BindingSpec}
 use Rattle.sx_standing.specs.State.{State}
 use Rattle.sx_standing.specs.Uses.{asks_variable}
 use Rattle.sx_heads.specs.Depth.{deeper}
-use Rattle.sx_heads.specs.Items.{waiting_at, wait, define_keyword, item_plan}
+use Rattle.sx_heads.specs.Items.{waiting_at, define_keyword, item_plan}
 use Rattle.sx_heads.specs.Plan.{plan_of}
 use Rattle.sx_heads.specs.declared.item.Item.{Item}
 use Rattle.sx_heads.specs.declared.item.Item.TheVariants as items
@@ -32,19 +31,18 @@ use Rattle.sx_expand.specs.Body as expand_body
 use Rattle.sx_expand.specs.Expression.{perform, perform_settled, form_at, inside}
 use Rattle.sx_expand.specs.Inside.{Inside}
 use Rattle.sx_expand.specs.Keywords.{keyword, with_keywords, define_syntax}
-use Rattle.sx_expand.specs.Settle.{used_form, next_form, too_many, set_step, step_of, step, settled_by, settle_to, settle, at_use, item_done, set_item_step, item_step_of, item_step, item_by, settle_item_to, settle_item}
+use Rattle.sx_expand.specs.Settle.{used_form, next_form, too_many, set_step, step_of, step, settled_by, settle_to, settle, at_use, set_item_step, item_step_of, item_step, item_by, settle_item_to, settle_item}
 use Rattle.sx_expand.specs.declared.settle.ItemStep.{ItemStep}
 use Rattle.sx_expand.specs.declared.settle.ItemStep.TheVariants as item_steps
 use Rattle.sx_expand.specs.declared.settle.Settled.{Settled}
 use Rattle.sx_expand.specs.declared.settle.SettledItem.{SettledItem}
 use Rattle.sx_expand.specs.declared.settle.Step.{Step}
 use Rattle.sx_expand.specs.declared.settle.Step.TheVariants as steps
-use Rattle.sx_value.specs.Cells.{Each}
 use Rattle.sx_fresh_laws.specs.Leaves.{OptionHolds}
 use Rattle.sx_fresh_laws.proofs.Eachs.{each_and}
 use Rattle.sx_fresh_expansion_laws.specs.Living.{Lives}
 use Rattle.sx_fresh_expansion_laws.specs.States.{RecordsHold}
-use Rattle.sx_fresh_expansion_laws.proofs.Forms.{CaseAt, Keeps, splice-holds, case-holds, lambda-holds, case-lambda-holds, letrec-holds, application-holds, conditional-holds, set-holds, in-sequence-holds, syntax-case-holds, keyword-holds, with-keywords-holds, keywords-form-holds}
+use Rattle.sx_fresh_expansion_laws.proofs.Forms.{Keeps, splice-holds, case-holds, lambda-holds, case-lambda-holds, letrec-holds, application-holds, conditional-holds, set-holds, in-sequence-holds, syntax-case-holds, keyword-holds, with-keywords-holds, keywords-form-holds}
 use Rattle.sx_fresh_expansion_laws.proofs.Inserts.{quasi-form-holds}
 use Rattle.sx_fresh_expansion_laws.proofs.Items.{WaitingAt, TakenAt, ItemAt, BothAt, taken-up, define-keyword-holds, item-plan-holds}
 use Rattle.sx_fresh_expansion_laws.proofs.Plans.{PlanAt, plan-holds}

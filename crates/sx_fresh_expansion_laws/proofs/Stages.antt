@@ -1,12 +1,11 @@
 -- What is done on a stage keeps that all on it may be met.
-use Rattle.std.proofs.Common.{◌≡◌, ◌≤◌, ◌<◌, ◌+◌, ◌-◌, ℕ, Bool, true, false, List, [], ◌∷◌, ◌++◌, length, take, Option, None, Some, Result, Ok, Err, refl, sym, ap, subst, arith, slice_get, if◌then◌else◌}
+use Rattle.std.proofs.Common.{◌≡◌, ◌≤◌, ◌<◌, ◌+◌, ℕ, Bool, true, false, List, [], ◌∷◌, length, Option, None, Some, Result, Ok, Err, sym, subst, arith, slice_get, if◌then◌else◌}
 use Rattle.indexmap.specs.IndexMap.{insert_entry}
 use Rattle.sx_base.specs.Act.{after, give}
 use Rattle.sx_base.specs.Gives.{◌>>=◌}
 use Rattle.sx_base.specs.Named.{Named}
 use Rattle.sx_base.specs.declared.fault.Fault.{Fault}
 use Rattle.sx_base.specs.declared.library.LibName.{LibName}
-use Rattle.sx_base.specs.declared.name.CodeNo.{CodeNo}
 use Rattle.sx_base.specs.declared.name.FrameNo.{FrameNo}
 use Rattle.sx_base.specs.declared.name.Label.{Label}
 use Rattle.sx_base.specs.declared.name.Mark.{Mark}
@@ -27,24 +26,20 @@ use Rattle.sx_value.specs.declared.value.Value.TheVariants as value
 use Rattle.sx_value.specs.declared.cell.Cell.{Cell}
 use Rattle.sx_value.specs.declared.cell.Cell.TheVariants as cell
 use Rattle.sx_eval.specs.Codes.{Codes, same_code, with_code, procedure_code, with_codes, with_all, with_inits, with_cases, with_clauses}
-use Rattle.sx_eval.specs.Lines.{with_lines, with_value, with_values, with_values_in, lines_from, defined}
-use Rattle.sx_eval.specs.Meaning.{eval_of, applied}
-use Rattle.sx_eval.specs.Evals as evals
-use Rattle.sx_eval.specs.Setting.{PlainSetting}
+use Rattle.sx_eval.specs.Lines.{with_lines, with_value, with_values, with_values_in, defined}
 use Rattle.sx_eval.specs.State as run
 use Rattle.sx_eval.specs.State.{Outcome, done, faulted, unfit, next_place, with_cell}
 use Rattle.sx_eval.specs.Variables.{Entries}
 use Rattle.sx_stage.specs.Libraries.{has_library, has_all, wanted, libraries_of}
 use Rattle.sx_stage.specs.Running.{setting_on, state_on, left_by, ended_at, with_codes_of, outcome_of, evaluate, outcome_of_call, outcome_of_lines, left_by_library, library_ended, evaluate_library, evaluate_wanted, evaluate_all, need_all, need}
 use Rattle.sx_stage.specs.Running as running
-use Rattle.sx_stage.specs.Stage.{PlainStage, Does, name_after, fresh_mark, keyword_at, with_keyword, expression_in}
+use Rattle.sx_stage.specs.Stage.{PlainStage, Does, name_after, fresh_mark, keyword_at, with_keyword}
 use Rattle.sx_stage.specs.Transformers.{is_variable, is_transformer, transformer_only, transformer, begin_keyword, finish_keyword, value_in, import_keyword, value_or, keyword_value, is_variable_transformer}
 use Rattle.sx_stage.specs.Uses.{procedure_in, call_procedure, tree_at, read_answer, transform, cut, transform_and_cut, transform_marked, used}
 use Rattle.sx_stage.specs.declared.keyword.Keyword.{Keyword}
 use Rattle.sx_stage.specs.declared.keyword.Keyword.TheVariants as keyword
 use Rattle.sx_stage.specs.declared.fuel.TheConstants.{FUEL}
-use Rattle.sx_fresh_laws.specs.Below.{mark_named}
-use Rattle.sx_fresh_laws.specs.Leaves.{TreeHolds, ValueHolds, ValuesHold, VariableHolds, CellHolds, CellsHold, CoreHolds, CoresHold, InitsHold, CasesHold, ClausesHold, CodeHolds, CodesHold, GlobalsHold, LineHolds, LinesHold}
+use Rattle.sx_fresh_laws.specs.Leaves.{TreeHolds, ValueHolds, VariableHolds, CellHolds, CellsHold, CoreHolds, CoresHold, InitsHold, CasesHold, ClausesHold, CodeHolds, CodesHold, GlobalsHold, LinesHold}
 use Rattle.sx_fresh_laws.specs.Names.{Rises, SettingHolds, StateHolds, OutcomeHolds}
 use Rattle.sx_fresh_laws.specs.Leaves.{OptionHolds}
 use Rattle.sx_fresh_laws.proofs.Eachs.{each_at, each_and, each_taken, each_mapped}
@@ -52,7 +47,7 @@ use Rattle.sx_fresh_laws.proofs.Meaning.{holds-eval, holds-call, holds-lines}
 use Rattle.sx_fresh_laws.proofs.Read.{ReadHolds, read-holds}
 use Rattle.sx_fresh_laws.proofs.Variables.{looked_up, EntriesHold}
 use Rattle.sx_fresh_laws.proofs.Wider.{tree_wider, value_wider, cells_wider, core_wider, codes_wider, globals_wider, lines_wider}
-use Rattle.sx_fresh_expansion_laws.specs.Living.{Lives, RowsHold}
+use Rattle.sx_fresh_expansion_laws.specs.Living.{Lives}
 use Rattle.sx_fresh_expansion_laws.specs.States.{ExpressionHolds, KeywordHolds, KeywordsHold, RecordsHold, StageHolds}
 use Rattle.sx_fresh_expansion_laws.proofs.Changing.{rise, rows-wider, enter-holds, leave-holds, frame-up}
 

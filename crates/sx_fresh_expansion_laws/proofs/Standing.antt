@@ -1,5 +1,5 @@
 -- What binds, uses and compiles in an expansion keeps that all in its state may be met.
-use Rattle.std.proofs.Common.{◌≡◌, ◌≤◌, ◌<◌, ◌+◌, ℕ, Bool, true, false, List, [], ◌∷◌, ◌++◌, length, Option, None, Some, Result, Ok, Err, refl, sym, arith, subst, if◌then◌else◌}
+use Rattle.std.proofs.Common.{◌≤◌, ◌+◌, ℕ, Bool, true, false, List, [], ◌∷◌, ◌++◌, length, Option, None, Some, Result, Ok, Err, sym, arith, subst, if◌then◌else◌}
 use Rattle.sx_base.specs.Act.{after, give, each, gather}
 use Rattle.sx_base.specs.Named.{Named}
 use Rattle.sx_base.specs.declared.fault.Bare.{Bare}
@@ -23,7 +23,6 @@ use Rattle.sx_core.specs.declared.binding.Binding.{Binding}
 use Rattle.sx_core.specs.declared.binding.Binding.TheVariants as binding
 use Rattle.sx_core.specs.declared.binding.VarInfo.{VarInfo}
 use Rattle.sx_core.specs.declared.core_form.CoreForm.{CoreForm}
-use Rattle.sx_core.specs.declared.formals.Formals.{Formals}
 use Rattle.sx_core.specs.declared.record.LibRecord.{LibRecord}
 use Rattle.sx_pattern.specs.Compile as patterns
 use Rattle.sx_pattern.specs.declared.compile.Compiled.{Compiled}
@@ -40,10 +39,10 @@ use Rattle.sx_stage.specs.Stage.{PlainStage}
 use Rattle.sx_stage.specs.Transformers as stage
 use Rattle.sx_stage.specs.Uses.{used}
 use Rattle.sx_standing.specs.Binders.{variable_for, row_put, put_row, put_variable, bind_as, bind_variable, bind_all, bind_rest, bind_spec, bind_specs, bind_formals}
-use Rattle.sx_standing.specs.InScope.{cut, leaving, within, restoring, apart}
+use Rattle.sx_standing.specs.InScope.{leaving, within, restoring, apart}
 use Rattle.sx_standing.specs.Patterns.{pattern_of, check_literals, put_pattern_variable, bind_pattern_variable, bind_next, bind_pattern, has_variables, first_outside, outside_fault, template_in, template_of}
 use Rattle.sx_standing.specs.RecordUses.{at_state, defines_type, count_record_type, record_tree, record_marked, use_record}
-use Rattle.sx_standing.specs.State.{State, Does, stage_of, with_stage, staged, on_stage, fresh, fresh_frame}
+use Rattle.sx_standing.specs.State.{State, Does, stage_of, staged, on_stage, fresh}
 use Rattle.sx_standing.specs.Uses.{macro_expression, use_keyword, asks_variable, put_keyword, bind_keyword_as, bind_keyword, bind_keywords, finish_keyword}
 use Rattle.sx_standing.specs.declared.binders.BoundSpec.{BoundSpec}
 use Rattle.sx_template.specs.Compile as templates
@@ -55,12 +54,12 @@ use Rattle.sx_fresh_laws.proofs.Trees.{OkHolds}
 use Rattle.sx_fresh_laws.proofs.Variables.{looked_up}
 use Rattle.sx_fresh_laws.proofs.Wider.{tree_wider, core_wider}
 use Rattle.sx_fresh_expansion_laws.specs.Living.{Lives, RowsHold}
-use Rattle.sx_fresh_expansion_laws.specs.States.{ExpressionHolds, BindingHolds, BindingsHold, RecordsHold, StageHolds, StateHolds}
+use Rattle.sx_fresh_expansion_laws.specs.States.{ExpressionHolds, BindingHolds, BindingsHold, RecordsHold, StateHolds}
 use Rattle.sx_fresh_expansion_laws.proofs.Changing.{rise, bound-holds, enter-holds, leave-holds, frame-up, row-marks}
 use Rattle.sx_fresh_expansion_laws.proofs.Patterns.{VariableHolds, GaveBy, CompiledFrom, compiled-holds}
 use Rattle.sx_fresh_expansion_laws.proofs.Records.{record-holds}
 use Rattle.sx_fresh_expansion_laws.proofs.Shapes.{FormalsHold, SpecHolds}
-use Rattle.sx_fresh_expansion_laws.proofs.Stages.{GaveStage, Done, Told, IsTree, stage-less, stage-self, records-wider, expression-wider, renamed-stage, next-holds, begin-holds, finish-holds, asks-holds, used-holds}
+use Rattle.sx_fresh_expansion_laws.proofs.Stages.{GaveStage, stage-less, stage-self, records-wider, expression-wider, renamed-stage, next-holds, begin-holds, finish-holds, asks-holds, used-holds}
 use Rattle.sx_fresh_expansion_laws.proofs.Templates as of_templates
 
 binding-wider : (P Q : LeafContext → Type 0) → ((c : LeafContext) → P c → Q c) → (b : Binding) → BindingHolds P b → BindingHolds Q b
@@ -201,8 +200,13 @@ module _ (own : LibName) (K : ℕ → Mark → Type 0) (J : ℕ → FrameNo → 
       row-put-holds id place s (bound s.frames frame (row_for id l)) h (bound-holds (K s.names.number) s.frames frame (row_for id l) h.stage.frames (row-marks own K J P lives s.names.number id l k))
 
   put-variable-holds : (l : Label) (v : VarInfo) (s : State) → F s → Gave Taken s (put_variable l v s)
-  put-variable-holds l v s h = (record { stage = let g = stage-self own K J P lives first (stage_of s) h.stage in record { up = g.up; library = g.library; frames = g.frames; cells = g.cells; codes = g.codes; globals = g.globals; keywords = g.keywords };
-      bindings = each_and (λ (b : Label × Binding). BindingHolds (P s.names.number) b.1) s.bindings (l, binding.Variable v) h.bindings tt }, tt)
+  put-variable-holds l v s h = (
+    record {
+      stage = let g = stage-self own K J P lives first (stage_of s) h.stage in record { up = g.up; library = g.library; frames = g.frames; cells = g.cells; codes = g.codes; globals = g.globals; keywords = g.keywords };
+      bindings = each_and (λ (b : Label × Binding). BindingHolds (P s.names.number) b.1) s.bindings (l, binding.Variable v) h.bindings tt;
+    },
+    tt,
+  )
 
   bind-as-holds : (frame : FrameNo) (id : Tree) (place : Span) (level : ℕ) (top : Bool) (n : Named) (s : State) → F s → T s.names.number id → Gave Taken s (bind_as frame id place level top n s)
   bind-as-holds frame id place level top n s h k =
@@ -266,8 +270,13 @@ module _ (own : LibName) (K : ℕ → Mark → Type 0) (J : ℕ → FrameNo → 
   -- Keywords.
 
   put-keyword-holds : (l : Label) (level : ℕ) (s : State) → F s → Gave Taken s (put_keyword l level s)
-  put-keyword-holds l level s h = (record { stage = let g = stage-self own K J P lives first (stage_of s) h.stage in record { up = g.up; library = g.library; frames = g.frames; cells = g.cells; codes = g.codes; globals = g.globals; keywords = g.keywords };
-      bindings = each_and (λ (b : Label × Binding). BindingHolds (P s.names.number) b.1) s.bindings (l, binding.Macro level None) h.bindings tt }, tt)
+  put-keyword-holds l level s h = (
+    record {
+      stage = let g = stage-self own K J P lives first (stage_of s) h.stage in record { up = g.up; library = g.library; frames = g.frames; cells = g.cells; codes = g.codes; globals = g.globals; keywords = g.keywords };
+      bindings = each_and (λ (b : Label × Binding). BindingHolds (P s.names.number) b.1) s.bindings (l, binding.Macro level None) h.bindings tt;
+    },
+    tt,
+  )
 
   bind-keyword-as-holds : (frame : FrameNo) (place : Span) (level : ℕ) (b : BindingSpec) (n : Named) (s : State) → F s → SpecAt s.names.number b → Gave BoundHolds s (bind_keyword_as frame place level b n s)
   bind-keyword-as-holds frame place level b n s h k =
@@ -392,11 +401,13 @@ module _ (own : LibName) (K : ℕ → Mark → Type 0) (J : ℕ → FrameNo → 
       by (Err f) j = tt
       by (Ok p) j =
           let low = (j s.names.number (omega arith)).1.1 in
-          let c = j p.1.number low in
-          (record {
-            stage = renamed-stage own K J P lives s.names.number (stage_of s) p.1 (stage-self own K J P lives first (stage_of s) h.stage) c.1.0 low;
-            bindings = bindings-wider (P s.names.number) (P p.1.number) (up s.names.number p.1.number low) s.bindings h.bindings;
-          }, c.0)
+          let c = j p.1.number low in (
+            record {
+              stage = renamed-stage own K J P lives s.names.number (stage_of s) p.1 (stage-self own K J P lives first (stage_of s) h.stage) c.1.0 low;
+              bindings = bindings-wider (P s.names.number) (P p.1.number) (up s.names.number p.1.number low) s.bindings h.bindings;
+            },
+            c.0,
+          )
 
   pub literals-hold : (literals : List Tree) (place : Span) (s : State) → F s → Gave Taken s (check_literals place literals s)
   unfolding stage_patterns.check_literals
@@ -407,8 +418,13 @@ module _ (own : LibName) (K : ℕ → Mark → Type 0) (J : ℕ → FrameNo → 
       by (Ok x) = (record { stage = stage-self own K J P lives first (stage_of s) h.stage; bindings = h.bindings }, tt)
 
   put-pattern-variable-holds : (l : Label) (level depth : ℕ) (s : State) → F s → Gave Taken s (put_pattern_variable l level depth s)
-  put-pattern-variable-holds l level depth s h = (record { stage = let g = stage-self own K J P lives first (stage_of s) h.stage in record { up = g.up; library = g.library; frames = g.frames; cells = g.cells; codes = g.codes; globals = g.globals; keywords = g.keywords };
-      bindings = each_and (λ (b : Label × Binding). BindingHolds (P s.names.number) b.1) s.bindings (l, binding.PatternVariable level depth) h.bindings tt }, tt)
+  put-pattern-variable-holds l level depth s h = (
+    record {
+      stage = let g = stage-self own K J P lives first (stage_of s) h.stage in record { up = g.up; library = g.library; frames = g.frames; cells = g.cells; codes = g.codes; globals = g.globals; keywords = g.keywords };
+      bindings = each_and (λ (b : Label × Binding). BindingHolds (P s.names.number) b.1) s.bindings (l, binding.PatternVariable level depth) h.bindings tt;
+    },
+    tt,
+  )
 
   abbrev pub VariableAt : ℕ → PatternVariable → Type 0
   VariableAt n v = VariableHolds (P n) own v

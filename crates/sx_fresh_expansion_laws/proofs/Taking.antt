@@ -1,5 +1,5 @@
 -- The mark that a use takes is new.
-use Rattle.std.proofs.Common.{◌≡◌, ℕ, List, Option, Result, Ok, Err, refl, ap, subst}
+use Rattle.std.proofs.Common.{◌≡◌, ℕ, List, Option, Result, Ok, refl, ap, subst}
 use Rattle.sx_base.specs.Act.{after}
 use Rattle.sx_base.specs.declared.fault.Fault.{Fault}
 use Rattle.sx_base.specs.declared.library.LibName.{LibName}
@@ -27,7 +27,7 @@ use Rattle.sx_fresh_expansion_laws.specs.States.{ExpressionHolds, RecordsHold, S
 use Rattle.sx_fresh_expansion_laws.specs.Uses.{IsNewOn, IsNewIn, UsesTakeNewMarks}
 use Rattle.sx_fresh_expansion_laws.proofs.Changing.{rise}
 use Rattle.sx_fresh_expansion_laws.proofs.Knowing.{lives-known, new-tree, new-on, new-in-state}
-use Rattle.sx_fresh_expansion_laws.proofs.Stages.{GaveStage, IsValue, stage-self, value-holds}
+use Rattle.sx_fresh_expansion_laws.proofs.Stages.{GaveStage, IsValue, value-holds}
 
 module _ (libs : List LibName) (own : LibName) where
   abbrev K : ℕ → Mark → Type 0
@@ -45,9 +45,10 @@ module _ (libs : List LibName) (own : LibName) where
         → (used place records t l e frame g ≡ transform_marked place v t frame (record { 0 = h.names }) (record h { names = name_after h.names })) × (IsNewOn (record { 0 = h.names }) h × Untouched (record { 0 = h.names }) t)
     unfolding used
     keyword-new place records t l e frame g h v holds rs ex tr is =
-        let given = subst (GaveStage own K J P (lives-known libs own core) (IsValue own K J P (lives-known libs own core)) g.names.number) is (value-holds own K J P (lives-known libs own core) place records l e g.names.number g holds rs ex) in
-        (ap (λ (r : Result (Value × PlainStage) Fault). after r (λ v t'. after (fresh_mark t') (transform_marked place v t frame))) is,
-        (new-on libs own new g.names.number h given.0, new-tree libs own new h.names given.0.library t (tree_wider (P g.names.number) (P h.names.number) (rise own K J P (lives-known libs own core) g.names.number h.names.number given.0.up) t tr)))
+        let given = subst (GaveStage own K J P (lives-known libs own core) (IsValue own K J P (lives-known libs own core)) g.names.number) is (value-holds own K J P (lives-known libs own core) place records l e g.names.number g holds rs ex) in (
+          ap (λ (r : Result (Value × PlainStage) Fault). after r (λ v t'. after (fresh_mark t') (transform_marked place v t frame))) is,
+          (new-on libs own new g.names.number h given.0, new-tree libs own new h.names given.0.library t (tree_wider (P g.names.number) (P h.names.number) (rise own K J P (lives-known libs own core) g.names.number h.names.number given.0.up) t tr)),
+        )
 
   record-new : (new : Among libs own → ⊥) (place : Span) (t : Tree) (f : CoreForm) (frame : Option FrameNo) (s : State) → StateHolds own K P s.names.number s → TreeHolds (P s.names.number) t
       → (use_record place t f frame s ≡ record_marked place t f frame (record { 0 = s.names }) (record s { names = name_after s.names })) × (IsNewIn (record { 0 = s.names }) s × Untouched (record { 0 = s.names }) t)

@@ -1,5 +1,5 @@
 -- The constants of a template have the leaves of its form.
-use Rattle.std.proofs.Common.{◌≡◌, ℕ, zero, suc, ◌+◌, Bool, true, false, List, [], ◌∷◌, ◌++◌, length, Option, None, Some, Result, Ok, Err, refl, sym, ap, subst, arith, slice_get, nat_lt, if◌then◌else◌}
+use Rattle.std.proofs.Common.{◌≡◌, ℕ, zero, suc, ◌+◌, Bool, true, false, List, [], ◌∷◌, ◌++◌, length, Option, None, Some, Result, Ok, Err, refl, sym, subst, arith, slice_get, nat_lt, if◌then◌else◌}
 use Rattle.std.specs.Prelude.{◌||◌, nat_eq}
 use Rattle.sx_base.specs.Gives.{◌>>=◌}
 use Rattle.sx_base.specs.declared.fault.Bare.{Bare}
@@ -12,15 +12,14 @@ use Rattle.sx_tree.specs.Tree as tree
 use Rattle.sx_tree.specs.Tree.{Tree, nil, span_of, spanned, list_of, vector_of}
 use Rattle.sx_scope.specs.Stands.{stands}
 use Rattle.sx_core.specs.Bindings.{bound_to}
-use Rattle.sx_core.specs.Template.{PlainTemplate, variable, constant, list, vector, PlainItems, none, more}
+use Rattle.sx_core.specs.Template.{PlainTemplate, list, vector}
 use Rattle.sx_core.specs.declared.binding.Binding.{Binding}
 use Rattle.sx_core.specs.declared.binding.Binding.TheVariants as binding
 use Rattle.sx_shapes.specs.Lists.{is_nil, tail_of}
-use Rattle.sx_template.specs.Compile.{Context, variable_made, bound_made, label_made, is_special, leaf_made, Element, dots_behind, reach, with_ellipses, fitted, item_made, Walked, step, walked, constant_of, template_of, items_of, is_fixed, all_fixed, is_changed, any_changed, tree_before, trees, rebuilt, placed, fixed_list, list_joined, fixed_vector, vector_joined, escape_of, unescaped, list_parts, list_made, vector_made, template, elements_made, tail_made, compiled}
+use Rattle.sx_template.specs.Compile.{Context, variable_made, bound_made, label_made, is_special, leaf_made, Element, dots_behind, reach, with_ellipses, fitted, item_made, Walked, step, walked, constant_of, template_of, items_of, is_fixed, is_changed, any_changed, tree_before, trees, rebuilt, placed, fixed_list, list_joined, fixed_vector, vector_joined, escape_of, unescaped, list_parts, list_made, vector_made, template, elements_made, tail_made, compiled}
 use Rattle.sx_pattern.specs.Keywords.{is_ellipsis}
 use Rattle.sx_value.specs.Cells.{Each}
 use Rattle.sx_fresh_laws.specs.Leaves.{TreeHolds, TemplateHolds, ItemsHold}
-use Rattle.sx_fresh_laws.specs.Leaves.{OptionHolds}
 use Rattle.sx_fresh_laws.proofs.Eachs.{each_and, each_both}
 use Rattle.sx_fresh_laws.proofs.Trees.{OkHolds, spanned_holds, unspanned_holds, list_of_holds, vector_of_holds, within_holds}
 

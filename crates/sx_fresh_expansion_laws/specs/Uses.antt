@@ -1,6 +1,5 @@
 -- The mark that a use of a keyword takes is new.
-use Rattle.std.specs.Prelude.{◌≡◌, ℕ, List, Option, Ok}
-use Rattle.sx_base.specs.Act.{after}
+use Rattle.std.specs.Prelude.{◌≡◌, List, Option, Ok}
 use Rattle.sx_base.specs.declared.library.LibName.{LibName}
 use Rattle.sx_base.specs.declared.library.LibName.TheVariants as library
 use Rattle.sx_base.specs.declared.name.FrameNo.{FrameNo}
