@@ -1,5 +1,5 @@
 -- What a primitive makes has no leaves but those of its arguments and of the cells.
-use Rattle.std.proofs.Common.{◌≡◌, ◌+◌, ◌-◌, ◌/◌, ◌%◌, ◌^◌, ◌==◌, ◌||◌, ◌&&◌, ℕ, zero, suc, ℤ, pos, negsuc, List, [], ◌∷◌, ◌++◌, Option, Some, None, Bool, true, false, Result, Ok, Err, length, reverse, map, chars, nat_le, unsigned_abs, sym, subst, slice_get, if◌then◌else◌}
+use Rattle.std.proofs.Common.{◌+◌, ◌-◌, ◌/◌, ◌%◌, ◌==◌, ◌||◌, ◌&&◌, ℕ, zero, suc, ℤ, pos, negsuc, List, [], ◌∷◌, ◌++◌, Option, Some, None, Bool, true, false, Result, Ok, Err, length, map, chars, nat_le, unsigned_abs, slice_get, if◌then◌else◌}
 use Rattle.sx_base.specs.Gives.{◌>>=◌}
 use Rattle.sx_base.specs.declared.atom.Atom.TheVariants as a
 use Rattle.sx_base.specs.declared.fault.Bare.{Bare}
@@ -13,7 +13,6 @@ use Rattle.sx_value.specs.Cells.{Each, vector_at, string_at}
 use Rattle.sx_value.specs.declared.value.Value.{Value}
 use Rattle.sx_value.specs.declared.value.Value.TheVariants as value
 use Rattle.sx_value.specs.declared.cell.Cell.{Cell}
-use Rattle.sx_value.specs.declared.cell.Cell.TheVariants as cell
 use Rattle.sx_prims.specs.declared.made.Made.{Made}
 use Rattle.sx_prims.specs.declared.made.Made.TheVariants as made
 use Rattle.sx_prims.specs.declared.primitive.Primitive.{Primitive}

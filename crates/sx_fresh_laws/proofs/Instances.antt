@@ -1,5 +1,5 @@
 -- An instance of a template has the leaves of its constants and of the binds of its variables.
-use Rattle.std.proofs.Common.{◌≡◌, ◌+◌, ℕ, zero, suc, List, [], ◌∷◌, ◌++◌, Option, Some, None, Bool, true, false, Result, Ok, Err, length, drop, slice_get, option_and_then, if◌then◌else◌}
+use Rattle.std.proofs.Common.{◌+◌, ℕ, zero, suc, List, [], ◌∷◌, ◌++◌, Option, Some, None, Bool, true, false, Result, Ok, Err, length, slice_get, option_and_then, if◌then◌else◌}
 use Rattle.sx_base.specs.Gives.{◌>>=◌}
 use Rattle.sx_base.specs.Same.{same_name}
 use Rattle.sx_base.specs.declared.atom.Atom.TheVariants as a
@@ -23,8 +23,7 @@ use Rattle.sx_fresh_laws.specs.Leaves.{ValueHolds, ValuesHold, BindHolds, BindsH
 use Rattle.sx_fresh_laws.specs.Leaves.{OptionHolds}
 use Rattle.sx_fresh_laws.proofs.Eachs.{each_and}
 use Rattle.sx_fresh_laws.proofs.Matches.{AllBound}
-use Rattle.sx_fresh_laws.proofs.Storing.{StoredHolds, ValuesStored, pairs_hold, vector_holds}
-use Rattle.sx_fresh_laws.proofs.Trees.{OkHolds}
+use Rattle.sx_fresh_laws.proofs.Storing.{pairs_hold, vector_holds}
 use Rattle.sx_fresh_laws.proofs.Variables as variables
 
 module _ (P : LeafContext → Type 0) where

@@ -1,5 +1,5 @@
 -- What a pattern takes of a value has no leaves but those of the value and of the cells.
-use Rattle.std.proofs.Common.{◌≡◌, ◌+◌, ◌-◌, ℕ, zero, suc, List, [], ◌∷◌, ◌++◌, Option, Some, None, Bool, true, false, length, take, drop, map, nat_le, if◌then◌else◌}
+use Rattle.std.proofs.Common.{◌+◌, ◌-◌, ℕ, zero, suc, List, [], ◌∷◌, ◌++◌, Option, Some, None, Bool, true, false, length, take, drop, map, nat_le, if◌then◌else◌}
 use Rattle.sx_base.specs.declared.name.Label.{Label}
 use Rattle.sx_tree.specs.Context.{LeafContext}
 use Rattle.sx_tree.specs.Tree as tree

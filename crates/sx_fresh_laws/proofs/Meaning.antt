@@ -1,7 +1,6 @@
 -- What an evaluation comes to has no leaves but those that may be met when it is done.
-use Rattle.std.proofs.Common.{◌≡◌, ◌≤◌, ◌+◌, ◌-◌, ℕ, zero, suc, Bool, true, false, List, [], ◌∷◌, ◌++◌, length, drop, Option, None, Some, Result, Ok, Err, nat_lt, refl, arith, if◌then◌else◌}
+use Rattle.std.proofs.Common.{◌≤◌, ◌+◌, ◌-◌, ℕ, zero, suc, Bool, true, false, List, [], ◌∷◌, ◌++◌, length, drop, Option, None, Some, Result, Ok, Err, nat_lt, arith, if◌then◌else◌}
 use Rattle.sx_base.specs.Datum.{PlainDatum}
-use Rattle.sx_base.specs.Named.{Named}
 use Rattle.sx_base.specs.declared.atom.Atom.TheVariants as a
 use Rattle.sx_base.specs.declared.fault.Bare.{Bare}
 use Rattle.sx_base.specs.declared.library.LibName.{LibName}
@@ -16,7 +15,6 @@ use Rattle.sx_core.specs.Template.{PlainTemplate}
 use Rattle.sx_core.specs.declared.formals.Formals.{Formals}
 use Rattle.sx_core.specs.declared.record.Line.{Line}
 use Rattle.sx_core.specs.declared.record.Line.TheVariants as line
-use Rattle.sx_value.specs.Bind.{PlainBind}
 use Rattle.sx_value.specs.FromDatum.{stored, pairs_stored}
 use Rattle.sx_value.specs.ToSyntax.{fuel_spent}
 use Rattle.sx_value.specs.declared.value.Value.{Value}
@@ -29,8 +27,6 @@ use Rattle.sx_prims.specs.Answers.{Answer}
 use Rattle.sx_prims.specs.Chains.{list_elements}
 use Rattle.sx_prims.specs.Cost.{cost}
 use Rattle.sx_prims.specs.Delta.{delta}
-use Rattle.sx_prims.specs.Perform.{performed, names_taken, name_after}
-use Rattle.sx_template.specs.Binds.{unbound}
 use Rattle.sx_eval.specs.Codes.{code_at}
 use Rattle.sx_eval.specs.Instances.{Binds, match_of, instance_of, cost_of, instance_made, instance_paid, instance_with, instanced, gathered}
 use Rattle.sx_eval.specs.Lines.{lines_from}
@@ -40,8 +36,8 @@ use Rattle.sx_eval.specs.Quoted.{datum_cost}
 use Rattle.sx_eval.specs.Setting.{PlainSetting}
 use Rattle.sx_eval.specs.Spread.{Call, apply_args, before_last, parted, with_elements, with_front, on_parts, spread_once, spread_on, spread_to, spread}
 use Rattle.sx_eval.specs.State.{State, Outcome, done, faulted, unfit, Go, then_do, charged, made, store, next_place, with_cell}
-use Rattle.sx_eval.specs.Variables.{Entries, found, unset, assigned, all_assigned}
-use Rattle.sx_fresh_laws.specs.Leaves.{ValueHolds, ValuesHold, VariableHolds, CellHolds, CellsHold, TemplateHolds, CoreHolds, CoresHold, InitsHold, CasesHold, ClausesHold, CodeHolds, CodesHold, GlobalsHold, LineHolds, LinesHold}
+use Rattle.sx_eval.specs.Variables.{found, unset, assigned, all_assigned}
+use Rattle.sx_fresh_laws.specs.Leaves.{ValueHolds, ValuesHold, VariableHolds, CellHolds, CellsHold, TemplateHolds, CoreHolds, CoresHold, InitsHold, CasesHold, ClausesHold, CodeHolds, LinesHold}
 use Rattle.sx_fresh_laws.specs.Names.{Rises, SettingHolds, StateHolds, OutcomeHolds}
 use Rattle.sx_fresh_laws.proofs.Calls.{AnswerOr, delta_ok}
 use Rattle.sx_fresh_laws.specs.Leaves.{OptionHolds}
@@ -51,7 +47,7 @@ use Rattle.sx_fresh_laws.proofs.Matches.{AllBound, FoundOr, matched_holds}
 use Rattle.sx_fresh_laws.proofs.Reading.{ValuesOr, elements_hold}
 use Rattle.sx_fresh_laws.proofs.Storing.{StoredHolds, pairs_hold, stored_holds, performed_holds}
 use Rattle.sx_fresh_laws.proofs.Variables.{EntriesHold, FoundValue, found_holds, unset_holds, assigned_holds, all_assigned_hold, code_holds}
-use Rattle.sx_fresh_laws.proofs.Wider.{value_wider, values_wider, cells_wider, template_wider, globals_wider}
+use Rattle.sx_fresh_laws.proofs.Wider.{value_wider, values_wider, template_wider, globals_wider}
 
 module _ (own : LibName) (m : ℕ) (P : ℕ → LeafContext → Type 0) (rises : Rises own m P) where
   abbrev S : ℕ → State → Type 0

@@ -1,5 +1,5 @@
 -- What holds of the leaves in cells holds of those that are read from them.
-use Rattle.std.proofs.Common.{◌≡◌, ℕ, zero, suc, List, [], ◌∷◌, ◌++◌, Option, Some, None, Bool, true, false, length, refl, slice_get, if◌then◌else◌}
+use Rattle.std.proofs.Common.{ℕ, zero, suc, List, [], ◌∷◌, Option, Some, None, Bool, true, false, length, slice_get, if◌then◌else◌}
 use Rattle.sx_tree.specs.Context.{LeafContext}
 use Rattle.sx_value.specs.Cells.{pair_in, pair_at, vector_in, vector_at}
 use Rattle.sx_value.specs.declared.value.Value.{Value}

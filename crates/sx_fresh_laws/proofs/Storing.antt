@@ -6,7 +6,7 @@ use Rattle.sx_base.specs.declared.atom.Atom.{Atom}
 use Rattle.sx_base.specs.declared.atom.Atom.TheVariants as a
 use Rattle.sx_base.specs.declared.library.LibName.{LibName}
 use Rattle.sx_tree.specs.Context.{LeafContext}
-use Rattle.sx_value.specs.FromDatum.{atom_stored, pair_stored, pairs_stored, vector_stored, stored, elements_stored}
+use Rattle.sx_value.specs.FromDatum.{atom_stored, pairs_stored, vector_stored, stored, elements_stored}
 use Rattle.sx_value.specs.declared.value.Value.{Value}
 use Rattle.sx_value.specs.declared.value.Value.TheVariants as value
 use Rattle.sx_value.specs.declared.cell.Cell.{Cell}
@@ -16,10 +16,10 @@ use Rattle.sx_prims.specs.Perform.{name_after, temporaries, performed, names_tak
 use Rattle.sx_prims.specs.declared.made.Made.{Made}
 use Rattle.sx_prims.specs.declared.made.Made.TheVariants as made
 use Rattle.sx_fresh_laws.specs.Leaves.{ValueHolds, ValuesHold, CellHolds, CellsHold}
-use Rattle.sx_fresh_laws.specs.Names.{temporary_context, Rises}
+use Rattle.sx_fresh_laws.specs.Names.{Rises}
 use Rattle.sx_fresh_laws.proofs.Eachs.{each_and}
 use Rattle.sx_fresh_laws.proofs.Calls.{MadeHolds}
-use Rattle.sx_fresh_laws.proofs.Wider.{value_wider, values_wider, cells_wider}
+use Rattle.sx_fresh_laws.proofs.Wider.{value_wider, cells_wider}
 
 module _ (P : LeafContext → Type 0) where
   -- a value with the cells then

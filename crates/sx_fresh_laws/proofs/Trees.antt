@@ -1,7 +1,5 @@
 -- Trees that are put together have the leaves of their parts.
-use Rattle.std.proofs.Common.{◌≡◌, List, [], ◌∷◌, Option, None, Some, Bool, true, false, Result, Ok, Err, if◌then◌else◌}
-use Rattle.sx_base.specs.declared.atom.Atom.TheVariants as a
-use Rattle.sx_base.specs.declared.fault.Bare.{Bare}
+use Rattle.std.proofs.Common.{List, [], ◌∷◌, Option, None, Some, Bool, true, false, Result, Ok, Err, if◌then◌else◌}
 use Rattle.sx_base.specs.declared.span.Span.{Span}
 use Rattle.sx_tree.specs.Context.{LeafContext}
 use Rattle.sx_tree.specs.Measures.{fits, too_deep, within}

@@ -1,5 +1,5 @@
 -- What variables stand for, and what they are given, has no leaves but those that were there.
-use Rattle.std.proofs.Common.{◌≡◌, ℕ, zero, suc, List, [], ◌∷◌, Option, Some, None, Bool, true, false, slice_get, slice_set, option_map, if◌then◌else◌}
+use Rattle.std.proofs.Common.{ℕ, zero, suc, List, [], ◌∷◌, Option, Some, None, Bool, true, false, slice_get, slice_set, option_map, if◌then◌else◌}
 use Rattle.std.specs.Map.{lookup}
 use Rattle.sx_base.specs.declared.name.CodeNo.{CodeNo}
 use Rattle.sx_base.specs.declared.name.Label.{Label}

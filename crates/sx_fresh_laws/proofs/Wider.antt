@@ -1,5 +1,5 @@
 -- What holds of each leaf holds where more may be met.
-use Rattle.std.proofs.Common.{List, [], ◌∷◌, Option, None, Some}
+use Rattle.std.proofs.Common.{List, Option, None, Some}
 use Rattle.sx_base.specs.declared.name.CodeNo.{CodeNo}
 use Rattle.sx_base.specs.declared.name.Label.{Label}
 use Rattle.sx_tree.specs.Context.{LeafContext}

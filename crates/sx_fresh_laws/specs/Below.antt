@@ -1,6 +1,5 @@
 -- Marks that were taken before a name of a library: all of other libraries, and those of it with a lower number.
 use Rattle.std.specs.Prelude.{◌≡◌, ◌<◌, ℕ, List}
-use Rattle.sx_base.specs.Named.{Named}
 use Rattle.sx_base.specs.declared.library.LibName.{LibName}
 use Rattle.sx_base.specs.declared.name.FrameNo.{FrameNo}
 use Rattle.sx_base.specs.declared.name.Mark.{Mark}
@@ -14,7 +13,7 @@ use Rattle.sx_core.specs.Core.{PlainCore}
 use Rattle.sx_core.specs.declared.record.Line.{Line}
 use Rattle.sx_value.specs.declared.value.Value.{Value}
 use Rattle.sx_hygiene_laws.specs.Binder.{IsNew}
-use Rattle.sx_hygiene_laws.specs.Marked.{Each, Lacks, Untouched}
+use Rattle.sx_hygiene_laws.specs.Marked.{Each, Untouched}
 use Rattle.sx_eval.specs.Lines.{lines_from}
 use Rattle.sx_eval.specs.Meaning.{eval_of, applied}
 use Rattle.sx_eval.specs.Setting.{PlainSetting}

@@ -2,7 +2,6 @@
 use Rattle.std.specs.Prelude.{◌≡◌, ◌≤◌, ◌<◌, ℕ, [], ◌∷◌}
 use Rattle.sx_base.specs.declared.library.LibName.{LibName}
 use Rattle.sx_tree.specs.Context.{LeafContext}
-use Rattle.sx_value.specs.declared.value.Value.{Value}
 use Rattle.sx_eval.specs.Setting.{PlainSetting}
 use Rattle.sx_eval.specs.State.{State, Outcome, done, faulted, unfit}
 use Rattle.sx_fresh_laws.specs.Leaves.{ValueHolds, CellsHold, CodesHold, GlobalsHold}
