@@ -1,0 +1,9 @@
+pub mod Living
+pub mod States
+pub mod Forms
+pub mod Known
+pub mod Uses
+pub mod Made
+pub mod History
+pub mod Keeping
+pub mod RecordMarks

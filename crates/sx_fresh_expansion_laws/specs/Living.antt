@@ -1,0 +1,40 @@
+-- What may be met on the leaves of an expansion.
+use Rattle.std.specs.Prelude.{◌≤◌, ◌<◌, ℕ, List, [], ◌∷◌}
+use Rattle.sx_base.specs.declared.library.LibName.{LibName}
+use Rattle.sx_base.specs.declared.name.FrameNo.{FrameNo}
+use Rattle.sx_base.specs.declared.name.Mark.{Mark}
+use Rattle.sx_tree.specs.Context.{LeafContext, blank, act}
+use Rattle.sx_tree.specs.declared.change.Change.{Change}
+use Rattle.sx_tree.specs.declared.change.Change.TheVariants as change
+use Rattle.sx_frames.specs.Rows.{Row}
+use Rattle.sx_frames.specs.Scope.{Scope}
+use Rattle.sx_records.specs.Introduced.{core_frame}
+use Rattle.sx_quasi.specs.QuasiSyntax.{core_mark}
+use Rattle.sx_value.specs.Cells.{Each}
+use Rattle.sx_fresh_laws.specs.Leaves.{OptionHolds}
+use Rattle.sx_fresh_laws.specs.Below.{mark_named}
+use Rattle.sx_fresh_laws.specs.Names.{Rises}
+
+-- a change with such a mark and such a frame
+abbrev pub IsChangeOf : (Mark → Type 0) → (FrameNo → Type 0) → Change → Type 0
+IsChangeOf K J (change.Enter m) = K m
+IsChangeOf K J (change.Leave m f) = K m × OptionHolds J f
+IsChangeOf K J (change.Stamp f) = J f
+
+-- K says which marks may be met before the name of this number is taken, J so of frames, and P of what is on leaves: what could be met before, the
+-- marks and frames of names that were taken, leaves as they are read, those of the implementation, and what these become by such changes.
+pub record Lives (own : LibName) (K : ℕ → Mark → Type 0) (J : ℕ → FrameNo → Type 0) (P : ℕ → LeafContext → Type 0) : Type 0 where
+  pub rises : Rises own 0 P
+  pub known : (m n : ℕ) (x : Mark) → m ≤ n → K m x → K n x
+  pub taken : (m n : ℕ) → m < n → K n (mark_named own m)
+  pub frames : (m n : ℕ) (f : FrameNo) → m ≤ n → J m f → J n f
+  pub made : (m n : ℕ) → m < n → J n (record { 0 = record { library = own; number = m } })
+  pub introduced : J 0 core_frame
+  pub changed : (n : ℕ) (x : Change) (c : LeafContext) → IsChangeOf (K n) (J n) x → P n c → P n (act x c)
+  pub read : P 0 blank
+  pub core : (k : ℕ) → P 0 (record { marks = core_mark k ∷ []; stamps = [] })
+  pub marks : (n : ℕ) (c : LeafContext) → P n c → Each (K n) c.marks
+
+-- so it is of the rows of frames
+abbrev pub RowsHold : (Mark → Type 0) → Scope → Type 0
+RowsHold K fs = Each (λ (e : FrameNo × List Row). Each (λ (r : Row). Each K r.marks) e.1) fs

@@ -1,0 +1,12 @@
+pub mod Eachs
+pub mod Wider
+pub mod Reading
+pub mod Calls
+pub mod Storing
+pub mod Matches
+pub mod Instances
+pub mod Variables
+pub mod Meaning
+pub mod Trees
+pub mod Read
+pub mod Families

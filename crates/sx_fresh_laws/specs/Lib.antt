@@ -1,0 +1,4 @@
+pub mod Leaves
+pub mod Names
+pub mod Coming
+pub mod Below

@@ -1,0 +1,41 @@
+//! That the marks of an expansion are new when they are taken: where the leaves of what an evaluation gives
+//! come from.
+//!
+//! A use of a keyword takes the next name of the library as its mark, and the laws of `sx_hygiene_laws` ask
+//! that nothing had this mark before. But a transformer runs between, and what it gives may have leaves of its
+//! code, of its cells, of its argument, and temporaries:
+//!
+//! ```text
+//! #'(x y)                                x, y: constants of the template
+//! (datum->syntax #'k 'x)                 x: the marks and stamps of k
+//! (syntax-case form () ((_ e) #'e))      e: a part of the argument
+//! (generate-temporaries #'(a b))         two leaves whose only mark is a name that was free
+//! ```
+//!
+//! There are no others. So if all marks there were taken before the next name, they are so in what comes of an
+//! evaluation, before the name that is next then; and names that were taken are never free again.
+//!
+//! `specs/Leaves` says of what is true of each leaf of a tree that it is true in a value, in cells and in core code;
+//! `specs/Names` how that rises with the names; `specs/Coming` and `specs/Below` have the laws.
+//!
+//! Here are no calls to make: each function stands for the law that it ensures.
+#![tactic(auto)]
+
+ghost use Rattle.sx_fresh_laws.specs.Below.{MarksStayBefore, TheNextIsNew};
+ghost use Rattle.sx_fresh_laws.specs.Coming.{LeavesWereThere};
+
+/// Each leaf of what an evaluation gives was in its code, its cells, its arguments or the variables of libraries, or
+/// is a temporary of a name that it took.
+pub fn leaves_were_there()
+    ensures { LeavesWereThere }
+{}
+
+/// Where all marks were taken before the next name, they are so after an evaluation.
+pub fn marks_stay_before()
+    ensures { MarksStayBefore }
+{}
+
+/// The mark of the next name is new then.
+pub fn the_next_is_new()
+    ensures { TheNextIsNew }
+{}

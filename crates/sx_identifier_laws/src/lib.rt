@@ -1,0 +1,29 @@
+//! That what identifiers stand for is settled: it stays while other forms are expanded.
+//!
+//! A form is expanded after what stands before it, and binds names, makes frames and takes marks meanwhile. None of
+//! this changes what an identifier that was there before stands for:
+//!
+//! ```scheme
+//! (let ((x 1))
+//!   (list x                    ; x stands for this binder here,
+//!         (let ((x 2)) x)      ; and whatever is bound here,
+//!         x))                  ; it does so here
+//! ```
+//!
+//! `specs/Identifiers` has the laws. They need no more of an identifier than holds of each that an expansion comes to, by
+//! the laws of `sx_fresh_expansion_laws`.
+//!
+//! Here are no calls to make: each function stands for the law that it ensures.
+#![tactic(auto)]
+
+ghost use Rattle.sx_identifier_laws.specs.Identifiers.{IdentifiersStay, ReferencesStay};
+
+/// What an identifier stands for stays while a form is expanded.
+pub fn identifiers_stay()
+    ensures { IdentifiersStay }
+{}
+
+/// And so does what a reference names.
+pub fn references_stay()
+    ensures { ReferencesStay }
+{}
