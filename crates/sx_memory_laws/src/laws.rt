@@ -1,0 +1,18 @@
+//! The laws. Each function here computes nothing: what it promises is the law.
+
+ghost use Rattle.sx_memory_laws.specs.Expansion.{OwnFramesAreBound, RecordsAreOnceOver};
+ghost use Rattle.sx_memory_laws.specs.Run.{RecordsFit, ExpansionsBegin};
+
+/// Expansion binds in frames of its own library alone, and a bind that goes through is no second binder. So the rows of
+/// a record are bound again without a second binder, and it binds no label twice.
+pub fn expansion_binds_once()
+    ensures frames { OwnFramesAreBound }
+    ensures records { RecordsAreOnceOver }
+{}
+
+/// Each record of a run can be put into the tables of the run, and where the expansion of a library begins, its
+/// frame is new and its names come once.
+pub fn runs_fit()
+    ensures records { RecordsFit }
+    ensures starts { ExpansionsBegin }
+{}

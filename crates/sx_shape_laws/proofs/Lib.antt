@@ -1,0 +1,2 @@
+mod Complete
+mod Sound
