@@ -6,4 +6,5 @@ mod Forms
 mod Tops
 mod Labels
 mod Starts
+mod Derived
 mod Runs

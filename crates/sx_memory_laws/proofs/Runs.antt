@@ -1,6 +1,7 @@
 -- The records of a run, and where the expansions of a run begin.
 use Rattle.std.proofs.Common.{◌≡◌, ℕ, zero, suc, ◌+◌, ◌<◌, Bool, true, false, List, [], ◌∷◌, ◌++◌, map, length, Option, None, Some, Result, Ok, Err, refl, sym, ◌∙◌, ap, subst, inl, inr, arith, append_assoc}
 use Rattle.std.specs.Prelude.{◌⊎◌, slice_get}
+use Rattle.sx_base.specs.Datum.{PlainDatum}
 use Rattle.sx_base.specs.Gives.{◌>>=◌}
 use Rattle.sx_base.specs.declared.fault.Fault.{Fault}
 use Rattle.sx_base.specs.declared.library.LibName.{LibName}
@@ -9,16 +10,15 @@ use Rattle.sx_base.specs.declared.name.Label.{Label}
 use Rattle.sx_builtin.specs.Exports.{derived}
 use Rattle.sx_builtin.specs.declared.derived.TheConstants.{DERIVED_SOURCE}
 use Rattle.sx_tree.specs.Tree.{Tree}
+use Rattle.sx_tree.specs.declared.frame_row.FrameRow.{FrameRow}
 use Rattle.sx_core.specs.declared.record.LibRecord.{LibRecord}
-use Rattle.sx_core_laws.specs.Follows.{names_of, IsOwn}
+use Rattle.sx_core_laws.specs.Follows.{names_of, bound_labels, IsOwn}
 use Rattle.sx_core_laws.specs.Words.{Each, Among, Once}
 use Rattle.sx_derived.specs.Derived.{forms_of, record_of, derived_record}
 use Rattle.sx_derived.specs.Names.{path, start, exports_of}
 use Rattle.sx_derived.specs.Names as derived_library
 use Rattle.sx_eval.specs.Codes.{Codes}
 use Rattle.sx_expand.specs.Expanding.{ready, library_record}
-use Rattle.sx_expand_laws.specs.Ready.{IsReady}
-use Rattle.sx_expand_laws.specs.Serves.{AllServe}
 use Rattle.sx_forms.specs.Form.{library_body, program_body}
 use Rattle.sx_forms.specs.declared.form.LibraryForm.{LibraryForm}
 use Rattle.sx_forms.specs.declared.set.Import.{Import}
@@ -28,13 +28,23 @@ use Rattle.sx_import_laws.specs.Algebra.{IsOnce}
 use Rattle.sx_import_laws.proofs.AlgebraLemmas.{once-joined}
 use Rattle.sx_library.specs.Imports.{exported, refer, import_into, form_names}
 use Rattle.sx_library.specs.Library.{export_tree, trees_at, expander_of, expand_library}
-use Rattle.sx_run_laws.specs.Run.{IsRun, Stands, AllStand, RecordsStand}
+use Rattle.sx_library.specs.Records.{needed_records}
+use Rattle.sx_load.specs.Found.{places_from, needed}
+use Rattle.sx_load.specs.declared.found.Found.{Found}
+use Rattle.sx_load.specs.declared.found.Loading.{Loading}
+use Rattle.sx_load_laws.specs.Laws.{IsAt}
+use Rattle.sx_outside.specs.Contents.{Paths}
+use Rattle.sx_standing.specs.Start.{or_skip, records_at}
+use Rattle.sx_run_laws.specs.Run.{IsRun, Stands, AllStand}
 use Rattle.sx_run_laws.proofs.ImportLemmas.{turns_keep}
-use Rattle.sx_run_laws.proofs.RunLemmas.{all_records_stand}
+use Rattle.sx_run_laws.proofs.MadeLemmas.{IsMade, all_made}
+use Rattle.sx_run_laws.proofs.RunLemmas.{same_place, all_records_stand}
+use Rattle.sx_run_laws.proofs.UserLemmas.{IsUser, user_at}
 use Rattle.sx_memory_laws.specs.Expansion.{IsOnceOver}
 use Rattle.sx_memory_laws.specs.Run.{Fits, AllFit, RecordsFit, Begins, AllBegin, ExpansionsBegin}
-use Rattle.sx_memory_laws.proofs.Starts.{begins}
-use Rattle.sx_memory_laws.proofs.Tops.{once-over}
+use Rattle.sx_memory_laws.proofs.Derived.{derived-names-once}
+use Rattle.sx_memory_laws.proofs.Starts.{IsApart, names-apart, begins}
+use Rattle.sx_memory_laws.proofs.Tops.{once-behind}
 
 -- Names of a form come once.
 
@@ -137,10 +147,10 @@ module _ (prelude : Result Codes Fault) (records : List LibRecord) (path : List 
       by_names (Err f) n k = absurd (cc)
 
 -- the derived library imports each name of the implementation once
-module _ (d : LibRecord) (named : d.name ≡ library.Derived) (once : IsOnce derived_library.names) where
+module _ (d : LibRecord) (named : d.name ≡ library.Derived) where
   forms-once : (codes : Codes) (forms : List Tree) → record_of codes forms ≡ Ok d → IsOnceOver d
   unfolding record_of
-  forms-once codes forms h = once-behind library.Derived path [] derived_library.names [] start (exports_of derived) forms codes d tt (λ e. absurd (cc)) once h named
+  forms-once codes forms h = once-behind library.Derived path [] derived_library.names [] start (exports_of derived) forms codes d tt (λ e. absurd (cc)) derived-names-once h named
 
   derived-once : (prelude : Result Codes Fault) → derived_record prelude ≡ Ok d → IsOnceOver d
   unfolding derived_record
@@ -156,62 +166,112 @@ module _ (d : LibRecord) (named : d.name ≡ library.Derived) (once : IsOnce der
 
 -- A run.
 
+parts-same : (x y : LibRecord) (xs ys : List LibRecord) → x ∷ xs ≡ y ∷ ys → (x ≡ y) × (xs ≡ ys)
+parts-same x y xs ys e = (cc, cc)
+
 module _ (prelude : Result Codes Fault) (files : Paths) (roots : List (List ℕ)) (path : List ℕ) (found : Found) (s : Loading) (records : List LibRecord) (program : LibRecord)
-    (run : IsRun prelude files roots path found s records program) (all : AllStand found s records program) (made : IsMade prelude s.done (all.derived ∷ all.others)) where
+    (run : IsRun prelude files roots path found s records program) (all : AllStand found s records program) (made : IsMade prelude s.done records) where
   -- the library of a record
   record IsOf (r : LibRecord) : Type 0 where
-    pub file : List ℕ
-    pub found_there : Found
-    pub name : r.name ≡ found_there.opened.form.name
-    pub user : IsUser found_there.opened.form.name
+    pub name : LibName
+    pub user : IsUser name
     pub behind : List LibRecord
-    pub stands : Stands behind found_there.opened.form.name r
+    pub stands : Stands behind name r
 
   of-others : (i : ℕ) (r : LibRecord) → slice_get all.others i ≡ Some r → IsOf r
   of-others i r h =
       let x = same_place all.others s.done i r all.as_many h in
-      let st = all.each i x.0.0 x.0.1 r x.1 h in
-      record { file = x.0.0; found_there = x.0.1; name = st.named; user = user_at files roots path found s run.loaded i x.0.0 x.0.1 x.1; behind = all.derived ∷ records_at all.others (needed x.0.1); stands = st }
+      record { name = x.0.1.opened.form.name; user = user_at files roots path found s run.loaded i x.0.0 x.0.1 x.1; behind = all.derived ∷ records_at all.others (needed x.0.1); stands = all.each i x.0.0 x.0.1 r x.1 h }
 
   user-other : (n : LibName) → IsUser n → n ≡ library.Core → ⊥
   user-other n u e = subst IsUser e u
 
-  own-frames-are : Each (λ (r : LibRecord). Each (λ (x : FrameRow). IsOwn r x.frame.0) r.frames) (all.derived ∷ all.others)
-  own-frames-are = (all.first.serves.own_frames, of-places (λ (r : LibRecord). Each (λ (x : FrameRow). IsOwn r x.frame.0) r.frames) all.others (λ i r h. (of-others i r h).stands.serves.own_frames))
+  abbrev OwnFrames : LibRecord → Type 0
+  OwnFrames r = Each (λ (x : FrameRow). IsOwn r x.frame.0) r.frames
 
-  no-core : Each (IsApart library.Core) (all.derived ∷ all.others)
-  no-core = (
+  own-frames-are : Each OwnFrames records
+  own-frames-are = subst (Each OwnFrames) (sym all.parts) (all.first.serves.own_frames, of-places OwnFrames all.others (λ i r h. (of-others i r h).stands.serves.own_frames))
+
+  no-core : Each (IsApart library.Core) records
+  no-core = subst (Each (IsApart library.Core)) (sym all.parts) (
     ((λ e. let bad : library.Derived ≡ library.Core = sym all.first.named ∙ e in absurd (cc)), all.first.serves.own_frames),
-    of-places (IsApart library.Core) all.others (λ i r h. let x = of-others i r h in ((λ e. user-other x.found_there.opened.form.name x.user (sym x.name ∙ e)), x.stands.serves.own_frames)),
+    of-places (IsApart library.Core) all.others (λ i r h. let x = of-others i r h in ((λ e. user-other x.name x.user (sym x.stands.named ∙ e)), x.stands.serves.own_frames)),
   )
 
+  both-each : (n : LibName) (rs : List LibRecord) → Each (λ (y : LibRecord). y.name ≡ n → ⊥) rs → Each OwnFrames rs → Each (IsApart n) rs
+  both-each n [] h k = tt
+  both-each n (y ∷ ys) h k = ((h.0, k.0), both-each n ys h.1 k.1)
+
   -- the records before one are of other libraries
-  before-apart : (before after : List LibRecord) (r : LibRecord) → all.derived ∷ all.others ≡ before ++ after → IsNext before after r → Each (IsApart r.name) before
-  before-apart before after r e x = both-each before
-      (once-apart before r (x.rest ++ program ∷ []) (subst (λ (rs : List LibRecord). Once (names_of rs)) same all.once))
-      (each-first (λ (y : LibRecord). Each (λ (z : FrameRow). IsOwn y z.frame.0) y.frames) before after (subst (λ (rs : List LibRecord). Each (λ (y : LibRecord). Each (λ (z : FrameRow). IsOwn y z.frame.0) y.frames) rs) e own-frames-are))
-    where
-      same : records ++ program ∷ [] ≡ before ++ r ∷ x.rest ++ program ∷ []
-      same = ap (λ (rs : List LibRecord). rs ++ program ∷ []) (all.parts ∙ e ∙ ap (λ (rs : List LibRecord). before ++ rs) x.is) ∙ append_assoc before (r ∷ x.rest) (program ∷ [])
+  before-apart : (before after : List LibRecord) (r : LibRecord) → records ≡ before ++ after → IsNext before after r → Each (IsApart r.name) before
+  before-apart before after r e x =
+      let same : records ++ program ∷ [] ≡ before ++ (r ∷ (x.rest ++ program ∷ [])) =
+      ap (λ (rs : List LibRecord). rs ++ program ∷ []) (e ∙ ap (λ (rs : List LibRecord). before ++ rs) x.is) ∙ append_assoc before (r ∷ x.rest) (program ∷ []) in
+      both-each r.name before (once-apart before r (x.rest ++ program ∷ []) (subst (λ (rs : List LibRecord). Once (names_of rs)) same all.once))
+      (each-first OwnFrames before after (subst (Each OwnFrames) e own-frames-are))
 
-      both-each : (rs : List LibRecord) → Each (λ (y : LibRecord). y.name ≡ r.name → ⊥) rs → Each (λ (y : LibRecord). Each (λ (z : FrameRow). IsOwn y z.frame.0) y.frames) rs → Each (IsApart r.name) rs
-      both-each [] h k = tt
-      both-each (y ∷ ys) h k = ((h.0, k.0), both-each ys h.1 k.1)
+  there : (i : ℕ) (r : LibRecord) → slice_get all.others i ≡ Some r → (before after : List LibRecord) → records ≡ before ++ after → length before ≡ suc i → IsNext before after r
+  there i r h before after e many = next-at before after (suc i) r many (subst (λ (rs : List LibRecord). slice_get rs (suc i) ≡ Some r) (sym all.parts ∙ e) h)
 
-  there : (i : ℕ) (r : LibRecord) → slice_get all.others i ≡ Some r → (before after : List LibRecord) → all.derived ∷ all.others ≡ before ++ after → length before ≡ suc i → IsNext before after r
-  there i r h before after e many = next-at before after (suc i) r many (subst (λ (rs : List LibRecord). slice_get rs (suc i) ≡ Some r) e h)
+  -- behind those before it that it needs
+  needed-apart : (before after : List LibRecord) (i : ℕ) (f : Found) (r : LibRecord) → slice_get all.others i ≡ Some r → records ≡ before ++ after → length before ≡ suc i → r.name ≡ f.opened.form.name
+      → Each (IsApart f.opened.form.name) (needed_records before (true ∷ f.needs))
+  needed-apart before after i f r h e many named =
+      each-records (IsApart f.opened.form.name) before (places_from 0 (true ∷ f.needs)) (subst (λ (n : LibName). Each (IsApart n) before) named (before-apart before after r e (there i r h before after e many)))
+
+  both-parts : (all.derived ≡ made.derived) × (all.others ≡ made.others)
+  both-parts = parts-same all.derived made.derived all.others made.others (sym all.parts ∙ made.parts)
 
   other-fits : (i : ℕ) (r : LibRecord) → slice_get all.others i ≡ Some r → OneFits r
   other-fits i r h =
       let x = same_place all.others s.done i r all.as_many h in
       let st = all.each i x.0.0 x.0.1 r x.1 h in
-      let m = made.each i x.0.0 x.0.1 r x.1 h in
+      let m = made.each i x.0.0 x.0.1 r x.1 (subst (λ (rs : List LibRecord). slice_get rs i ≡ Some r) both-parts.1 h) in
       let f = x.0.1 in
-      let apart = before-apart m.before m.after r m.parts (there i r h m.before m.after m.parts m.many) in
       one-fits (all.derived ∷ records_at all.others (needed f)) f.opened.form.name r st
-      (library-once prelude (needed_records m.before (true ∷ f.needs)) f.opened.path f.opened.form
-      (each-records (IsApart f.opened.form.name) m.before (places_from 0 (true ∷ f.needs)) (subst (λ (n : LibName). Each (IsApart n) m.before) st.named apart))
+      (library-once prelude (needed_records m.before (true ∷ f.needs)) f.opened.path f.opened.form (needed-apart m.before m.after i f r h (made.parts ∙ m.parts) m.many st.named)
       (user-other f.opened.form.name (user_at files roots path found s run.loaded i x.0.0 f x.1)) (library_body f.opened.«data») r st.named m.made)
 
-  all-fits : IsOnce derived_library.names → Each OneFits (all.derived ∷ all.others)
-  all-fits o = (one-fits [] library.Derived all.derived all.first (derived-once all.derived all.first.named o prelude made.made), of-places OneFits all.others other-fits)
+  first-fits : OneFits all.derived
+  first-fits =
+      let first : Stands [] library.Derived made.derived = subst (λ (r : LibRecord). Stands [] library.Derived r) both-parts.0 all.first in
+      subst OneFits (sym both-parts.0) (one-fits [] library.Derived made.derived first (derived-once made.derived first.named prelude made.made))
+
+  all-fit : (earlier rs : List LibRecord) → records ≡ earlier ++ rs → Each OneFits rs → AllFit earlier rs
+  all-fit earlier [] e h = tt
+  all-fit earlier (r ∷ rs) e h = (
+    record {
+      name = names-apart r.name earlier (before-apart earlier (r ∷ rs) r e (record { rest = rs; is = refl }));
+      own_rows = h.0.own_rows;
+      rows = h.0.once.rows;
+      own_labels = h.0.own_labels;
+      labels = h.0.once.labels;
+    },
+    all-fit (earlier ++ r ∷ []) rs (e ∙ sym (append_assoc earlier (r ∷ []) rs)) h.1,
+  )
+
+  fit : AllFit [] records
+  fit = all-fit [] records refl (subst (Each OneFits) (sym all.parts) (first-fits, of-places OneFits all.others other-fits))
+
+  begins-at : (before after : List LibRecord) (i : ℕ) (file : List ℕ) (f : Found) (names : Labelled) → records ≡ before ++ after → length before ≡ suc i → IsAt s.done i file f
+      → form_names (needed_records before (true ∷ f.needs)) f.opened.form.imports ≡ Ok names → Begins (needed_records before (true ∷ f.needs)) f.opened.form.name names
+  begins-at before after i file f names e many at n =
+      let x = same_place s.done all.others i (file, f) (sym all.as_many) at in
+      let st = all.each i file f x.0 at x.1 in
+      begins f.opened.form.name (needed_records before (true ∷ f.needs)) (needed-apart before after i f x.0 x.1 e many st.named) (user-other f.opened.form.name (user_at files roots path found s run.loaded i file f at)) names
+      (each-records (IsApart library.Core) before (places_from 0 (true ∷ f.needs)) (each-first (IsApart library.Core) before after (subst (Each (IsApart library.Core)) e no-core))) (names-once (needed_records before (true ∷ f.needs)) f.opened.form.imports names n)
+
+  program-begins : (names : Labelled) → form_names (needed_records records (true ∷ found.needs)) found.opened.form.imports ≡ Ok names → Begins (needed_records records (true ∷ found.needs)) library.Program names
+  program-begins names n =
+      let apart : Each (IsApart library.Program) records = subst (λ (l : LibName). Each (IsApart l) records) all.last.named (both-each program.name records (once-apart records program [] all.once) own-frames-are) in
+      begins library.Program (needed_records records (true ∷ found.needs)) (each-records (IsApart library.Program) records (places_from 0 (true ∷ found.needs)) apart) (λ e. absurd (cc)) names
+      (each-records (IsApart library.Core) records (places_from 0 (true ∷ found.needs)) no-core) (names-once (needed_records records (true ∷ found.needs)) found.opened.form.imports names n)
+
+pub records-fit : RecordsFit
+records-fit prelude files roots path found s records program run = fit prelude files roots path found s records program run (all_records_stand prelude files roots path found s records program run) (all_made prelude s.done records run.recorded)
+
+pub expansions-begin : ExpansionsBegin
+expansions-begin prelude files roots path found s records program run =
+    let all = all_records_stand prelude files roots path found s records program run in
+    let made = all_made prelude s.done records run.recorded in
+    record { each = begins-at prelude files roots path found s records program run all made; last = program-begins prelude files roots path found s records program run all made }
