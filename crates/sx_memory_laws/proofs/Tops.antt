@@ -1,5 +1,5 @@
 -- A library or program: what its expansion leaves came by binds, and so its rows can be bound again.
-use Rattle.std.proofs.Common.{◌≡◌, ℕ, Bool, true, false, List, [], ◌∷◌, ◌++◌, map, Result, Ok, Err, refl, sym, ◌∙◌, ap, subst}
+use Rattle.std.proofs.Common.{◌≡◌, ℕ, Bool, true, false, ◌<◌, List, [], ◌∷◌, ◌++◌, map, Option, None, Some, Result, Ok, Err, refl, sym, ◌∙◌, ap, subst, arith}
 use Rattle.sx_base.specs.Act.{after}
 use Rattle.sx_base.specs.declared.fault.Fault.{Fault}
 use Rattle.sx_base.specs.declared.library.LibName.{LibName}
@@ -10,6 +10,7 @@ use Rattle.sx_tree.specs.Changes.{stamp}
 use Rattle.sx_tree.specs.Tree.{Tree}
 use Rattle.sx_frames.specs.Listed.{rows_in}
 use Rattle.sx_frames.specs.Scope.{Scope}
+use Rattle.sx_core.specs.Bindings.{bound_to}
 use Rattle.sx_core.specs.declared.binding.Binding.{Binding}
 use Rattle.sx_core.specs.declared.record.LibRecord.{LibRecord}
 use Rattle.sx_core_laws.specs.Follows.{bound_labels}
@@ -28,11 +29,14 @@ use Rattle.sx_expand.specs.Inside.{Inside}
 use Rattle.sx_expand.specs.Top.{record_in, give_record, exports, body_at, finished, first_pass, top}
 use Rattle.sx_expand.specs.declared.top.TopAt.{TopAt}
 use Rattle.sx_expand_laws.specs.Ready.{IsReady}
+use Rattle.sx_expand_laws.specs.States.{IsNumbered, Later}
 use Rattle.sx_expand_laws.proofs.Acts.{Gave, gave-after, gave-less, told}
+use Rattle.sx_expand_laws.proofs.Changes.{form-later}
 use Rattle.sx_expand_laws.proofs.Records.{records-good}
+use Rattle.sx_expand_laws.proofs.Started.{started-sound}
 use Rattle.sx_expand_laws.proofs.Top.{SameScope, AreShown, same-exports}
 use Rattle.sx_memory_laws.specs.Bound.{AreBound, Binds}
-use Rattle.sx_memory_laws.specs.Expansion.{OwnFramesAreBound, IsOnceOver, RecordsAreOnceOver}
+use Rattle.sx_memory_laws.specs.Expansion.{OwnFramesAreBound, NewLabelsAreUnbound, StartsAreNumbered, IsOnceOver, RecordsAreOnceOver}
 use Rattle.sx_memory_laws.proofs.Forms.{Inner, b-splice, b-lines, inside-binds}
 use Rattle.sx_memory_laws.proofs.Labels.{labels-once}
 use Rattle.sx_memory_laws.proofs.Rows.{RowsOnce, binds-once, rows-bound}
@@ -41,6 +45,25 @@ use Rattle.sx_memory_laws.proofs.Steps.{Steps, Names, St, stays, steps-then}
 
 pub own-frames : OwnFramesAreBound
 own-frames rs room place level depth t s u c e = (told (λ x v. Steps s.names.library s v) ((inside rs room).form place level depth t s) c u ((inside-binds s.names.library rs room).form place level depth t s refl) e).binds
+
+pub new-unbound : NewLabelsAreUnbound
+new-unbound rs room place level depth t s u c h e = (numbered, by (bound_to u.bindings (record { 0 = u.names })) refl)
+  where
+    later : Later s.names.library s u
+    later = form-later rs room place level depth t s u c e
+
+    numbered : IsNumbered s.names.library u
+    numbered = later.grows.numbered h
+
+    less : u.names.number < u.names.number → ⊥
+    less lt = omega (arith, lt)
+
+    by : (o : Option Binding) → bound_to u.bindings (record { 0 = u.names }) ≡ o → o ≡ None
+    by None is = refl
+    by (Some b) is = absurd (less (numbered (record { 0 = u.names }) b later.next is))
+
+pub starts-numbered : StartsAreNumbered
+starts-numbered own records imports codes h = (started-sound own records imports codes h).numbered
 
 -- the frames and bindings of a record are those of the state that its expansion ended in
 record Ends (own : LibName) (start : State) (r : LibRecord) : Type 0 where

@@ -22,7 +22,8 @@ use Rattle.sx_standing.specs.declared.standing.Role.{Role}
 use Rattle.sx_standing.specs.declared.standing.Role.TheVariants as role
 use Rattle.sx_standing.specs.declared.standing.Standing.{Standing}
 use Rattle.sx_standing.specs.declared.standing.Standing.TheVariants as standing
-use Rattle.sx_heads.specs.Items.{is_top, is_mixed, any_changed, heads_like, waiting_at, keep, in_time, define, define_item, target_item, set_item, begin_item, keywords_item, with_shape, item_by, core_item, headed_item, list_item, leaf_by, leaf_item, item_plan}
+use Rattle.sx_heads.specs.Kept.{with_head}
+use Rattle.sx_heads.specs.Items.{kept_head, is_top, is_mixed, any_changed, heads_like, waiting_at, keep, in_time, define, define_item, target_item, set_item, begin_item, keywords_item, with_shape, item_by, core_item, headed_item, list_item, leaf_by, leaf_item, item_plan}
 use Rattle.sx_heads.specs.declared.item.Item.{Item}
 use Rattle.sx_heads.specs.declared.item.Item.TheVariants as items
 use Rattle.sx_heads.specs.declared.plan.KeywordUse.{KeywordUse}
@@ -44,6 +45,10 @@ IsFrom n w = n ≤ w.depth
 
 abbrev pub WaitsFrom : ℕ → Taken → Type 0
 WaitsFrom n done = Each (IsFrom n) done.waiting
+
+-- with this head kept
+abbrev with_kept : State → Taken → Tree → Taken
+with_kept s done id = record done { kept = with_head done.kept (kept_head s id) }
 
 module _ (n : ℕ) (depth : ℕ) (deep : n ≤ depth) where
   one-more : (ws : List Waiting) (at : BodyAt) (what : Waits) → Each (IsFrom n) ws → Each (IsFrom n) (ws ++ waiting_at at depth what ∷ [])
@@ -89,7 +94,7 @@ module _ (n : ℕ) (depth : ℕ) (deep : n ≤ depth) where
 
     from-set : (done : Taken) (t : Tree) (r : Result Shape Fault) (s : State) → WaitsFrom n done → Gave P (set_item at depth done t r s)
     unfolding keep
-    from-set done t (Ok (shapes.Set id value)) s h = from-target _ t (standing_of s id) s h
+    from-set done t (Ok (shapes.Set id value)) s h = from-target (with_kept s done id) t (standing_of s id) s h
     from-set done t (Ok _) s h = from-wait done t s h
     from-set done t (Err e) s h = from-wait done t s h
 
@@ -139,8 +144,8 @@ module _ (n : ℕ) (depth : ℕ) (deep : n ≤ depth) where
     from-plan : (done : Taken) (t : Tree) (s : State) → WaitsFrom n done → Gave P (item_plan at depth done t s)
     unfolding leaf_item list_item keep
     from-plan done (atom r a) s h = from-wait done (atom r a) s h
-    from-plan done (leaf r x c) s h = from-leaf _ (leaf r x c) (standing_of s (leaf r x c)) s h
-    from-plan done (pair r a d) s h = gave-if P (is_leaf a) _ _ (from-headed _ (pair r a d) (standing_of s a) s h) (from-wait done (pair r a d) s h)
+    from-plan done (leaf r x c) s h = from-leaf (with_kept s done (leaf r x c)) (leaf r x c) (standing_of s (leaf r x c)) s h
+    from-plan done (pair r a d) s h = gave-if P (is_leaf a) _ _ (from-headed (with_kept s done a) (pair r a d) (standing_of s a) s h) (from-wait done (pair r a d) s h)
     from-plan done (vector r d) s h = from-wait done (vector r d) s h
 
     -- Uses.
@@ -171,8 +176,8 @@ module _ (n : ℕ) (depth : ℕ) (deep : n ≤ depth) where
   from-settled rs zero at done t s h =
       gave-after P P (item_step rs at depth done t s) (settle.item_by (λ d k. too_many t at.place) at t) (from-step at rs done t s h) (λ p u k. from-by at (λ d k. too_many t at.place) t u (λ d k' k''. tt) p k)
   from-settled rs (suc left) at done t s h =
-      gave-after P P (item_step rs at depth done t s) _ (from-step at rs done t s h)
-      (λ p u k. from-by at _ t u
+      gave-after P P (item_step rs at depth done t s) (settle.item_by (λ taken used s'. after (next_form rs left at.place t used (Some at.frame) s') (settle_item_to rs left (at_use at t) depth taken)) at t) (from-step at rs done t s h)
+      (λ p u k. from-by at (λ taken used s'. after (next_form rs left at.place t used (Some at.frame) s') (settle_item_to rs left (at_use at t) depth taken)) t u
       (λ taken used k'. gave-any P (next_form rs left at.place t used (Some at.frame) u) (settle_item_to rs left (at_use at t) depth taken) (λ x v. from-settled rs left (at_use at t) taken x v k')) p k)
 
   pub from-settle : (rs : List LibRecord) (at : BodyAt) (done : Taken) (t : Tree) (s : State) → WaitsFrom n done → Gave P (settle_item rs at depth done t s)
