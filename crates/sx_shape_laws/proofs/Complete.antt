@@ -16,7 +16,7 @@ use Rattle.sx_shape_laws.specs.Grammar.{IsId, IsList, AreWritten, IsFormals, Are
 use Rattle.sx_shape_laws.specs.Grammar as g
 use Rattle.sx_shape_laws.specs.Laws.{WrittenHaveShapes, OneShape}
 
-is-id : (t : Tree) → IsId t → is_leaf t ≡ true
+pub is-id : (t : Tree) → IsId t → is_leaf t ≡ true
 is-id _ g.id = refl
 
 -- Lists.
@@ -29,10 +29,10 @@ list-elements : {xs : List Tree} {t : Tree} → IsList xs t → elements t ≡ x
 list-elements g.end = refl
 list-elements (g.next {x = x} h) = ap (λ ys. x ∷ ys) (list-elements h)
 
-list-is : (xs : List Tree) (t : Tree) → IsList xs t → proper_elements t ≡ Some xs
+pub list-is : (xs : List Tree) (t : Tree) → IsList xs t → proper_elements t ≡ Some xs
 list-is xs t h = ap (λ b. if b then Some (elements t) else None) (list-ends h) ∙ ap Some (list-elements h)
 
-all-are : {Y : Type 0} (P : Y → Tree → Type 0) (f : Tree → Option Y) → ((y : Y) (t : Tree) → P y t → f t ≡ Some y) → (done ys : List Y) (ts : List Tree) → AreWritten P ys ts → all_of f done ts ≡ Some (done ++ ys)
+pub all-are : {Y : Type 0} (P : Y → Tree → Type 0) (f : Tree → Option Y) → ((y : Y) (t : Tree) → P y t → f t ≡ Some y) → (done ys : List Y) (ts : List Tree) → AreWritten P ys ts → all_of f done ts ≡ Some (done ++ ys)
 unfolding all_of
 all-are P f one done [] [] h = ap Some (sym (append-nil done))
 all-are P f one done [] (t ∷ ts) h = elim h [ ]

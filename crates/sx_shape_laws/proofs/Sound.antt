@@ -24,19 +24,19 @@ use Rattle.sx_shape_laws.specs.Laws.{ShapesAreWritten, OthersAreBad}
 -- Tests and options.
 
 -- a test that leads to something is met
-met : {A : Type 0} (b : Bool) (o : Option A) (x : A) (P : Type 0) → (if b then o else None) ≡ Some x → (b ≡ true → o ≡ Some x → P) → P
+pub met : {A : Type 0} (b : Bool) (o : Option A) (x : A) (P : Type 0) → (if b then o else None) ≡ Some x → (b ≡ true → o ≡ Some x → P) → P
 met true o x P e k = k refl e
 met false o x P e k = absurd (cc)
 
 -- what comes of a value that is there comes of one
-from : {A B : Type 0} (f : A → Option B) (o : Option A) (b : B) (P : Type 0) → if_some o f ≡ Some b → ((a : A) → o ≡ Some a → f a ≡ Some b → P) → P
+pub from : {A B : Type 0} (f : A → Option B) (o : Option A) (b : B) (P : Type 0) → if_some o f ≡ Some b → ((a : A) → o ≡ Some a → f a ≡ Some b → P) → P
 from f None b P h k = absurd (cc)
 from f (Some a) b P h k = k a refl h
 
-some-is : {A : Type 0} (x y : A) → Some x ≡ Some y → x ≡ y
+pub some-is : {A : Type 0} (x y : A) → Some x ≡ Some y → x ≡ y
 some-is x y e = cc
 
-an-id : (t : Tree) → is_leaf t ≡ true → IsId t
+pub an-id : (t : Tree) → is_leaf t ≡ true → IsId t
 an-id (atom s a) h = absurd (cc)
 an-id (leaf s x c) h = g.id
 an-id (pair s a d) h = absurd (cc)
@@ -54,7 +54,7 @@ a-list (leaf s x c) h = absurd (cc)
 a-list (pair s a d) h = g.next (a-list d h)
 a-list (vector s d) h = absurd (cc)
 
-proper : (t : Tree) (xs : List Tree) → proper_elements t ≡ Some xs → IsList xs t
+pub proper : (t : Tree) (xs : List Tree) → proper_elements t ≡ Some xs → IsList xs t
 proper t xs h = met (is_nil (tail_of t)) (Some (elements t)) xs (IsList xs t) h (λ b e. subst (λ (ys : List Tree). IsList ys t) (some-is (elements t) xs e) (a-list t b))
 
 -- those that are done, and then these
@@ -72,7 +72,7 @@ module _ {Y : Type 0} (P : Y → Tree → Type 0) (f : Tree → Option Y) (one :
       onward : (y : Y) → f t ≡ Some y → Behind (done ++ y ∷ []) ts zs → Behind done (t ∷ ts) zs
       onward y e b = record { others = y ∷ b.others; is = b.is ∙ append_assoc done (y ∷ []) b.others; written = (one t y e, b.written) }
 
-  all-written : (ts : List Tree) (zs : List Y) → all_of f [] ts ≡ Some zs → AreWritten P zs ts
+  pub all-written : (ts : List Tree) (zs : List Y) → all_of f [] ts ≡ Some zs → AreWritten P zs ts
   all-written ts zs h = let b = all-behind [] ts zs h in subst (λ (ys : List Y). AreWritten P ys ts) (sym b.is) b.written
 
 -- The parts of forms.
