@@ -11,7 +11,6 @@ use Rattle.sx_tree.specs.Tree.{Tree}
 use Rattle.sx_core.specs.Core.{PlainCore, one_armed, two_armed, assignment, procedure, letrec, call, matching, cores}
 use Rattle.sx_core.specs.CoreView.{inits, cases, clauses}
 use Rattle.sx_core.specs.declared.record.Line.TheVariants as line
-use Rattle.sx_core_laws.specs.Words.{Each}
 use Rattle.sx_shapes.specs.At.{place_of}
 use Rattle.sx_shapes.specs.declared.shape.FormalIds.{FormalIds}
 use Rattle.sx_shapes.specs.declared.shape.BindingSpec.{BindingSpec}
@@ -53,7 +52,7 @@ use Rattle.sx_expand.specs.Settle.{settle, settle_item}
 use Rattle.sx_expand.specs.declared.settle.Settled.{Settled}
 use Rattle.sx_expand.specs.declared.settle.SettledItem.{SettledItem}
 use Rattle.sx_room_laws.proofs.Items.{deeper-from, Keeps, keeps-splice}
-use Rattle.sx_room_laws.proofs.Same.{same-after, both-after, where-after, same-within, where-each, same-each, same-gather}
+use Rattle.sx_room_laws.proofs.Same.{Each, same-after, both-after, where-after, same-within, where-each, same-each, same-gather}
 use Rattle.sx_room_laws.proofs.Waiting.{IsFrom, WaitsFrom}
 
 pub record Agree (d : ℕ) (go ho : Inside) : Type 0 where

@@ -2,9 +2,13 @@
 use Rattle.std.proofs.Common.{◌≡◌, Bool, true, false, List, [], ◌∷◌, ◌++◌, length, Result, Ok, Err, refl, ◌∙◌, ap, if◌then◌else◌}
 use Rattle.sx_base.specs.Act.{after, each, gather}
 use Rattle.sx_base.specs.declared.fault.Fault.{Fault}
-use Rattle.sx_core_laws.specs.Words.{Each}
 use Rattle.sx_standing.specs.InScope.{leaving, within}
 use Rattle.sx_standing.specs.State.{State, Does}
+
+-- this holds of each
+abbrev pub Each : {A : Type 0} → (A → Type 0) → List A → Type 0
+Each P [] = Unit {0}
+Each P (x ∷ xs) = P x × Each P xs
 
 -- where it gives a value, this holds of the value
 abbrev pub Gave : {A : Type 0} → (A → Type 0) → Result (A × State) Fault → Type 0

@@ -8,7 +8,6 @@ use Rattle.sx_base.specs.declared.fault.FaultKind.TheVariants as kind
 use Rattle.sx_tree.specs.Tree.{Tree, atom, leaf, pair, vector}
 use Rattle.sx_core.specs.declared.core_form.CoreForm.{CoreForm}
 use Rattle.sx_core.specs.declared.record.LibRecord.{LibRecord}
-use Rattle.sx_core_laws.specs.Words.{Each}
 use Rattle.sx_shapes.specs.At.{place_of}
 use Rattle.sx_shapes.specs.Forms.{shape}
 use Rattle.sx_shapes.specs.Lists.{is_leaf}
@@ -37,7 +36,7 @@ use Rattle.sx_expand.specs.Settle as settle
 use Rattle.sx_expand.specs.declared.settle.ItemStep.{ItemStep}
 use Rattle.sx_expand.specs.declared.settle.ItemStep.TheVariants as item_steps
 use Rattle.sx_expand.specs.declared.settle.SettledItem.{SettledItem}
-use Rattle.sx_room_laws.proofs.Same.{Gave, gave-after, gave-any, gave-if}
+use Rattle.sx_room_laws.proofs.Same.{Each, Gave, gave-after, gave-any, gave-if}
 
 -- no less deep than this
 abbrev pub IsFrom : ℕ → Waiting → Type 0
