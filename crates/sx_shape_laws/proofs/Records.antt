@@ -1,8 +1,7 @@
 -- What is written by a case of the grammar of record forms comes to its parts, and nothing else does.
-use Rattle.std.proofs.Common.{◌≡◌, ℕ, Bool, true, false, List, [], ◌∷◌, Option, None, Some, Result, Ok, Err, refl, ap, sym, ◌∙◌, subst, inl, inr, if◌then◌else◌}
+use Rattle.std.proofs.Common.{◌≡◌, Bool, true, false, List, [], ◌∷◌, Option, None, Some, Result, Ok, Err, refl, ap, sym, ◌∙◌, subst, inl, inr, if◌then◌else◌}
 use Rattle.std.specs.Prelude.{◌⊎◌}
 use Rattle.sx_base.specs.Gives.{◌>>=◌}
-use Rattle.sx_base.specs.declared.atom.Atom.{Atom}
 use Rattle.sx_base.specs.declared.atom.Atom.TheVariants as atoms
 use Rattle.sx_base.specs.declared.fault.Fault.{Fault}
 use Rattle.sx_base.specs.declared.fault.FaultKind.TheVariants as kind
@@ -13,7 +12,7 @@ use Rattle.sx_core.specs.declared.core_form.CoreForm.{CoreForm}
 use Rattle.sx_core.specs.declared.core_form.CoreForm.TheVariants as form
 use Rattle.sx_shapes.specs.At.{fault_at}
 use Rattle.sx_shapes.specs.Lists.{is_leaf, is_nil, elements, tail_of, proper_elements, if_some, all_of}
-use Rattle.sx_records.specs.Clauses.{keyword_of, field_with, fixed_field, immutable_field, mutable_field, field_by, field_in, field_of, fields_clause, parent_clause, parent_rtd_clause, protocol_clause, truth_of, only_truth, sealed_clause, opaque_clause, nongenerative_clause, clause_by, clause_in, clause_of, no_clauses, with_clause, or_bad, next_clause, all_clauses}
+use Rattle.sx_records.specs.Clauses.{keyword_of, field_with, fixed_field, immutable_field, mutable_field, field_by, field_in, field_of, fields_clause, parent_clause, parent_rtd_clause, protocol_clause, truth_of, sealed_clause, opaque_clause, nongenerative_clause, clause_by, clause_in, clause_of, no_clauses, with_clause, or_bad, next_clause, all_clauses}
 use Rattle.sx_records.specs.Definitions.{type_word, constructor_word, definitions}
 use Rattle.sx_records.specs.Forms.{at_form, only_id, descriptor_form, definitions_for, named_form, defining_form, record_forms}
 use Rattle.sx_records.specs.Introduced.{list_of_two}

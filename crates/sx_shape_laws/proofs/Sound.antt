@@ -9,7 +9,7 @@ use Rattle.sx_tree.specs.Tree.{Tree, atom, leaf, pair, vector}
 use Rattle.sx_core.specs.declared.core_form.CoreForm.{CoreForm}
 use Rattle.sx_core.specs.declared.core_form.CoreForm.TheVariants as form
 use Rattle.sx_shapes.specs.At.{fault_at}
-use Rattle.sx_shapes.specs.Forms.{formals, formals_before, binding, binding_of, bindings, lambda_case, lambda_case_of, pattern_case, pattern_case_of, quote_shape, operand_shape, lambda_shape, case_lambda_shape, if_shape, set_shape, letrec_shape, let_syntax_shape, define_variable, procedure_of, define_procedure, define_shape, define_syntax_shape, syntax_case_shape, shaped, by_operands, shape_of, or_bad, shape}
+use Rattle.sx_shapes.specs.Forms.{formals, formals_before, binding, binding_of, bindings, lambda_case, lambda_case_of, pattern_case, pattern_case_of, quote_shape, operand_shape, lambda_shape, case_lambda_shape, if_shape, set_shape, letrec_shape, let_syntax_shape, define_variable, define_procedure, define_shape, define_syntax_shape, syntax_case_shape, shaped, by_operands, shape_of, or_bad, shape}
 use Rattle.sx_shapes.specs.Lists.{is_leaf, is_nil, is_nil_atom, elements, tail_of, proper_elements, all_ids, if_some, all_of}
 use Rattle.sx_shapes.specs.declared.shape.FormalIds.{FormalIds}
 use Rattle.sx_shapes.specs.declared.shape.BindingSpec.{BindingSpec}

@@ -1,6 +1,6 @@
 -- How the forms of records are written, by cases (libraries report 6.2). A clause, and the two words of fields, are known by what their
 -- first identifier stands for.
-use Rattle.std.specs.Prelude.{◌≡◌, ◌⊎◌, ℕ, Bool, List, [], ◌∷◌, Option, None, Some, Result, Ok, Err}
+use Rattle.std.specs.Prelude.{◌≡◌, ◌⊎◌, ℕ, Bool, List, [], ◌∷◌, Option, None, Some, Err}
 use Rattle.sx_base.specs.declared.atom.Atom.TheVariants as atoms
 use Rattle.sx_base.specs.declared.fault.FaultKind.TheVariants as kind
 use Rattle.sx_base.specs.declared.span.Span.{Span}
