@@ -1,14 +1,14 @@
 -- Where two ways to treat what lies inside forms agree from a depth on, so do all forms that stand at that depth or deeper.
-use Rattle.std.proofs.Common.{◌≡◌, ◌≤◌, ℕ, zero, suc, ◌+◌, Bool, true, false, List, [], ◌∷◌, ◌++◌, map, Option, None, Some, Result, Ok, Err, refl, sym, ◌∙◌, ap, subst, if◌then◌else◌, arith}
+use Rattle.std.proofs.Common.{◌≡◌, ◌≤◌, ℕ, ◌+◌, Bool, true, false, List, [], ◌∷◌, ◌++◌, map, Option, None, Some, refl, ◌∙◌, ap, if◌then◌else◌}
 use Rattle.std.specs.Prelude.{nat_lt}
-use Rattle.sx_base.specs.Act.{after, give, each, gather}
+use Rattle.sx_base.specs.Act.{after, give}
 use Rattle.sx_base.specs.declared.fault.FaultKind.TheVariants as kind
 use Rattle.sx_base.specs.declared.name.FrameNo.{FrameNo}
 use Rattle.sx_base.specs.declared.name.Label.{Label}
 use Rattle.sx_base.specs.declared.span.Span.{Span}
 use Rattle.sx_tree.specs.Changes.{stamp}
 use Rattle.sx_tree.specs.Tree.{Tree}
-use Rattle.sx_core.specs.Core.{PlainCore, one_armed, two_armed, assignment, procedure, letrec, call, matching, cores}
+use Rattle.sx_core.specs.Core.{PlainCore, two_armed, assignment, procedure, letrec, call, matching, cores}
 use Rattle.sx_core.specs.CoreView.{inits, cases, clauses}
 use Rattle.sx_core.specs.declared.record.Line.TheVariants as line
 use Rattle.sx_shapes.specs.At.{place_of}
@@ -44,15 +44,13 @@ use Rattle.sx_quasi_code.specs.declared.form.QuasiForm.TheVariants as forms
 use Rattle.sx_quasi_code.specs.declared.parts.Part.{Part}
 use Rattle.sx_expand.specs.Body.{splice, perform_item, item, value_of, finish_as, finish_all, body_core, finish, lambda_at, body_in, body, sequence_of}
 use Rattle.sx_expand.specs.Body as bodies
-use Rattle.sx_expand.specs.Expression.{in_order, case_in, lambda_case, lambda, one_case, all_cases, case_lambda, one_init, all_inits, letrec_in, letrec_form, application, alternate, conditional, set, in_sequence, fender, clause_in, pattern_clause, all_clauses, syntax_case, keywords_form, perform, perform_settled, form_at}
+use Rattle.sx_expand.specs.Expression.{in_order, case_in, lambda_case, lambda, one_case, case_lambda, one_init, all_inits, letrec_in, letrec_form, application, alternate, conditional, set, in_sequence, fender, clause_in, pattern_clause, syntax_case, keywords_form, perform, perform_settled, form_at}
 use Rattle.sx_expand.specs.Inside.{Inside}
 use Rattle.sx_expand.specs.Keywords.{keyword, seen_in, keyword_in, all_keywords, keywords, with_keywords, define_syntax}
-use Rattle.sx_expand.specs.Quasi.{part_core, parts_in_order, quasi_made, quasi_form}
+use Rattle.sx_expand.specs.Quasi.{part_core, quasi_made, quasi_form}
 use Rattle.sx_expand.specs.Settle.{settle, settle_item}
-use Rattle.sx_expand.specs.declared.settle.Settled.{Settled}
-use Rattle.sx_expand.specs.declared.settle.SettledItem.{SettledItem}
 use Rattle.sx_room_laws.proofs.Items.{deeper-from, Keeps, keeps-splice}
-use Rattle.sx_room_laws.proofs.Same.{Each, same-after, both-after, where-after, same-within, where-each, same-each, same-gather}
+use Rattle.sx_room_laws.proofs.Same.{Each, same-after, both-after, where-after, same-framed, where-each, same-each, same-gather}
 use Rattle.sx_room_laws.proofs.Waiting.{IsFrom, WaitsFrom}
 
 pub record Agree (d : ℕ) (go ho : Inside) : Type 0 where
@@ -138,7 +136,7 @@ module _ (go ho : Inside) (d : ℕ) (same : Agree d go ho) (keeps : Keeps go) wh
 
   pub same-body : (place : Span) (level depth : ℕ) (t : Tree) (forms : List Tree) (s : State) → d ≤ depth → body go place level depth t forms s ≡ body ho place level depth t forms s
   unfolding body
-  same-body place level depth t forms s le = same-within _ _ s (same-after (fresh_frame s) (body_in go place level depth t forms) (body_in ho place level depth t forms) (λ frame u. same-body-in place level depth t forms frame u le))
+  same-body place level depth t forms s le = same-framed (body_in go place level depth t forms) (body_in ho place level depth t forms) s (λ frame u. same-body-in place level depth t forms frame u le)
 
   -- Keywords.
 
@@ -176,7 +174,7 @@ module _ (go ho : Inside) (d : ℕ) (same : Agree d go ho) (keeps : Keeps go) wh
   pub same-case : (place : Span) (level depth : ℕ) (t : Tree) (ids : FormalIds) (forms : List Tree) (s : State) → d ≤ depth → lambda_case go place level depth t ids forms s ≡ lambda_case ho place level depth t ids forms s
   unfolding lambda_case
   same-case place level depth t ids forms s le =
-      same-within _ _ s (same-after (fresh_frame s) (case_in go place level depth t ids forms) (case_in ho place level depth t ids forms) (λ frame u. same-case-in place level depth t ids forms frame u le))
+      same-framed (case_in go place level depth t ids forms) (case_in ho place level depth t ids forms) s (λ frame u. same-case-in place level depth t ids forms frame u le)
 
   same-lambda : (place : Span) (level depth : ℕ) (t : Tree) (ids : FormalIds) (forms : List Tree) (s : State) → d ≤ depth → lambda go place level depth t ids forms s ≡ lambda ho place level depth t ids forms s
   unfolding lambda
@@ -204,7 +202,7 @@ module _ (go ho : Inside) (d : ℕ) (same : Agree d go ho) (keeps : Keeps go) wh
       → letrec_form go place level depth t star bs forms s ≡ letrec_form ho place level depth t star bs forms s
   unfolding letrec_form
   same-letrec place level depth t star bs forms s le =
-      same-within _ _ s (same-after (fresh_frame s) (letrec_in go place level depth t star bs forms) (letrec_in ho place level depth t star bs forms) (λ frame u. same-letrec-in place level depth t star bs forms frame u le))
+      same-framed (letrec_in go place level depth t star bs forms) (letrec_in ho place level depth t star bs forms) s (λ frame u. same-letrec-in place level depth t star bs forms frame u le)
 
   same-application : (place : Span) (level depth : ℕ) (operator : Tree) (operands : List Tree) (s : State) → d ≤ depth → application go place level depth operator operands s ≡ application ho place level depth operator operands s
   unfolding application
@@ -243,7 +241,7 @@ module _ (go ho : Inside) (d : ℕ) (same : Agree d go ho) (keeps : Keeps go) wh
   same-clause : (place : Span) (level depth : ℕ) (literals : List Tree) (c : PatternCase) (s : State) → d ≤ depth → pattern_clause go place level depth literals c s ≡ pattern_clause ho place level depth literals c s
   unfolding pattern_clause
   same-clause place level depth literals c s le =
-      same-within _ _ s (same-after (fresh_frame s) (clause_in go place level depth literals c) (clause_in ho place level depth literals c) (λ frame u. same-clause-in place level depth literals c frame u le))
+      same-framed (clause_in go place level depth literals c) (clause_in ho place level depth literals c) s (λ frame u. same-clause-in place level depth literals c frame u le)
 
   same-matching : (place : Span) (level depth : ℕ) (subject : Tree) (literals : List Tree) (cs : List PatternCase) (span : Span) (s : State) → d ≤ depth
       → syntax_case go place level depth subject literals cs span s ≡ syntax_case ho place level depth subject literals cs span s

@@ -1,7 +1,6 @@
 -- What is done with the forms of a body leaves nothing that stands less deep than they do; where they are too deep, it is at fault.
-use Rattle.std.proofs.Common.{◌≡◌, ◌≤◌, ℕ, zero, suc, ◌+◌, Bool, true, false, List, [], ◌∷◌, map, Some, Result, Ok, Err, refl, sym, ◌∙◌, ap, subst, if◌then◌else◌, arith}
+use Rattle.std.proofs.Common.{◌≡◌, ◌≤◌, ℕ, zero, suc, ◌+◌, Bool, true, false, List, [], ◌∷◌, map, refl, sym, ◌∙◌, ap, if◌then◌else◌, arith}
 use Rattle.std.specs.Prelude.{nat_lt}
-use Rattle.std.proofs.lemmas.Bool.Decides.{nat_tests}
 use Rattle.sx_base.specs.Act.{after, give, gather}
 use Rattle.sx_base.specs.declared.fault.FaultKind.TheVariants as kind
 use Rattle.sx_base.specs.declared.name.FrameNo.{FrameNo}
@@ -11,7 +10,7 @@ use Rattle.sx_tree.specs.Tree.{Tree}
 use Rattle.sx_core.specs.declared.record.LibRecord.{LibRecord}
 use Rattle.sx_shapes.specs.declared.shape.FormalIds.{FormalIds}
 use Rattle.sx_standing.specs.Binders.{bind_formals}
-use Rattle.sx_standing.specs.State.{State, fault_form, fresh_frame}
+use Rattle.sx_standing.specs.State.{State, fault_form}
 use Rattle.sx_heads.specs.Depth.{deeper}
 use Rattle.sx_heads.specs.Items.{begun}
 use Rattle.sx_heads.specs.declared.item.Item.{Item}
@@ -25,7 +24,7 @@ use Rattle.sx_expand.specs.Inside.{Inside}
 use Rattle.sx_expand.specs.Keywords.{define_syntax, with_keywords}
 use Rattle.sx_expand.specs.Settle.{settle_item}
 use Rattle.sx_expand.specs.declared.settle.SettledItem.{SettledItem}
-use Rattle.sx_room_laws.proofs.Same.{Gave, gave-after, gave-any, gave-if, gave-gather, same-after, same-within}
+use Rattle.sx_room_laws.proofs.Same.{Gave, gave-after, gave-any, gave-if, gave-gather, same-after, same-framed}
 use Rattle.sx_room_laws.proofs.Waiting.{WaitsFrom, from-settle}
 
 pub deeper-from : (n depth : ℕ) → n ≤ depth → n ≤ deeper depth
@@ -93,7 +92,7 @@ module _ (go ho : Inside) (low : IsShallow go) (lower : IsShallow ho) (depth : �
 
   pub deep-body : (place : Span) (level : ℕ) (t : Tree) (forms : List Tree) (s : State) → body go place level depth t forms s ≡ body ho place level depth t forms s
   unfolding body
-  deep-body place level t forms s = same-within _ _ s (same-after (fresh_frame s) (body_in go place level depth t forms) (body_in ho place level depth t forms) (λ frame u. deep-body-in place level t forms frame u))
+  deep-body place level t forms s = same-framed (body_in go place level depth t forms) (body_in ho place level depth t forms) s (λ frame u. deep-body-in place level t forms frame u)
 
   deep-case-in : (place : Span) (level : ℕ) (t : Tree) (ids : FormalIds) (forms : List Tree) (frame : FrameNo) (s : State) → case_in go place level depth t ids forms frame s ≡ case_in ho place level depth t ids forms frame s
   deep-case-in place level t ids forms frame s =
@@ -103,4 +102,4 @@ module _ (go ho : Inside) (low : IsShallow go) (lower : IsShallow ho) (depth : �
   pub deep-case : (place : Span) (level : ℕ) (t : Tree) (ids : FormalIds) (forms : List Tree) (s : State) → lambda_case go place level depth t ids forms s ≡ lambda_case ho place level depth t ids forms s
   unfolding lambda_case
   deep-case place level t ids forms s =
-      same-within _ _ s (same-after (fresh_frame s) (case_in go place level depth t ids forms) (case_in ho place level depth t ids forms) (λ frame u. deep-case-in place level t ids forms frame u))
+      same-framed (case_in go place level depth t ids forms) (case_in ho place level depth t ids forms) s (λ frame u. deep-case-in place level t ids forms frame u)

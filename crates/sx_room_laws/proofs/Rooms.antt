@@ -1,5 +1,5 @@
 -- Rooms in which 600 forms can nest agree.
-use Rattle.std.proofs.Common.{◌≡◌, ◌≤◌, ℕ, zero, suc, ◌+◌, Bool, true, false, List, map, Ok, Err, refl, sym, ◌∙◌, ap, subst, if◌then◌else◌, arith}
+use Rattle.std.proofs.Common.{◌≡◌, ◌≤◌, ℕ, zero, suc, ◌+◌, Bool, true, false, List, map, refl, sym, ◌∙◌, ap, subst, if◌then◌else◌, arith}
 use Rattle.std.specs.Prelude.{nat_lt}
 use Rattle.std.proofs.lemmas.Bool.Decides.{nat_tests}
 use Rattle.sx_base.specs.Act.{after}
@@ -13,7 +13,7 @@ use Rattle.sx_standing.specs.State.{State, fault_form}
 use Rattle.sx_heads.specs.Depth.{deeper}
 use Rattle.sx_heads.specs.declared.taken.BodyAt.{BodyAt}
 use Rattle.sx_heads.specs.declared.taken.Taken.{Taken}
-use Rattle.sx_expand.specs.Body.{item, body}
+use Rattle.sx_expand.specs.Body.{item}
 use Rattle.sx_expand.specs.Expression.{lambda_case, form_at, perform_settled, inside}
 use Rattle.sx_expand.specs.Inside.{Inside}
 use Rattle.sx_expand.specs.Settle.{settle}

@@ -2,8 +2,9 @@
 use Rattle.std.proofs.Common.{◌≡◌, Bool, true, false, List, [], ◌∷◌, ◌++◌, length, Result, Ok, Err, refl, ◌∙◌, ap, if◌then◌else◌}
 use Rattle.sx_base.specs.Act.{after, each, gather}
 use Rattle.sx_base.specs.declared.fault.Fault.{Fault}
+use Rattle.sx_base.specs.declared.name.FrameNo.{FrameNo}
 use Rattle.sx_standing.specs.InScope.{leaving, within}
-use Rattle.sx_standing.specs.State.{State, Does}
+use Rattle.sx_standing.specs.State.{State, Does, fresh_frame}
 
 -- this holds of each
 abbrev pub Each : {A : Type 0} → (A → Type 0) → List A → Type 0
@@ -47,8 +48,9 @@ pub where-after : {A B : Type 0} (P : A → Type 0) (r : Result (A × State) Fau
 where-after P (Ok x) k m g h = h x.0 x.1 g
 where-after P (Err e) k m g h = refl
 
-pub same-within : {A : Type 0} (m k : Does A) (s : State) → m s ≡ k s → within m s ≡ within k s
-same-within m k s e = ap (λ r. after r (leaving (length s.scope))) e
+-- with a new frame, in which what comes into scope is out of scope afterwards
+pub same-framed : {A : Type 0} (k m : FrameNo → Does A) (s : State) → ((frame : FrameNo) (u : State) → k frame u ≡ m frame u) → within (λ u. after (fresh_frame u) k) s ≡ within (λ u. after (fresh_frame u) m) s
+same-framed k m s h = ap (λ r. after r (leaving (length s.scope))) (same-after (fresh_frame s) k m h)
 
 -- of a list, where this holds of each
 pub where-each : {X A : Type 0} (P : X → Type 0) (step other : X → Does A) → ((x : X) (s : State) → P x → step x s ≡ other x s)
