@@ -1,0 +1,5 @@
+mod Same
+mod Waiting
+mod Items
+mod Agreeing
+mod Rooms
