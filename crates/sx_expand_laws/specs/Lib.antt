@@ -6,6 +6,8 @@ pub mod Stages
 pub mod Indices
 pub mod Good
 pub mod Keywords
+pub mod Shallow
+pub mod Variables
 pub mod Serving
 pub mod Named
 pub mod InScope

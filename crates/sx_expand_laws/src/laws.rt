@@ -4,6 +4,8 @@ ghost use Rattle.sx_expand_laws.specs.Good.{RecordsAreGood};
 ghost use Rattle.sx_expand_laws.specs.InScope.{ScopeStays};
 ghost use Rattle.sx_expand_laws.specs.Keywords.{KeywordsAreGood};
 ghost use Rattle.sx_expand_laws.specs.Serving.{FollowersServe, RecordsServe};
+ghost use Rattle.sx_expand_laws.specs.Shallow.{RecordsAreShallow};
+ghost use Rattle.sx_expand_laws.specs.Variables.{VariablesHaveIndices};
 ghost use Rattle.sx_expand_laws.specs.Uses.{UsesAreReplaced, BodyUsesAreReplaced, RecordFormsAreReplaced, BodyRecordFormsAreReplaced};
 ghost use Rattle.sx_expand_laws.specs.Named.{ReferencesNameBinders, AssignmentsNameBinders, BindersAreFound, BindersStay};
 
@@ -16,6 +18,18 @@ pub fn records_are_good()
 /// its lines and keywords bind one label or number two codes alike.
 pub fn keywords_are_good()
     ensures { KeywordsAreGood }
+{}
+
+/// Every record that expansion gives nests at most 2,404 levels deep, in each line and in each expression of a keyword. So recursion
+/// over its core code ends long before a stack does.
+pub fn records_are_shallow()
+    ensures { RecordsAreShallow }
+{}
+
+/// Each variable that a line of a record defines or binds has an index, and so a name; none is defined or bound twice, no two of them
+/// have one index, and each variable that a line defines is one of the top.
+pub fn variables_have_indices()
+    ensures { VariablesHaveIndices }
 {}
 
 /// What a record leaves to those behind it: records that follow one another serve, and so does every record
