@@ -49,7 +49,7 @@ module _ (own : LibName) where
     bound = λ l y e. subst (λ bs. bound_to bs l ≡ Some y) (sym b) e;
     indices = indices-same s t b x;
     numbered = λ h l y o e. let lt = h l y o (subst (λ bs. bound_to bs l ≡ Some y) b e) in omega (arith, lt, up);
-    keyed = λ h. subst AreKeyed (sym f) h;
+    keyed = λ h. subst (AreKeyed own) (sym f) h;
     shown = λ h g r a o. shown-same s t b r (h g r (subst (λ fs. Among (rows_at g fs) r) f a) o);
   }
 
@@ -119,8 +119,8 @@ key-found (r ∷ rs) x ms (inr a) = by (is_of x ms r) (key-found rs x ms a)
     by false e = e
 
 -- where a frame has no row of its symbol and marks, all rows stay keyed
-pub keyed-with-row : (fs : Scope) (f : FrameNo) (r : Row) → is_some (label_at fs f r.symbol r.marks) ≡ false → AreKeyed fs → AreKeyed (with_row fs f r)
-keyed-with-row fs f r new h g = by (same_frame g f) refl
+pub keyed-with-row : (own : LibName) (fs : Scope) (f : FrameNo) (r : Row) → is_some (label_at fs f r.symbol r.marks) ≡ false → AreKeyed own fs → AreKeyed own (with_row fs f r)
+keyed-with-row own fs f r new h g o = by (same_frame g f) refl
   where
     never : (k : List ℕ × List Mark) → Among (map row_key (rows_at f fs)) k → Among (row_key r ∷ []) k → ⊥
     never k a (inl e) =
@@ -128,12 +128,12 @@ keyed-with-row fs f r new h g = by (same_frame g f) refl
         let bad : false ≡ true = sym new ∙ there in absurd (cc)
     never k a (inr b) = elim b [ ]
 
-    last : Once (map row_key (rows_at f fs ++ r ∷ []))
-    last = subst Once (sym (map-append row_key (rows_at f fs) (r ∷ []))) (once-append (map row_key (rows_at f fs)) (row_key r ∷ []) (h f) ((λ a. a), tt) never)
+    last : IsOwn own f.0 → Once (map row_key (rows_at f fs ++ r ∷ []))
+    last mine = subst Once (sym (map-append row_key (rows_at f fs) (r ∷ []))) (once-append (map row_key (rows_at f fs)) (row_key r ∷ []) (h f mine) ((λ a. a), tt) never)
 
     by : (b : Bool) → same_frame g f ≡ b → Once (map row_key (rows_at g (with_row fs f r)))
-    by true e = subst (λ (x : FrameNo). Once (map row_key (rows_at x (with_row fs f r)))) (sym (same_frame_is g f e)) (subst (λ (rs : List Row). Once (map row_key rs)) (sym (rows_at-with_row fs f r)) last)
-    by false e = subst (λ (rs : List Row). Once (map row_key rs)) (sym (rows_at-other fs f g r (apart fs f r g e))) (h g)
+    by true e = subst (λ (x : FrameNo). Once (map row_key (rows_at x (with_row fs f r)))) (sym (same_frame_is g f e)) (subst (λ (rs : List Row). Once (map row_key rs)) (sym (rows_at-with_row fs f r)) (last (subst (λ (x : FrameNo). IsOwn own x.0) (same_frame_is g f e) o)))
+    by false e = subst (λ (rs : List Row). Once (map row_key rs)) (sym (rows_at-other fs f g r (apart fs f r g e))) (h g o)
 
 -- a row for a label that is bound
 pub shown-with-row : (own : LibName) (s t : State) (f : FrameNo) (id : Tree) (l : Label) → t.frames ≡ with_row s.frames f (row_for id l) → ((m : Label) → IsBound s m → IsBound t m) → IsBound t l → RowsAreBound own s → RowsAreBound own t

@@ -109,7 +109,7 @@ module _ (own : LibName) where
     bound = λ l b e. e;
     indices = λ h. record { below = h.below; apart = h.apart };
     numbered = λ h. h;
-    keyed = λ h. keyed-with-row s.frames f (row_for dots ellipsis) isnew h;
+    keyed = λ h. keyed-with-row own s.frames f (row_for dots ellipsis) isnew h;
     shown = λ h g r a o. old h g r o (row-new s.frames f (row_for dots ellipsis) g r a);
   }
     where

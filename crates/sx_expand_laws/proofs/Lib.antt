@@ -58,3 +58,5 @@ pub mod Replaced
 pub mod Shallow
 pub mod BoundVariables
 pub mod Variables
+pub mod RunReferences
+pub mod Behind

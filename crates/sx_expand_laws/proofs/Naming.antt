@@ -121,7 +121,7 @@ module _ (own : LibName) where
       apart = λ m j w y i o q e d k r. h.apart m j w y i o q (before m w e) (before j y d) k r;
     };
     numbered = λ h. added-numbered s l x lt h;
-    keyed = λ h. keyed-with-row s.frames f (row_for id l) new h;
+    keyed = λ h. keyed-with-row own s.frames f (row_for id l) new h;
     shown = λ h. shown-with-row own s (record s { frames = with_row s.frames f (row_for id l); bindings = s.bindings ++ (l, x) ∷ []; scope = ls }) f id l refl (λ m b. (b.0, bound-kept s.bindings l m x b.0 b.1)) (bound-last s.bindings l x) h;
   }
     where
@@ -140,7 +140,7 @@ module _ (own : LibName) where
     bound = λ m b e. bound-kept s.bindings l m (binding.Variable v) b e;
     indices = variable-indices s f id l v ix;
     numbered = λ h. added-numbered s l (binding.Variable v) lt h;
-    keyed = λ h. keyed-with-row s.frames f (row_for id l) new h;
+    keyed = λ h. keyed-with-row own s.frames f (row_for id l) new h;
     shown = λ h. shown-with-row own s (with_variable f id l v s) f id l refl (λ m b. (b.0, bound-kept s.bindings l m (binding.Variable v) b.0 b.1)) (bound-last s.bindings l (binding.Variable v)) h;
   }
 

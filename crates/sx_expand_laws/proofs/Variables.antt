@@ -69,13 +69,13 @@ once-map {A} g (x ∷ xs) once same =
 -- what a label is bound to in a list in which it stands once
 lookup-there : (es : List (Label × Binding)) (l : Label) (b : Binding) → Once (map label_of es) → Among es (l, b) → lookup (same_label l) es ≡ Some b
 lookup-there [] l b once a = elim a [ ]
-lookup-there (e ∷ es) l b once a = by (same_label l e.0) refl a
+lookup-there (e ∷ es) l b once a = by (same_label l e.0) refl a (lookup-there es l b once.1)
   where
-    by : (t : Bool) → same_label l e.0 ≡ t → ((l, b) ≡ e) ⊎ Among es (l, b) → (if t then Some e.1 else lookup (same_label l) es) ≡ Some b
-    by true is (inl d) = ap (λ (x : Label × Binding). Some x.1) (sym d)
-    by true is (inr d) = absurd (once.0 (subst (Among (map label_of es)) ((label_decides l e.0).0 is) (among-map label_of es (l, b) d)))
-    by false is (inl d) = let same = (label_decides l e.0).1 (ap label_of d) in let bad : false ≡ true = sym is ∙ same in absurd (cc)
-    by false is (inr d) = lookup-there es l b once.1 d
+    by : (t : Bool) → same_label l e.0 ≡ t → ((l, b) ≡ e) ⊎ Among es (l, b) → (Among es (l, b) → lookup (same_label l) es ≡ Some b) → (if t then Some e.1 else lookup (same_label l) es) ≡ Some b
+    by true is (inl d) rest = ap (λ (x : Label × Binding). Some x.1) (sym d)
+    by true is (inr d) rest = absurd (once.0 (subst (Among (map label_of es)) ((label_decides l e.0).0 is) (among-map label_of es (l, b) d)))
+    by false is (inl d) rest = let same = (label_decides l e.0).1 (ap label_of d) in let bad : false ≡ true = sym is ∙ same in absurd (cc)
+    by false is (inr d) rest = rest d
 
 -- What a library binds.
 

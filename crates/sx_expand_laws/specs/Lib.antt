@@ -8,6 +8,7 @@ pub mod Good
 pub mod Keywords
 pub mod Shallow
 pub mod Variables
+pub mod Behind
 pub mod Serving
 pub mod Named
 pub mod InScope

@@ -99,9 +99,9 @@ pub record IndicesApart (own : LibName) (s : State) : Type 0 where
 abbrev pub row_key : Row → List ℕ × List Mark
 row_key r = (r.symbol, r.marks)
 
--- each frame has a symbol under marks once
-abbrev pub AreKeyed : Scope → Type 0
-AreKeyed fs = (f : FrameNo) → Once (map row_key (rows_at f fs))
+-- each frame of the library has a symbol under marks once
+abbrev pub AreKeyed : LibName → Scope → Type 0
+AreKeyed own fs = (f : FrameNo) → IsOwn own f.0 → Once (map row_key (rows_at f fs))
 
 -- what rows give of the labels of the library is bound, but for what the row of the ellipsis gives
 abbrev pub RowsAreBound : LibName → State → Type 0
@@ -117,7 +117,7 @@ pub record Grows (own : LibName) (s t : State) : Type 0 where
   pub bound : (l : Label) (b : Binding) → bound_to s.bindings l ≡ Some b → bound_to t.bindings l ≡ Some b
   pub indices : IndicesApart own s → IndicesApart own t
   pub numbered : IsNumbered own s → IsNumbered own t
-  pub keyed : AreKeyed s.frames → AreKeyed t.frames
+  pub keyed : AreKeyed own s.frames → AreKeyed own t.frames
   pub shown : RowsAreBound own s → RowsAreBound own t
 
 -- What comes into scope stands behind what was there, and is among these labels. So are the variables of the top of the library

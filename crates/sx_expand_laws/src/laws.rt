@@ -1,5 +1,6 @@
 //! Laws of expansion. Each function here computes nothing: what it promises is the law.
 
+ghost use Rattle.sx_expand_laws.specs.Behind.{RecordsFollow};
 ghost use Rattle.sx_expand_laws.specs.Good.{RecordsAreGood};
 ghost use Rattle.sx_expand_laws.specs.InScope.{ScopeStays};
 ghost use Rattle.sx_expand_laws.specs.Keywords.{KeywordsAreGood};
@@ -30,6 +31,13 @@ pub fn records_are_shallow()
 /// have one index, and each variable that a line defines is one of the top.
 pub fn variables_have_indices()
     ensures { VariablesHaveIndices }
+{}
+
+/// So every record that expansion gives follows the records before it, which follow one another, in all that is asked of one: its exports,
+/// bindings, binders, codes and rows stand once each and are its own, what it mentions is known, and its references are the earlier
+/// libraries that its lines mention.
+pub fn records_follow()
+    ensures { RecordsFollow }
 {}
 
 /// What a record leaves to those behind it: records that follow one another serve, and so does every record

@@ -31,14 +31,14 @@ glyph_plain n h = by (nat_lt n 10) refl
 
 digits_plain : (k n : ℕ) (acc : List ℕ) → list_all is_plain acc ≡ true → list_all is_plain (digits_onto k 16 true n acc) ≡ true
 digits_plain zero n acc h = h
-digits_plain (suc k) n acc h = by (n / 16 == 0)
+digits_plain (suc k) n acc h = by (n / 16 == 0) (λ e. digits_plain k (n / 16) (digit_glyph true (n % 16) ∷ acc) e)
   where
     more : list_all is_plain (digit_glyph true (n % 16) ∷ acc) ≡ true
     more = and_from (is_plain (digit_glyph true (n % 16))) (list_all is_plain acc) (glyph_plain (n % 16) (mod-lt n (omega arith))) h
 
-    by : (b : Bool) → list_all is_plain (if b then digit_glyph true (n % 16) ∷ acc else digits_onto k 16 true (n / 16) (digit_glyph true (n % 16) ∷ acc)) ≡ true
-    by true = more
-    by false = digits_plain k (n / 16) (digit_glyph true (n % 16) ∷ acc) more
+    by : (b : Bool) → (list_all is_plain (digit_glyph true (n % 16) ∷ acc) ≡ true → list_all is_plain (digits_onto k 16 true (n / 16) (digit_glyph true (n % 16) ∷ acc)) ≡ true) → list_all is_plain (if b then digit_glyph true (n % 16) ∷ acc else digits_onto k 16 true (n / 16) (digit_glyph true (n % 16) ∷ acc)) ≡ true
+    by true rest = more
+    by false rest = rest more
 
 hex_plain : (c : ℕ) → list_all is_plain (hex c) ≡ true
 unfolding digits
