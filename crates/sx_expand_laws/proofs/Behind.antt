@@ -194,8 +194,8 @@ imports-keyed f g (e ∷ es) once = by (same_frame f g) (imports-keyed f g es on
     by false h = h
 
 core-frames : (own : LibName) → (own ≡ library.Core → ⊥) → (ns : List ℕ) → Each (λ (r : FrameRow). IsOwn own r.frame.0 → ⊥) (map core_row ns)
-core-frames own no [] = tt
-core-frames own no (n ∷ ns) = ((λ e. no (sym e)), core-frames own no ns)
+core-frames own apart [] = tt
+core-frames own apart (n ∷ ns) = ((λ e. apart (sym e)), core-frames own apart ns)
 
 -- frames of records that have other names
 record-frames : (own : LibName) (earlier rs : List LibRecord) → AllServe earlier rs → (Among (names_of rs) own → ⊥) → Each (λ (r : FrameRow). IsOwn own r.frame.0 → ⊥) (rows_of rs)
@@ -207,10 +207,10 @@ record-frames own earlier (r ∷ rs) h new =
 module _ (own : LibName) (records : List LibRecord) (imports : List (List ℕ × Label)) (codes : Codes) where
   started-keyed : AllServe [] records → (Among (names_of records) own → ⊥) → (own ≡ library.Core → ⊥) → Once (map external imports) → AreKeyed own (started own records imports codes).frames
   unfolding started record_frame rows_for
-  started-keyed serve new no once f o =
+  started-keyed serve new apart once f o =
       let imported = map (import_row (first_frame own)) imports in
       let rows = rows_of records ++ (record_frame ++ imported) in
-      let is : filter (in_frame f) rows ≡ filter (in_frame f) imported = filter-others own f o (rows_of records) (record_frame ++ imported) (record-frames own [] records serve new) ∙ filter-others own f o record_frame imported (core-frames own no introduced_numbers) in
+      let is : filter (in_frame f) rows ≡ filter (in_frame f) imported = filter-others own f o (rows_of records) (record_frame ++ imported) (record-frames own [] records serve new) ∙ filter-others own f o record_frame imported (core-frames own apart introduced_numbers) in
       subst (λ (rs : List Row). Once (map row_key rs)) (sym (rows_at-adopted [] f rows ∙ ap (map row_in) is)) (imports-keyed f (first_frame own) imports once)
 
 -- Labels that are known.
@@ -266,27 +266,7 @@ abbrev AreGiven : List ℕ → Type 0
 AreGiven ns = Each (λ n. (n < name_count) × (derived_place n ≡ None)) ns
 
 introduced-given : AreGiven introduced_numbers
-introduced-given = (
-  (omega arith, refl),
-  (omega arith, refl),
-  (omega arith, refl),
-  (omega arith, refl),
-  (omega arith, refl),
-  (omega arith, refl),
-  (omega arith, refl),
-  (omega arith, refl),
-  (omega arith, refl),
-  (omega arith, refl),
-  (omega arith, refl),
-  (omega arith, refl),
-  (omega arith, refl),
-  (omega arith, refl),
-  (omega arith, refl),
-  (omega arith, refl),
-  (omega arith, refl),
-  (omega arith, refl),
-  tt,
-)
+introduced-given = ((omega arith, refl), ((omega arith, refl), ((omega arith, refl), ((omega arith, refl), ((omega arith, refl), ((omega arith, refl), ((omega arith, refl), ((omega arith, refl), ((omega arith, refl), ((omega arith, refl), ((omega arith, refl), ((omega arith, refl), ((omega arith, refl), ((omega arith, refl), ((omega arith, refl), ((omega arith, refl), ((omega arith, refl), ((omega arith, refl), tt))))))))))))))))))
 
 numbers-known : (records : List LibRecord) (ns : List ℕ) → AreGiven ns → Each (λ (x : FrameRow). IsKnownBefore records x.label) (map core_row ns)
 numbers-known records [] h = tt
@@ -303,11 +283,11 @@ module _ (own : LibName) (records : List LibRecord) (imports : List (List ℕ ×
       (each-append (λ (x : FrameRow). IsKnownBefore records x.label) record_frame imported (numbers-known records introduced_numbers introduced-given) (imports-known records (first_frame own) imports known))))
 
   known-foreign : (Among (names_of records) own → ⊥) → (own ≡ library.Core → ⊥) → (l : Label) → IsKnownBefore records l → IsOwn own l.0 → ⊥
-  known-foreign new no l (inl a) o = new (subst (Among (names_of records)) o (binder-names [] records follow l a))
-  known-foreign new no l (inr g) o = no (sym o ∙ g.0)
+  known-foreign new apart l (inl a) o = new (subst (Among (names_of records)) o (binder-names [] records follow l a))
+  known-foreign new apart l (inr g) o = apart (sym o ∙ g.0)
 
   started-bound : (Among (names_of records) own → ⊥) → (own ≡ library.Core → ⊥) → RowsAreBound own (started own records imports codes)
-  started-bound new no f x a o = absurd (known-foreign new no x.label (each-at (λ (y : Row). IsKnownBefore records y.label) (rows_at f (started own records imports codes).frames) x (started-known f) a) o)
+  started-bound new apart f x a o = absurd (known-foreign new apart x.label (each-at (λ (y : Row). IsKnownBefore records y.label) (rows_at f (started own records imports codes).frames) x (started-known f) a) o)
 
 known-there : (records : List LibRecord) → AllFollow [] records → (l : Label) → IsKnownBefore records l → IsThere records l.0.library
 known-there records follow l (inl a) = inl (binder-names [] records follow l a)

@@ -173,7 +173,7 @@ module _ (bs : Bindings) (level : ℕ) where
     all-indexed n (c ∷ cs) h = each-append (IsIndexed bs level) (parts c) (all_parts (cores cs)) h.0.indexed (all-indexed n cs h.1)
 
     all-low : (n : ℕ) (cs : List PlainCore) → 4 * depth ≤ n → Each (Within bs level depth n) cs → highest (cores cs) + 4 * depth ≤ n
-    all-low n [] le h = le
+    all-low n [] le h = omega (arith, le)
     all-low n (c ∷ cs) le h = max-low (height c) (highest (cores cs)) (4 * depth) n h.0.low (all-low n cs le h.1)
 
     module _ (n m : ℕ) (up : 1 + n ≤ m) (le : 4 * depth ≤ n) where
@@ -200,7 +200,7 @@ module _ (bs : Bindings) (level : ℕ) where
       cases-indexed (x ∷ xs) h = each-append (IsIndexed bs level) (parts x.body) (case_parts (cases xs)) h.0.body.indexed (cases-indexed xs h.1)
 
       cases-low : (xs : List Lambda) → Each (WithinCase bs level depth n) xs → highest_case (cases xs) + 4 * depth ≤ n
-      cases-low [] h = le
+      cases-low [] h = omega (arith, le)
       cases-low (x ∷ xs) h = max-low (height x.body) (highest_case (cases xs)) (4 * depth) n h.0.body.low (cases-low xs h.1)
 
       pub procedure-within : (k : CodeNo) (xs : List Lambda) (plain : Bool) → Each (WithinCase bs level depth n) xs → Within bs level depth m (procedure k (cases xs) plain)
@@ -215,7 +215,7 @@ module _ (bs : Bindings) (level : ℕ) where
       inits-indexed (i ∷ is) h = each-append (IsIndexed bs level) (parts i.value) (init_parts (inits is)) h.0.value.indexed (inits-indexed is h.1)
 
       inits-low : (is : List Init) → Each (WithinInit bs level depth n) is → highest_init (inits is) + 4 * depth ≤ n
-      inits-low [] h = le
+      inits-low [] h = omega (arith, le)
       inits-low (i ∷ is) h = max-low (height i.value) (highest_init (inits is)) (4 * depth) n h.0.value.low (inits-low is h.1)
 
       pub letrec-within : (star : Bool) (is : List Init) (c : PlainCore) → Each (WithinInit bs level depth n) is → Within bs level depth n c → Within bs level depth m (letrec star (inits is) c)
@@ -233,7 +233,7 @@ module _ (bs : Bindings) (level : ℕ) where
           by (Some c) f k = each-append (IsIndexed bs level) (parts c) (parts x.output ++ clause_parts (clauses xs)) f.indexed (each-append (IsIndexed bs level) (parts x.output) (clause_parts (clauses xs)) h.0.output.indexed k)
 
       clauses-low : (xs : List Clause) → Each (WithinClause bs level depth n) xs → highest_clause (clauses xs) + 4 * depth ≤ n
-      clauses-low [] h = le
+      clauses-low [] h = omega (arith, le)
       clauses-low (x ∷ xs) h = by x.fender h.0.fender (clauses-low xs h.1)
         where
           by : (o : Option PlainCore) → WithinFender bs level depth n o → highest_clause (clauses xs) + 4 * depth ≤ n → highest_clause (clause_on x.pattern o x.output (clauses xs)) + 4 * depth ≤ n
