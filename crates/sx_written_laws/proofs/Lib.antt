@@ -1,5 +1,0 @@
-pub mod Lists
-pub mod NameText
-pub mod Plain
-pub mod Table
-pub mod Written
