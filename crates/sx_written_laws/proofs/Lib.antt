@@ -1,0 +1,5 @@
+pub mod Lists
+pub mod NameText
+pub mod Plain
+pub mod Table
+pub mod Written
