@@ -27,7 +27,7 @@ use Rattle.sx_core.specs.Core.{PlainCore}
 use Rattle.sx_core.specs.declared.binding.Binding.{Binding}
 use Rattle.sx_core.specs.declared.record.LibRecord.{LibRecord}
 use Rattle.sx_core.specs.declared.record.Line.{Line}
-use Rattle.sx_core_laws.specs.Follows.{names_of, export_names, export_labels, bound_labels, row_labels, Key, key_of, line_cores, keywords, IsGiven, IsKnown, Suits, Follows}
+use Rattle.sx_core_laws.specs.Follows.{names_of, export_names, export_labels, bound_labels, Key, key_of, line_cores, keywords, IsGiven, IsKnown, Suits, Follows}
 use Rattle.sx_core_laws.specs.Following.{AllFollow}
 use Rattle.sx_core_laws.specs.Records.{defined, line_core, run_binders}
 use Rattle.sx_core_laws.specs.Scope.{Closed}
@@ -41,7 +41,6 @@ use Rattle.sx_standing.specs.Own as standing
 use Rattle.sx_standing.specs.Own.{completed}
 use Rattle.sx_standing.specs.Start.{rows_of, first_frame, import_row, started}
 use Rattle.sx_standing.specs.State.{State}
-use Rattle.sx_heads.specs.declared.taken.Taken.{Taken}
 use Rattle.sx_expand.specs.Body.{finish_all}
 use Rattle.sx_expand.specs.Expanding.{ready, body_of, library_record}
 use Rattle.sx_expand.specs.Expression.{inside}
@@ -205,7 +204,7 @@ record-frames own earlier (r ∷ rs) h new =
     (record-frames own (earlier ++ r ∷ []) rs h.1 (λ a. new (inr a)))
 
 module _ (own : LibName) (records : List LibRecord) (imports : List (List ℕ × Label)) (codes : Codes) where
-  started-keyed : AllServe [] records → (Among (names_of records) own → ⊥) → (own ≡ library.Core → ⊥) → Once (map external imports) → AreKeyed own (started own records imports codes).frames
+  pub started-keyed : AllServe [] records → (Among (names_of records) own → ⊥) → (own ≡ library.Core → ⊥) → Once (map external imports) → AreKeyed own (started own records imports codes).frames
   unfolding started record_frame rows_for
   started-keyed serve new apart once f o =
       let imported = map (import_row (first_frame own)) imports in
@@ -358,7 +357,7 @@ module _ (own : LibName) (path : List ℕ) (records : List LibRecord) (imports :
       let variables = variables-indexed own path records imports version place es forms codes r is-ready e in
       let mine : (l : Label) → Among (run_binders r) l → l.0.library ≡ r.name = λ l a. each-at (λ (m : Label). m.0.library ≡ r.name) (run_binders r) l good.0.bound_here a in
       let frames : Each (λ (x : FrameRow). IsOwn own x.frame.0) (rows_in own runs.ended.frames) = subst (λ (k : LibName). Each (λ (x : FrameRow). IsOwn own x.frame.0) (rows_in k runs.ended.frames)) runs.name
-          (subst (Each (λ (x : FrameRow). IsOwn own x.frame.0)) runs.frames (each-map (λ (x : FrameRow). x.frame.0.library ≡ r.name) (λ (x : FrameRow). IsOwn own x.frame.0) r.frames serves.own_frames (λ x k. k ∙ runs.name))) in
+      (subst (Each (λ (x : FrameRow). IsOwn own x.frame.0)) runs.frames (each-map (λ (x : FrameRow). x.frame.0.library ≡ r.name) (λ (x : FrameRow). IsOwn own x.frame.0) r.frames serves.own_frames (λ x k. k ∙ runs.name))) in
       let keyed = runs.grows.keyed (started-keyed own records imports codes (followers-serve records h.earlier) h.new h.no_core h.imported_once) in
       let lines = lines-suit r.run good.0.well_made good.0.closed in
       record {
