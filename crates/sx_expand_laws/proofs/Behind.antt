@@ -27,7 +27,7 @@ use Rattle.sx_core.specs.Core.{PlainCore}
 use Rattle.sx_core.specs.declared.binding.Binding.{Binding}
 use Rattle.sx_core.specs.declared.record.LibRecord.{LibRecord}
 use Rattle.sx_core.specs.declared.record.Line.{Line}
-use Rattle.sx_core_laws.specs.Follows.{names_of, export_names, export_labels, bound_labels, row_labels, Key, key_of, line_cores, keywords, IsGiven, IsKnown, Suits, Follows}
+use Rattle.sx_core_laws.specs.Follows.{names_of, export_names, export_labels, bound_labels, Key, key_of, line_cores, keywords, IsGiven, IsKnown, Suits, Follows}
 use Rattle.sx_core_laws.specs.Following.{AllFollow}
 use Rattle.sx_core_laws.specs.Records.{defined, line_core, run_binders}
 use Rattle.sx_core_laws.specs.Scope.{Closed}
@@ -41,7 +41,6 @@ use Rattle.sx_standing.specs.Own as standing
 use Rattle.sx_standing.specs.Own.{completed}
 use Rattle.sx_standing.specs.Start.{rows_of, first_frame, import_row, started}
 use Rattle.sx_standing.specs.State.{State}
-use Rattle.sx_heads.specs.declared.taken.Taken.{Taken}
 use Rattle.sx_expand.specs.Body.{finish_all}
 use Rattle.sx_expand.specs.Expanding.{ready, body_of, library_record}
 use Rattle.sx_expand.specs.Expression.{inside}

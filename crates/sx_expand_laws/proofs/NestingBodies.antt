@@ -1,17 +1,15 @@
 -- Bodies nest as deep as they may, given that forms do inside.
-use Rattle.std.proofs.Common.{◌≡◌, ℕ, ◌+◌, ◌*◌, ◌≤◌, true, false, List, [], ◌∷◌, ◌++◌, map, Option, None, Some, refl, sym, ◌∙◌, ap, subst, arith}
+use Rattle.std.proofs.Common.{◌≡◌, ℕ, ◌+◌, ◌*◌, ◌≤◌, true, false, List, [], ◌∷◌, ◌++◌, map, Option, None, Some, refl, sym, ◌∙◌, subst, arith}
 use Rattle.sx_base.specs.Act.{after, give}
 use Rattle.sx_base.specs.Datum as datum
 use Rattle.sx_base.specs.declared.atom.Atom.TheVariants as atoms
 use Rattle.sx_base.specs.declared.library.LibName.{LibName}
-use Rattle.sx_base.specs.declared.name.Label.{Label}
 use Rattle.sx_base.specs.declared.span.Span.{Span}
 use Rattle.sx_tree.specs.Changes.{stamp}
 use Rattle.sx_tree.specs.Tree.{Tree}
 use Rattle.sx_core.specs.Core.{PlainCore, quoted, procedure}
 use Rattle.sx_core.specs.CoreView.{cases}
 use Rattle.sx_core.specs.declared.code.Init.{Init}
-use Rattle.sx_core.specs.declared.code.Lambda.{Lambda}
 use Rattle.sx_core.specs.declared.record.Line.{Line}
 use Rattle.sx_core.specs.declared.record.Line.TheVariants as line
 use Rattle.sx_core_laws.specs.Records.{line_core}
@@ -29,17 +27,16 @@ use Rattle.sx_expand.specs.Body.{splice, no_value, value_of, finish_as, finish_o
 use Rattle.sx_expand.specs.Inside.{Inside}
 use Rattle.sx_expand_laws.specs.States.{Later}
 use Rattle.sx_expand_laws.proofs.Acts.{Gave, gave-after, gave-both, gave-gather, gave-if, gave-less, gave-within}
-use Rattle.sx_expand_laws.proofs.Changes.{Moves, moved-line, body-takes, took-none}
+use Rattle.sx_expand_laws.proofs.Changes.{Moves, moved-line, took-none}
 use Rattle.sx_expand_laws.proofs.Fresh.{each-map}
 use Rattle.sx_expand_laws.proofs.Good.{Bindings, Extends}
 use Rattle.sx_expand_laws.proofs.Items.{wait_kind, waiting_kind, wait_kinds, Took, Takes}
 use Rattle.sx_expand_laws.proofs.Later.{but-self, but-then, keeps-self, keeps-then}
 use Rattle.sx_expand_laws.proofs.LineLabels.{kind_labels}
 use Rattle.sx_expand_laws.proofs.Lines.{line_kind, kinds}
-use Rattle.sx_expand_laws.proofs.Moved.{moved-each}
-use Rattle.sx_expand_laws.proofs.Naming.{as_frame, counted, counted-later}
+use Rattle.sx_expand_laws.proofs.Naming.{as_frame, counted}
 use Rattle.sx_expand_laws.proofs.Nesting.{deeper-next, IsDefined, IsLeveled, Within, WithinCase, WithinInit, within-at, within-grown, quoted-within, one_armed-within, in-sequence-within, procedure-within, letrec-within}
-use Rattle.sx_expand_laws.proofs.NestingBinding.{Here, here-but, here-counted, here-later, Pairs, pairs-each, gave-pairs}
+use Rattle.sx_expand_laws.proofs.NestingBinding.{Here, here-but, here-counted, Pairs, pairs-each, gave-pairs}
 use Rattle.sx_expand_laws.proofs.NestingItems.{IsDeep, AreWaiting, waiting-grown}
 
 -- what is done inside forms nests so

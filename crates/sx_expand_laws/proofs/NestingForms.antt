@@ -1,5 +1,5 @@
 -- Forms nest as deep as they may, however deep they may nest inside.
-use Rattle.std.proofs.Common.{◌≡◌, ℕ, zero, suc, ◌+◌, ◌*◌, ◌≤◌, Bool, true, false, List, [], ◌∷◌, ◌++◌, map, Option, None, Some, Result, Ok, Err, refl, sym, ap, subst, arith}
+use Rattle.std.proofs.Common.{◌≡◌, ℕ, zero, suc, ◌+◌, ◌*◌, ◌≤◌, Bool, true, false, List, [], ◌∷◌, ◌++◌, map, Option, None, Some, Result, refl, sym, subst, arith}
 use Rattle.std.specs.Prelude.{nat_lt, nat_eq}
 use Rattle.sx_base.specs.Act.{after, give}
 use Rattle.sx_base.specs.declared.fault.Fault.{Fault}
@@ -12,12 +12,10 @@ use Rattle.sx_tree.specs.Tree.{Tree}
 use Rattle.sx_core.specs.Core.{PlainCore, two_armed, assignment, letrec, call, matching, instance, cores}
 use Rattle.sx_core.specs.CoreView.{inits, clauses}
 use Rattle.sx_core.specs.References.{formals_labels}
-use Rattle.sx_core.specs.declared.code.Clause.{Clause}
 use Rattle.sx_core.specs.declared.code.Init.{Init}
 use Rattle.sx_core.specs.declared.code.Lambda.{Lambda}
 use Rattle.sx_core.specs.declared.record.LibRecord.{LibRecord}
 use Rattle.sx_core_laws.specs.Words.{Each}
-use Rattle.sx_pattern.specs.declared.compile.Compiled.{Compiled}
 use Rattle.sx_shapes.specs.At.{place_of}
 use Rattle.sx_shapes.specs.declared.shape.BindingSpec.{BindingSpec}
 use Rattle.sx_shapes.specs.declared.shape.FormalIds.{FormalIds}
@@ -52,16 +50,16 @@ use Rattle.sx_expand.specs.Settle.{step, step_of, set_step, settled_by, next_for
 use Rattle.sx_expand.specs.declared.settle.Settled.{Settled}
 use Rattle.sx_expand.specs.declared.settle.Step.{Step}
 use Rattle.sx_expand.specs.declared.settle.Step.TheVariants as steps
-use Rattle.sx_expand_laws.specs.States.{Later, LaterBut}
+use Rattle.sx_expand_laws.specs.States.{Later}
 use Rattle.sx_expand_laws.proofs.Acts.{Gave, gave-any, gave-after, gave-both, gave-if, gave-less, gave-within}
 use Rattle.sx_expand_laws.proofs.Binding.{BindsAll, spec_label}
-use Rattle.sx_expand_laws.proofs.Changes.{Moves, inside-moves, moved-body, moved-case, moved-clause, moved-keywords, BindsPattern, pattern-bound, pattern-adds, performs-item}
+use Rattle.sx_expand_laws.proofs.Changes.{inside-moves, moved-body, moved-case, moved-clause, moved-keywords, BindsPattern, pattern-bound, pattern-adds, performs-item}
 use Rattle.sx_expand_laws.proofs.Fresh.{each-map}
-use Rattle.sx_expand_laws.proofs.Good.{Bindings, Extends}
+use Rattle.sx_expand_laws.proofs.Good.{Bindings}
 use Rattle.sx_expand_laws.proofs.Items.{Took, Takes, took-later, settle-takes, Settles}
 use Rattle.sx_expand_laws.proofs.Later.{later-self, later-then}
-use Rattle.sx_expand_laws.proofs.Naming.{as_frame, counted, counted-later}
-use Rattle.sx_expand_laws.proofs.Nesting.{not-deep, deeper-next, deeper-up, IsLeveled, defined-grown, Within, WithinCase, WithinInit, WithinFender, WithinClause, within-at, within-grown, all-grown, case-grown, fender-grown, clause-grown, labels-grown, one_armed-within, two_armed-within, assignment-within, in-sequence-within, call-within, procedure-within, letrec-within, matching-within, IsAlone, alone-within}
+use Rattle.sx_expand_laws.proofs.Naming.{as_frame, counted}
+use Rattle.sx_expand_laws.proofs.Nesting.{not-deep, deeper-next, deeper-up, IsLeveled, defined-grown, Within, WithinCase, WithinInit, WithinFender, WithinClause, within-at, within-grown, case-grown, fender-grown, clause-grown, labels-grown, one_armed-within, two_armed-within, assignment-within, in-sequence-within, call-within, procedure-within, letrec-within, matching-within, IsAlone, alone-within}
 use Rattle.sx_expand_laws.proofs.NestingBinding.{Here, here-but, here-counted, here-later, Pairs, pairs-each, gave-pairs, nothing-asked, binds-formals-leveled, binds-specs-leveled}
 use Rattle.sx_expand_laws.proofs.NestingBodies.{Nests, Splices, splice-nests, body-nests}
 use Rattle.sx_expand_laws.proofs.NestingItems.{AreWaiting, waiting-grown, settle-waits}

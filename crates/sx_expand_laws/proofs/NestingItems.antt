@@ -1,5 +1,5 @@
 -- What waits in a body: variables of its level, and forms that stand at least as deep as the body.
-use Rattle.std.proofs.Common.{◌≡◌, ℕ, zero, suc, ◌+◌, ◌≤◌, Bool, true, false, List, [], ◌∷◌, ◌++◌, map, Option, None, Some, Result, Ok, Err, refl, sym, ◌∙◌, ap, subst, arith, if◌then◌else◌}
+use Rattle.std.proofs.Common.{◌≡◌, ℕ, zero, suc, ◌+◌, ◌≤◌, Bool, true, false, List, [], ◌∷◌, ◌++◌, map, Some, Ok, refl, sym, ◌∙◌, ap, subst, if◌then◌else◌}
 use Rattle.std.specs.Prelude.{◌&&◌, ◌||◌, not}
 use Rattle.sx_base.specs.Act.{after, give}
 use Rattle.sx_base.specs.declared.fault.FaultKind.TheVariants as kind
@@ -14,7 +14,7 @@ use Rattle.sx_shapes.specs.declared.shape.Shape.TheVariants as shapes
 use Rattle.sx_standing.specs.Binders.{bind_variable}
 use Rattle.sx_standing.specs.State.{State, fault_word}
 use Rattle.sx_standing.specs.Uses.{asks_variable}
-use Rattle.sx_heads.specs.Items.{waiting_at, any_changed, is_mixed, is_top, with_waiting, heads_like, in_time, define, define_item, alone, item_plan}
+use Rattle.sx_heads.specs.Items.{waiting_at, any_changed, is_mixed, is_top, with_waiting, heads_like, in_time, define, define_item, item_plan}
 use Rattle.sx_heads.specs.declared.item.Item.{Item}
 use Rattle.sx_heads.specs.declared.item.Item.TheVariants as items
 use Rattle.sx_heads.specs.declared.taken.BodyAt.{BodyAt}
@@ -31,11 +31,10 @@ use Rattle.sx_expand_laws.specs.States.{Later}
 use Rattle.sx_expand_laws.proofs.Acts.{Gave, gave-after, gave-both, gave-less, gave-if}
 use Rattle.sx_expand_laws.proofs.Fresh.{each-append, each-map}
 use Rattle.sx_expand_laws.proofs.Good.{Bindings, Extends}
-use Rattle.sx_expand_laws.proofs.Items.{wait_kind, waiting_kind, wait_kinds, map-append, kinds-none, kinds-some, Took, Takes, item-cases, with_expression, Comes, takes-item, Steps, takes-moved, step-takes, Settles}
+use Rattle.sx_expand_laws.proofs.Items.{wait_kind, waiting_kind, wait_kinds, map-append, kinds-none, kinds-some, Took, Takes, item-cases, with_expression, Comes, takes-item, Steps, takes-moved, step-takes}
 use Rattle.sx_expand_laws.proofs.LineLabels.{kind_labels}
-use Rattle.sx_expand_laws.proofs.Naming.{Binds}
 use Rattle.sx_expand_laws.proofs.Nesting.{IsDefined, defined-grown}
-use Rattle.sx_expand_laws.proofs.NestingBinding.{Here, here-but, here-later, BindsLeveled, binds-leveled}
+use Rattle.sx_expand_laws.proofs.NestingBinding.{Here, here-but, BindsLeveled, binds-leveled}
 use Rattle.sx_expand_laws.proofs.Uses.{asks-later, next-later}
 
 -- it stands at least so deep, and not too deep

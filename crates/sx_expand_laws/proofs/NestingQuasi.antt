@@ -1,5 +1,5 @@
 -- `quasiquote` and `quasisyntax` forms nest as deep as they may: the forms that they make count in the depth.
-use Rattle.std.proofs.Common.{◌≡◌, ℕ, ◌+◌, ◌*◌, ◌≤◌, Bool, true, false, List, [], ◌∷◌, ◌++◌, map, Option, None, refl, sym, ◌∙◌, ap, subst, arith, append-nil, append_assoc, if◌then◌else◌}
+use Rattle.std.proofs.Common.{◌≡◌, ℕ, ◌+◌, ◌*◌, ◌≤◌, Bool, true, false, List, [], ◌∷◌, ◌++◌, map, refl, sym, ◌∙◌, ap, subst, arith, append-nil, append_assoc, if◌then◌else◌}
 use Rattle.std.specs.Prelude.{nat_lt}
 use Rattle.sx_base.specs.Act.{after, give}
 use Rattle.sx_base.specs.declared.library.LibName.{LibName}
@@ -34,14 +34,14 @@ use Rattle.sx_expand.specs.Quasi.{part_core, parts_in_order, quasi_made, quasi_f
 use Rattle.sx_expand_laws.specs.States.{Later}
 use Rattle.sx_expand_laws.proofs.Acts.{Gave, gave-after, gave-any, gave-both, gave-within}
 use Rattle.sx_expand_laws.proofs.Fresh.{each-append}
-use Rattle.sx_expand_laws.proofs.Good.{Bindings, Extends}
+use Rattle.sx_expand_laws.proofs.Good.{Bindings}
 use Rattle.sx_expand_laws.proofs.Inserts.{Labelled, labelled, labelled-patterned, BindsInserts, inserts-bound, inserts-add}
 use Rattle.sx_expand_laws.proofs.Naming.{as_frame, counted}
-use Rattle.sx_expand_laws.proofs.Nesting.{not-deep, too-deep, deeper-next, deeper-up, some-height, Within, WithinClause, within-at, within-grown, all-grown, quoted-within, call-within, matching-within, alone-within}
-use Rattle.sx_expand_laws.proofs.NestingBinding.{Here, here-counted, here-later, Pairs, pairs-each, gave-pairs, nothing-asked}
+use Rattle.sx_expand_laws.proofs.Nesting.{not-deep, too-deep, deeper-next, deeper-up, some-height, Within, within-at, within-grown, all-grown, quoted-within, call-within, matching-within, alone-within}
+use Rattle.sx_expand_laws.proofs.NestingBinding.{Here, here-later, Pairs, gave-pairs, nothing-asked}
 use Rattle.sx_expand_laws.proofs.NestingBodies.{Nests}
 use Rattle.sx_expand_laws.proofs.Plans.{IsTemplate, template-is}
-use Rattle.sx_expand_laws.proofs.QuasiLater.{form-same, moved-code}
+use Rattle.sx_expand_laws.proofs.QuasiLater.{form-same}
 
 -- Parts and their codes.
 

@@ -50,7 +50,7 @@ use Rattle.sx_expand_laws.proofs.Top.{GoodRun, SameScope, AreShown, kinds-define
 use Rattle.sx_expand_laws.proofs.Good.{InTurn}
 use Rattle.sx_expand_laws.proofs.LineLabels.{kind_labels}
 use Rattle.sx_expand_laws.proofs.Lines.{GoodLine}
-use Rattle.sx_expand_laws.proofs.Items.{wait_kinds, Took, Takes}
+use Rattle.sx_expand_laws.proofs.Items.{wait_kinds, Took}
 use Rattle.sx_expand_laws.proofs.Meanings.{reach-more, reach-added}
 use Rattle.sx_expand_laws.proofs.Nesting.{IsDefined, Within, defined-grown}
 use Rattle.sx_expand_laws.proofs.NestingBinding.{Pairs, pairs-each}

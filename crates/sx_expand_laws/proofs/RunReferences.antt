@@ -2,23 +2,21 @@
 -- there before it.
 use Rattle.std.proofs.Common.{◌≡◌, Bool, true, false, cond, List, [], ◌∷◌, ◌++◌, map, refl, sym, ◌∙◌, ap, subst, inl, inr, if◌then◌else◌}
 use Rattle.std.specs.Prelude.{◌⊎◌, ◌||◌, not}
-use Rattle.std.specs.List.{flat_map, list_any}
-use Rattle.std.proofs.lemmas.List.{map-append}
+use Rattle.std.specs.List.{flat_map}
 use Rattle.sx_base.specs.Same.{same_library, same_library_decides}
 use Rattle.sx_base.specs.declared.library.LibName.{LibName}
 use Rattle.sx_base.specs.declared.name.Label.{Label}
 use Rattle.sx_core.specs.Core.{PlainCore}
-use Rattle.sx_core.specs.Labels.{same_label, has_label, with_label, with_labels, without}
+use Rattle.sx_core.specs.Labels.{has_label, with_label, with_labels, without}
 use Rattle.sx_core.specs.References.{binders, mentions, references}
 use Rattle.sx_core.specs.declared.record.LibRecord.{LibRecord}
 use Rattle.sx_core.specs.declared.record.Line.{Line}
 use Rattle.sx_core.specs.declared.record.Line.TheVariants as line
-use Rattle.sx_core_laws.specs.Follows.{names_of, keywords, line_cores, library_of, mentioned, joined, others, run_references, Follows, IsOwn, all_binders}
+use Rattle.sx_core_laws.specs.Follows.{names_of, keywords, line_cores, library_of, mentioned, joined, others, run_references, IsOwn, all_binders}
 use Rattle.sx_core_laws.specs.Following.{AllFollow}
 use Rattle.sx_core_laws.specs.Records.{defined, line_core, line_labels, line_binders, run_binders}
 use Rattle.sx_core_laws.specs.Scope.{Closed}
 use Rattle.sx_core_laws.specs.Words.{Each, Among, among}
-use Rattle.sx_core_laws.proofs.Decisions.{label_decides}
 use Rattle.sx_core_laws.proofs.GivenLemmas.{references_given}
 use Rattle.sx_expand.specs.Top.{has_library, with_library, with_label_of, with_labels_of, code_of, with_lines_of, refs_of}
 use Rattle.sx_expand_laws.proofs.Fresh.{each-at, each-of, among-parts, among-first, among-second}

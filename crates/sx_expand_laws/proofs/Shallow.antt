@@ -1,7 +1,6 @@
 -- The core code of every record that expansion gives isn't deep.
-use Rattle.std.proofs.Common.{◌≡◌, ℕ, List, [], ◌∷◌, map, Ok, sym, ap, subst, arith}
+use Rattle.std.proofs.Common.{◌≡◌, List, [], ◌∷◌, map, sym, ap, subst, arith}
 use Rattle.std.specs.List.{flat_map}
-use Rattle.sx_core.specs.Core.{PlainCore}
 use Rattle.sx_core.specs.declared.record.Line.{Line}
 use Rattle.sx_core_laws.specs.Follows.{keyword_of, keywords, line_cores}
 use Rattle.sx_core_laws.specs.Records.{defined, line_core}
@@ -10,7 +9,7 @@ use Rattle.sx_standing.specs.Own.{own_bindings}
 use Rattle.sx_expand_laws.specs.Shallow.{IsShallow, RecordsAreShallow}
 use Rattle.sx_expand_laws.proofs.Fresh.{each-append}
 use Rattle.sx_expand_laws.proofs.Good.{Bindings}
-use Rattle.sx_expand_laws.proofs.GoodKeywords.{Ends, Ended, record-ends, keywords-each}
+use Rattle.sx_expand_laws.proofs.GoodKeywords.{record-ends, keywords-each}
 use Rattle.sx_expand_laws.proofs.Nesting.{Within}
 use Rattle.sx_expand_laws.proofs.Records.{record-runs}
 

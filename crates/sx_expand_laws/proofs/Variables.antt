@@ -1,11 +1,10 @@
 -- The variables that the lines of a record define and bind have indices.
-use Rattle.std.proofs.Common.{◌≡◌, ℕ, zero, suc, ◌<◌, Bool, true, false, List, [], ◌∷◌, ◌++◌, map, Option, None, Some, Ok, refl, sym, ◌∙◌, ap, subst, arith, inl, inr, if◌then◌else◌}
+use Rattle.std.proofs.Common.{◌≡◌, ℕ, zero, suc, ◌<◌, Bool, true, false, List, [], ◌∷◌, ◌++◌, map, Option, None, Some, refl, sym, ◌∙◌, ap, subst, arith, inl, inr, if◌then◌else◌}
 use Rattle.std.specs.Prelude.{◌⊎◌}
 use Rattle.std.specs.List.{flat_map}
 use Rattle.std.specs.Map.{lookup}
 use Rattle.std.proofs.lemmas.List.{map-append}
 use Rattle.std.proofs.Math.Nat.{eq-or-lt_of_le}
-use Rattle.sx_base.specs.Named.{Named}
 use Rattle.sx_base.specs.declared.library.LibName.{LibName}
 use Rattle.sx_base.specs.declared.name.Label.{Label}
 use Rattle.sx_core.specs.Bindings.{bound_to}
@@ -27,8 +26,8 @@ use Rattle.sx_standing.specs.State.{State}
 use Rattle.sx_expand_laws.specs.States.{IsOwn, IsNumbered, IndicesApart}
 use Rattle.sx_expand_laws.specs.Variables.{HasIndices, VariablesHaveIndices}
 use Rattle.sx_expand_laws.proofs.BoundVariables.{IsWithin, same-within, once-within, variables-within}
-use Rattle.sx_expand_laws.proofs.Fresh.{each-at, each-of, each-append, each-map, among-parts, among-first, among-second, once-append}
-use Rattle.sx_expand_laws.proofs.Nesting.{IsDefined, IsLeveled, IsIndexed, Within}
+use Rattle.sx_expand_laws.proofs.Fresh.{each-at, each-of, each-append, among-parts, among-first, among-second, once-append}
+use Rattle.sx_expand_laws.proofs.Nesting.{IsDefined, IsLeveled, Within}
 use Rattle.sx_expand_laws.proofs.Records.{Runs, record-runs, records-good}
 use Rattle.sx_expand_laws.proofs.Started.{started-sound, started-indices}
 

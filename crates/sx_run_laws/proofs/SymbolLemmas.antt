@@ -1,16 +1,12 @@
 -- The symbols of what is read are names: one or more characters of UTF-8. So are the parts of the name of a library.
-use Rattle.std.proofs.Common.{◌≡◌, ℕ, zero, suc, ◌<◌, Bool, true, false, List, [], ◌∷◌, length, Option, Some, None, Result, Ok, Err, refl, subst, arith, if◌then◌else◌}
+use Rattle.std.proofs.Common.{◌≡◌, ℕ, zero, suc, ◌<◌, Bool, true, false, List, [], ◌∷◌, Option, Some, None, Ok, refl, subst, if◌then◌else◌}
 use Rattle.std.specs.Prelude.{All}
-use Rattle.std.specs.Str.{IsUtf8}
 use Rattle.std.proofs.lemmas.List.Elements.{All-nil, All-cons, All-head, All-tail}
-use Rattle.sx_base.specs.Datum.{PlainDatum, atom, symbol, pair, vector, symbol_text, elements, tail_of, is_nil, proper_elements}
-use Rattle.sx_base.specs.declared.atom.Atom.{Atom}
-use Rattle.sx_base.specs.declared.atom.Atom.TheVariants as a
-use Rattle.sx_base.specs.declared.fault.Fault.{Fault}
+use Rattle.sx_base.specs.Datum.{PlainDatum, atom, symbol, pair, vector, elements, tail_of, is_nil, proper_elements}
 use Rattle.sx_core_laws.specs.Words.{Each}
 use Rattle.sx_forms.specs.All.{given}
 use Rattle.sx_forms.specs.Form.{behind_word, form_of}
-use Rattle.sx_forms.specs.Name.{leading_by, leading}
+use Rattle.sx_forms.specs.Name.{leading}
 use Rattle.sx_forms.specs.Words.{is_word}
 use Rattle.sx_reader.specs.Read.{data_of}
 use Rattle.sx_round.specs.Readable.{IsReadable, IsRest, AreElements, IsName}

@@ -26,7 +26,7 @@ use Rattle.sx_import.specs.declared.set.ImportSet.{ImportSet}
 use Rattle.sx_outside.specs.Contents.{Paths, at_path, Reading, bytes, longer, absent, read_of}
 use Rattle.sx_reader.specs.Read.{data_of, file_nesting}
 use Rattle.sx_load.specs.Found.{nothing_loaded, no_needs, with_needs, with_source, with_sources, with_done, most_libraries, found_of}
-use Rattle.sx_load.specs.Load.{Loads, Loader, lifted, about, too_many, most, file_limit, look_for, program_in, begun, opened_from, opened_with, open_file, fitting, known_of, settled, load_new, refer_to, refer, refer_each, load_with, load_file, program_from, load}
+use Rattle.sx_load.specs.Load.{Loads, Loader, lifted, about, too_many, most, file_limit, look_for, program_in, begun, opened_from, opened_with, open_file, known_of, settled, load_new, refer_to, refer, refer_each, load_with, load_file, program_from, load}
 use Rattle.sx_load.specs.Load as loading
 use Rattle.sx_load.specs.declared.found.Found.{Found}
 use Rattle.sx_load.specs.declared.found.Loading.{Loading}

@@ -1,5 +1,5 @@
 -- The derived library defines keywords alone, and so its record has no lines.
-use Rattle.std.proofs.Common.{◌≡◌, ℕ, Bool, true, false, List, [], ◌∷◌, ◌++◌, Option, Some, Result, Ok, Err, refl, sym, ap, subst, if◌then◌else◌}
+use Rattle.std.proofs.Common.{◌≡◌, Bool, true, false, List, [], ◌∷◌, ◌++◌, Some, Result, Ok, Err, refl, sym, subst, if◌then◌else◌}
 use Rattle.std.specs.Prelude.{◌&&◌, codes, nat_eq}
 use Rattle.std.specs.Cmp.Lexicographic.{pointwise}
 use Rattle.std.proofs.lemmas.Bool.{and_parts}
@@ -7,10 +7,8 @@ use Rattle.sx_base.specs.Datum.{PlainDatum}
 use Rattle.sx_base.specs.Datum as datum
 use Rattle.sx_base.specs.Gives.{◌>>=◌}
 use Rattle.sx_base.specs.Same.{texts_decides}
-use Rattle.sx_base.specs.declared.fault.Bare.{Bare}
 use Rattle.sx_base.specs.declared.fault.Fault.{Fault}
 use Rattle.sx_base.specs.declared.library.LibName.TheVariants as library
-use Rattle.sx_base.specs.declared.name.Label.{Label}
 use Rattle.sx_builtin.specs.Exports.{derived}
 use Rattle.sx_builtin.specs.declared.derived.TheConstants.{DERIVED_SOURCE}
 use Rattle.sx_core.specs.declared.record.LibRecord.{LibRecord}

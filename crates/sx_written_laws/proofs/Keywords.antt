@@ -1,31 +1,24 @@
 -- A library whose forms are all definitions of keywords has no lines.
-use Rattle.std.proofs.Common.{◌≡◌, ℕ, zero, suc, Bool, true, false, cond, List, [], ◌∷◌, ◌++◌, map, Option, Some, None, Result, Ok, Err, refl, sym, ◌∙◌, ap, subst, inl, inr, if◌then◌else◌}
-use Rattle.std.specs.Prelude.{◌⊎◌, ◌&&◌, is_some, nat_eq, nat_lt, codes, filter}
-use Rattle.std.specs.Cmp.Lexicographic.{pointwise}
-use Rattle.std.proofs.lemmas.Bool.{and_from, and_parts}
+use Rattle.std.proofs.Common.{◌≡◌, ℕ, zero, suc, Bool, true, false, List, [], ◌∷◌, ◌++◌, map, Option, Some, None, Result, Ok, Err, refl, sym, ◌∙◌, ap, subst, if◌then◌else◌}
+use Rattle.std.specs.Prelude.{◌⊎◌, ◌&&◌, nat_lt, codes}
 use Rattle.sx_base.specs.Act.{after, give, gather}
-use Rattle.sx_base.specs.Same.{texts_decides}
 use Rattle.sx_base.specs.declared.fault.Fault.{Fault}
 use Rattle.sx_base.specs.declared.library.LibName.{LibName}
 use Rattle.sx_base.specs.declared.library.LibName.TheVariants as library
 use Rattle.sx_base.specs.declared.name.FrameNo.{FrameNo}
 use Rattle.sx_base.specs.declared.name.Label.{Label}
-use Rattle.sx_base.specs.declared.name.Mark.{Mark}
 use Rattle.sx_base.specs.declared.span.Span.{Span}
 use Rattle.sx_tree.specs.Changes.{stamp}
 use Rattle.sx_tree.specs.Context.{LeafContext, blank, stamped}
-use Rattle.sx_tree.specs.SameMarks.{same_marks, same_marks_decides}
 use Rattle.sx_tree.specs.Tree.{Tree, atom, leaf, pair, vector}
-use Rattle.sx_frames.specs.Rows.{Row, is_of, label_in}
-use Rattle.sx_frames.specs.Scope.{rows_at, label_at, or_else}
+use Rattle.sx_frames.specs.Scope.{label_at, or_else}
 use Rattle.sx_core.specs.declared.core_form.CoreForm.TheVariants as core_forms
 use Rattle.sx_core.specs.declared.record.LibRecord.{LibRecord}
 use Rattle.sx_core.specs.declared.record.Line.{Line}
-use Rattle.sx_core_laws.specs.Words.{Each, Among, Once}
+use Rattle.sx_core_laws.specs.Words.{Each}
 use Rattle.sx_scope.specs.Stands.{stands}
 use Rattle.sx_shapes.specs.Forms.{define_syntax_shape, shaped, by_operands, or_bad, shape_of, shape}
 use Rattle.sx_shapes.specs.Lists.{if_some, is_leaf, proper_elements}
-use Rattle.sx_shapes.specs.declared.shape.BindingSpec.{BindingSpec}
 use Rattle.sx_shapes.specs.declared.shape.Shape.{Shape}
 use Rattle.sx_shapes.specs.declared.shape.Shape.TheVariants as shapes
 use Rattle.sx_standing.specs.Standing.{standing_of, label_standing, standing_by, role_of}
@@ -56,7 +49,6 @@ use Rattle.sx_expand.specs.declared.settle.ItemStep.TheVariants as item_steps
 use Rattle.sx_expand.specs.declared.settle.SettledItem.{SettledItem}
 use Rattle.sx_expand.specs.declared.top.TopAt.{TopAt}
 use Rattle.sx_eval.specs.Codes.{Codes}
-use Rattle.sx_expand_laws.specs.States.{IsOwn, row_key, AreKeyed}
 use Rattle.sx_expand_laws.proofs.Acts.{Gave, gave-any, gave-after, gave-if, gave-both, gave-less, each-nil}
 use Rattle.sx_expand_laws.proofs.Changes.{item-takes, inside-moves, took-none}
 use Rattle.sx_expand_laws.proofs.Items.{Takes}

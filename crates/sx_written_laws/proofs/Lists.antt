@@ -1,11 +1,11 @@
 -- What stands among lists, each once.
-use Rattle.std.proofs.Common.{◌≡◌, Bool, true, false, List, [], ◌∷◌, ◌++◌, map, Option, Some, None, refl, sym, ◌∙◌, ap, subst, inl, inr, if◌then◌else◌}
+use Rattle.std.proofs.Common.{◌≡◌, Bool, true, false, List, [], ◌∷◌, ◌++◌, map, Some, None, refl, sym, ◌∙◌, ap, subst, inl, inr, if◌then◌else◌}
 use Rattle.std.specs.Prelude.{◌⊎◌}
 use Rattle.std.specs.Map.{lookup}
 use Rattle.indexmap.specs.IndexMap.{insert_entry}
 use Rattle.sx_base.specs.declared.name.Label.{Label}
 use Rattle.sx_core.specs.Labels.{same_label}
-use Rattle.sx_core_laws.specs.Words.{Each, Among, Once}
+use Rattle.sx_core_laws.specs.Words.{Among, Once}
 use Rattle.sx_core_laws.proofs.Decisions.{label_decides}
 use Rattle.sx_text_laws.proofs.Words.{among-map, map-among}
 

@@ -1,6 +1,6 @@
 -- A generated name tells its library and its number, and is read as it is, whatever its symbol is.
 use Rattle.std.proofs.Common.{◌≡◌, ℕ, zero, suc, ◌<◌, ◌^◌, ◌/◌, ◌%◌, Bool, true, false, List, [], ◌∷◌, ◌++◌, drop, arith, refl, sym, ap, ◌∙◌, subst, if◌then◌else◌}
-use Rattle.std.specs.Prelude.{◌==◌, decimal, codes, nat_lt}
+use Rattle.std.specs.Prelude.{◌==◌, decimal, nat_lt}
 use Rattle.std.specs.Fmt.{digit_glyph, digits_onto, digits}
 use Rattle.std.specs.List.{flat_map, list_all}
 use Rattle.std.specs.Str.{chars}
@@ -12,7 +12,6 @@ use Rattle.sx_base.specs.Hex.{hex}
 use Rattle.sx_base.specs.declared.library.LibName.{LibName}
 use Rattle.sx_names.specs.Generated.{is_plain, name_char, name_part, library_text, generated_name}
 use Rattle.sx_round.proofs.Chars.{branch}
-use Rattle.sx_name_laws.specs.Apart.{IsReadAs}
 use Rattle.sx_name_laws.specs.Variable.{IsNamed}
 use Rattle.sx_name_laws.proofs.Reading.{path_subsequent, word_subsequent, digits_subsequent, read_itself}
 use Rattle.sx_name_laws.proofs.Telling.{is_word, is_path, plain_word, library_path, library_same, name_is}

@@ -1,5 +1,5 @@
 -- Core code that has a text: its binders are variables, and it is closed by names where it is closed.
-use Rattle.std.proofs.Common.{◌≡◌, ℕ, List, [], ◌∷◌, ◌++◌, map, Result, Ok, Err, refl, sym, ◌∙◌, ap, subst, inl, inr}
+use Rattle.std.proofs.Common.{◌≡◌, ℕ, List, [], ◌∷◌, ◌++◌, map, Ok, Err, refl, sym, ◌∙◌, subst, inl, inr}
 use Rattle.std.specs.Prelude.{◌⊎◌}
 use Rattle.std.specs.List.{flat_map}
 use Rattle.std.proofs.lemmas.Grind.{flat_map-append}
@@ -11,9 +11,9 @@ use Rattle.sx_core.specs.Core.{PlainCores, none, more, PlainInits, no_init, init
 use Rattle.sx_core.specs.References.{formals_labels, binders, all_binders, init_binders, case_binders}
 use Rattle.sx_core.specs.declared.record.Line.{Line}
 use Rattle.sx_core.specs.declared.record.Line.TheVariants as line
-use Rattle.sx_core_laws.specs.Follows.{line_variables, run_variables}
+use Rattle.sx_core_laws.specs.Follows.{line_variables}
 use Rattle.sx_core_laws.specs.Parts.{parts, all_parts, init_parts, case_parts, init_labels, case_labels, own_variables, bound_variables}
-use Rattle.sx_core_laws.specs.Records.{line_core, line_labels, line_binders}
+use Rattle.sx_core_laws.specs.Records.{line_core, line_binders}
 use Rattle.sx_core_laws.specs.Scope.{Closed, AllClosed, InitsClosed, CasesClosed}
 use Rattle.sx_core_laws.specs.Words.{Each, Among}
 use Rattle.sx_core_text.specs.CoreText.{Names, name_of}

@@ -22,14 +22,13 @@ use Rattle.sx_core_text.specs.Whole.{record_checked, plan_checked, all_names, al
 use Rattle.sx_names.specs.Generated.{generated_name}
 use Rattle.sx_expand_laws.specs.Indices.{there, bound_index}
 use Rattle.sx_expand_laws.specs.Variables.{HasIndices}
-use Rattle.sx_expand_laws.proofs.Fresh.{each-at, each-of, each-append, each-map}
-use Rattle.sx_load.specs.Found.{needed}
+use Rattle.sx_expand_laws.proofs.Fresh.{each-at, each-of, each-append}
 use Rattle.sx_load.specs.declared.found.Found.{Found}
 use Rattle.sx_load.specs.declared.found.Loading.{Loading}
 use Rattle.sx_name_laws.specs.Variable.{IsNamed}
 use Rattle.sx_plan.specs.Planned.{plan_of}
 use Rattle.sx_standing.specs.Start.{or_skip, records_at}
-use Rattle.sx_run_laws.specs.Run.{IsRun, AllStand}
+use Rattle.sx_run_laws.specs.Run.{AllStand}
 use Rattle.sx_run_laws.proofs.ClosedLemmas.{each_place, all_standing, runs_are_closed_once}
 use Rattle.sx_run_laws.proofs.RunLemmas.{same_place, all_records_stand}
 use Rattle.sx_run_laws.proofs.UserLemmas.{IsUser, user_at}
@@ -44,7 +43,7 @@ use Rattle.sx_written_laws.specs.Run.{IsCounted, RunsAreWrittenOnce}
 use Rattle.sx_written_laws.proofs.Lists.{once-map, map-once, found-among}
 use Rattle.sx_written_laws.proofs.NameText.{names_tell, name_written}
 use Rattle.sx_written_laws.proofs.Plain.{lines-plain, lines-closed}
-use Rattle.sx_written_laws.proofs.Table.{all_with, names-of-text, name-in}
+use Rattle.sx_written_laws.proofs.Table.{names-of-text, name-in}
 
 -- What was checked.
 
