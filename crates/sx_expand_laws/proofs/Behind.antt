@@ -204,7 +204,7 @@ record-frames own earlier (r ∷ rs) h new =
     (record-frames own (earlier ++ r ∷ []) rs h.1 (λ a. new (inr a)))
 
 module _ (own : LibName) (records : List LibRecord) (imports : List (List ℕ × Label)) (codes : Codes) where
-  started-keyed : AllServe [] records → (Among (names_of records) own → ⊥) → (own ≡ library.Core → ⊥) → Once (map external imports) → AreKeyed own (started own records imports codes).frames
+  pub started-keyed : AllServe [] records → (Among (names_of records) own → ⊥) → (own ≡ library.Core → ⊥) → Once (map external imports) → AreKeyed own (started own records imports codes).frames
   unfolding started record_frame rows_for
   started-keyed serve new apart once f o =
       let imported = map (import_row (first_frame own)) imports in

@@ -363,7 +363,7 @@ module _ (own : LibName) (go : Inside) (moves : Moves own go) where
     performs-item depth d t (items.Use l) s n k = tt
     performs-item depth d t (items.SetUse l) s n k = tt
 
-  pub item-takes : (at : BodyAt) (start : State) → (is_top at.kind ≡ true → at.level ≡ 0) → (depth : ℕ) (d : Taken) (t : Tree) (s : State) → Names own s → Took own (is_top at.kind) start d s
+  item-takes : (at : BodyAt) (start : State) → (is_top at.kind ≡ true → at.level ≡ 0) → (depth : ℕ) (d : Taken) (t : Tree) (s : State) → Names own s → Took own (is_top at.kind) start d s
       → Gave (Takes own at.frame (is_top at.kind) start s) (item go at depth d t s)
   unfolding item
   item-takes at start low depth d t s n k =

@@ -49,7 +49,6 @@ module _ (own : LibName) where
     bound = λ l y e. subst (λ bs. bound_to bs l ≡ Some y) (sym b) e;
     indices = indices-same s t b x;
     numbered = λ h l y o e. let lt = h l y o (subst (λ bs. bound_to bs l ≡ Some y) b e) in omega (arith, lt, up);
-    found = λ g x ms l e. subst (λ fs. label_at fs g x ms ≡ Some l) (sym f) e;
     keyed = λ h. subst (AreKeyed own) (sym f) h;
     shown = λ h g r a o. shown-same s t b r (h g r (subst (λ fs. Among (rows_at g fs) r) f a) o);
   }
@@ -65,7 +64,6 @@ module _ (own : LibName) where
     bound = λ l b e. k.bound l b (h.bound l b e);
     indices = λ a. k.indices (h.indices a);
     numbered = λ n. k.numbered (h.numbered n);
-    found = λ f x ms l e. k.found f x ms l (h.found f x ms l e);
     keyed = λ n. k.keyed (h.keyed n);
     shown = λ n. k.shown (h.shown n);
   }
@@ -119,26 +117,6 @@ key-found (r ∷ rs) x ms (inr a) = by (is_of x ms r) (key-found rs x ms a)
     by : (b : Bool) → is_some (label_in rs x ms) ≡ true → is_some (if b then Some r.label else label_in rs x ms) ≡ true
     by true e = refl
     by false e = e
-
--- what is found among rows is found with one more behind them
-found-before : (rs : List Row) (r : Row) (x : List ℕ) (ms : List Mark) (l : Label) → label_in rs x ms ≡ Some l → label_in (rs ++ r ∷ []) x ms ≡ Some l
-found-before [] r x ms l e = absurd (cc)
-found-before (y ∷ rs) r x ms l e = by (is_of x ms y) e (found-before rs r x ms l)
-  where
-    by : (b : Bool) → (if b then Some y.label else label_in rs x ms) ≡ Some l → (label_in rs x ms ≡ Some l → label_in (rs ++ r ∷ []) x ms ≡ Some l) → (if b then Some y.label else label_in (rs ++ r ∷ []) x ms) ≡ Some l
-    by true d rest = d
-    by false d rest = rest d
-
--- so is what a frame gives
-pub found-with-row : (fs : Scope) (f : FrameNo) (r : Row) (g : FrameNo) (x : List ℕ) (ms : List Mark) (l : Label) → label_at fs g x ms ≡ Some l → label_at (with_row fs f r) g x ms ≡ Some l
-found-with-row fs f r g x ms l e = by (same_frame g f) refl
-  where
-    by : (b : Bool) → same_frame g f ≡ b → label_in (rows_at g (with_row fs f r)) x ms ≡ Some l
-    by true d =
-        let is = same_frame_is g f d in
-        subst (λ (h : FrameNo). label_in (rows_at h (with_row fs f r)) x ms ≡ Some l) (sym is)
-        (subst (λ (rs : List Row). label_in rs x ms ≡ Some l) (sym (rows_at-with_row fs f r)) (found-before (rows_at f fs) r x ms l (subst (λ (h : FrameNo). label_in (rows_at h fs) x ms ≡ Some l) is e)))
-    by false d = subst (λ (rs : List Row). label_in rs x ms ≡ Some l) (sym (rows_at-other fs f g r (apart fs f r g d))) e
 
 -- where a frame has no row of its symbol and marks, all rows stay keyed
 pub keyed-with-row : (own : LibName) (fs : Scope) (f : FrameNo) (r : Row) → is_some (label_at fs f r.symbol r.marks) ≡ false → AreKeyed own fs → AreKeyed own (with_row fs f r)

@@ -25,7 +25,7 @@ use Rattle.sx_expand_laws.proofs.Acts.{Gave, gave-after, gave-less, gave-each}
 use Rattle.sx_expand_laws.proofs.BindingKeywords.{BindsPatterns, binds-patterns, pattern-are, pattern-adds-so}
 use Rattle.sx_expand_laws.proofs.Compiled.{variable_label, variable_depth}
 use Rattle.sx_expand_laws.proofs.Fresh.{Made, FreshLabels, label_name, fresh-none, fresh-one, fresh-append, fresh-wider}
-use Rattle.sx_expand_laws.proofs.Grows.{row-kept, row-new, found-with-row, keyed-with-row}
+use Rattle.sx_expand_laws.proofs.Grows.{row-kept, row-new, keyed-with-row}
 use Rattle.sx_expand_laws.proofs.InsertPatterns.{inserts-variables, inserts-literals, inserts-depths}
 use Rattle.sx_expand_laws.proofs.Later.{later-self, later-then, keeps-same, keeps-then, but-then, but-later}
 use Rattle.sx_expand_laws.proofs.Moved.{Names}
@@ -109,7 +109,6 @@ module _ (own : LibName) where
     bound = λ l b e. e;
     indices = λ h. record { below = h.below; apart = h.apart };
     numbered = λ h. h;
-    found = found-with-row s.frames f (row_for dots ellipsis);
     keyed = λ h. keyed-with-row own s.frames f (row_for dots ellipsis) isnew h;
     shown = λ h g r a o. old h g r o (row-new s.frames f (row_for dots ellipsis) g r a);
   }

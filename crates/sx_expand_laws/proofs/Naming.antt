@@ -25,7 +25,7 @@ use Rattle.sx_standing.specs.State.{State, fresh, fault_form}
 use Rattle.sx_expand_laws.specs.States.{IsOwn, IsOwnOrEllipsis, IsAdded, IsTop, IsPattern, IsUnbound, IsNumbered, IndicesApart, Grows, Keeps, Adds, Later, LaterBut}
 use Rattle.sx_expand_laws.proofs.Acts.{Gave, gave-if}
 use Rattle.sx_expand_laws.proofs.Fresh.{Made, each-append, each-at, each-map, among-parts}
-use Rattle.sx_expand_laws.proofs.Grows.{grows-same, grows-then, row-kept, row-new, found-with-row, keyed-with-row, shown-with-row}
+use Rattle.sx_expand_laws.proofs.Grows.{grows-same, grows-then, row-kept, row-new, keyed-with-row, shown-with-row}
 use Rattle.sx_expand_laws.proofs.Scope.{binder-behind}
 use Rattle.sx_expand_laws.proofs.Later.{bound-more, bound-kept, bound-last, keeps-same, keeps-more}
 
@@ -121,7 +121,6 @@ module _ (own : LibName) where
       apart = λ m j w y i o q e d k r. h.apart m j w y i o q (before m w e) (before j y d) k r;
     };
     numbered = λ h. added-numbered s l x lt h;
-    found = found-with-row s.frames f (row_for id l);
     keyed = λ h. keyed-with-row own s.frames f (row_for id l) new h;
     shown = λ h. shown-with-row own s (record s { frames = with_row s.frames f (row_for id l); bindings = s.bindings ++ (l, x) ∷ []; scope = ls }) f id l refl (λ m b. (b.0, bound-kept s.bindings l m x b.0 b.1)) (bound-last s.bindings l x) h;
   }
@@ -141,7 +140,6 @@ module _ (own : LibName) where
     bound = λ m b e. bound-kept s.bindings l m (binding.Variable v) b e;
     indices = variable-indices s f id l v ix;
     numbered = λ h. added-numbered s l (binding.Variable v) lt h;
-    found = found-with-row s.frames f (row_for id l);
     keyed = λ h. keyed-with-row own s.frames f (row_for id l) new h;
     shown = λ h. shown-with-row own s (with_variable f id l v s) f id l refl (λ m b. (b.0, bound-kept s.bindings l m (binding.Variable v) b.0 b.1)) (bound-last s.bindings l (binding.Variable v)) h;
   }

@@ -8,7 +8,7 @@ use Rattle.sx_base.specs.declared.name.Label.{Label}
 use Rattle.sx_base.specs.declared.name.Mark.{Mark}
 use Rattle.sx_base.specs.declared.op.Op.{Op}
 use Rattle.sx_frames.specs.Rows.{Row}
-use Rattle.sx_frames.specs.Scope.{Scope, rows_at, label_at}
+use Rattle.sx_frames.specs.Scope.{Scope, rows_at}
 use Rattle.sx_scope.specs.Stands.{row_for}
 use Rattle.sx_core.specs.Bindings.{bound_to}
 use Rattle.sx_core.specs.Core.{PlainCore}
@@ -108,7 +108,7 @@ abbrev pub RowsAreBound : LibName → State → Type 0
 RowsAreBound own s = (f : FrameNo) (r : Row) → Among (rows_at f s.frames) r → IsOwn own r.label.0 → IsBound s r.label ⊎ (r ≡ row_for dots ellipsis)
 
 -- What a library adds: its frames keep their rows, labels stay bound to what they are bound to, what comes gives labels of the
--- library, but for the row of the ellipsis, and binds labels of the library, and indices that are apart stay so. What a frame gives for a symbol under marks stays. Where frames have each
+-- library, but for the row of the ellipsis, and binds labels of the library, and indices that are apart stay so. Where frames have each
 -- row once, and give what is bound, they stay so.
 pub record Grows (own : LibName) (s t : State) : Type 0 where
   pub kept : (f : FrameNo) (r : Row) → Among (rows_at f s.frames) r → Among (rows_at f t.frames) r
@@ -117,7 +117,6 @@ pub record Grows (own : LibName) (s t : State) : Type 0 where
   pub bound : (l : Label) (b : Binding) → bound_to s.bindings l ≡ Some b → bound_to t.bindings l ≡ Some b
   pub indices : IndicesApart own s → IndicesApart own t
   pub numbered : IsNumbered own s → IsNumbered own t
-  pub found : (f : FrameNo) (x : List ℕ) (ms : List Mark) (l : Label) → label_at s.frames f x ms ≡ Some l → label_at t.frames f x ms ≡ Some l
   pub keyed : AreKeyed own s.frames → AreKeyed own t.frames
   pub shown : RowsAreBound own s → RowsAreBound own t
 

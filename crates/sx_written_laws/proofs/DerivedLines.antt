@@ -1,5 +1,5 @@
 -- The derived library defines keywords alone, and so its record has no lines.
-use Rattle.std.proofs.Common.{◌≡◌, Bool, true, false, List, [], ◌∷◌, ◌++◌, Some, Result, Ok, Err, refl, sym, subst, if◌then◌else◌}
+use Rattle.std.proofs.Common.{map, ◌≡◌, ℕ, Bool, true, false, List, [], ◌∷◌, ◌++◌, Some, Result, Ok, Err, refl, sym, subst, if◌then◌else◌}
 use Rattle.std.specs.Prelude.{◌&&◌, codes, nat_eq}
 use Rattle.std.specs.Cmp.Lexicographic.{pointwise}
 use Rattle.std.proofs.lemmas.Bool.{and_parts}
@@ -9,13 +9,18 @@ use Rattle.sx_base.specs.Gives.{◌>>=◌}
 use Rattle.sx_base.specs.Same.{texts_decides}
 use Rattle.sx_base.specs.declared.fault.Fault.{Fault}
 use Rattle.sx_base.specs.declared.library.LibName.TheVariants as library
+use Rattle.sx_base.specs.declared.name.Label.{Label}
 use Rattle.sx_builtin.specs.Exports.{derived}
 use Rattle.sx_builtin.specs.declared.derived.TheConstants.{DERIVED_SOURCE}
 use Rattle.sx_core.specs.declared.record.LibRecord.{LibRecord}
-use Rattle.sx_core_laws.specs.Words.{Each}
+use Rattle.sx_core_laws.specs.Records.{same_text}
+use Rattle.sx_core_laws.specs.Words.{Each, once}
+use Rattle.sx_core_laws.proofs.Decisions.{text_decides, once_decides}
 use Rattle.sx_derived.specs.Derived.{tree_at, trees, forms_of, record_of, derived_record}
 use Rattle.sx_derived.specs.Names.{path, start, names, names_from, exports_of}
 use Rattle.sx_eval.specs.Codes.{Codes}
+use Rattle.sx_expand_laws.specs.States.{AreKeyed}
+use Rattle.sx_expand_laws.proofs.Behind.{started-keyed}
 use Rattle.sx_expand_laws.proofs.Fresh.{each-append}
 use Rattle.sx_frames.specs.Scope.{label_at}
 use Rattle.sx_lexer.specs.Gap.{atmosphere_end}
@@ -101,10 +106,22 @@ forms-are : (forms : List Tree) → forms_of DERIVED_SOURCE.now ≡ Ok forms →
 unfolding forms_of
 forms-are forms e = data-are (data_of path DERIVED_SOURCE.now file_nesting) forms derived-read e
 
--- it imports the word that defines keywords
+-- it imports each name once, and the word that defines keywords is among them
+
+names-once : once same_text (map (λ (e : List ℕ × Label). e.0) names) ≡ true
+unfolding names_from
+names-once = refl
+
+start-keyed : (codes : Codes) → AreKeyed library.Derived (started library.Derived [] names codes).frames
+start-keyed codes = started-keyed library.Derived [] names codes tt (λ a. elim a [ ]) (λ e. cc) ((once_decides same_text text_decides (map (λ (e : List ℕ × Label). e.0) names)).0 names-once)
+
 word-found : (codes : Codes) → label_at (started library.Derived [] names codes).frames (first_frame library.Derived) word [] ≡ Some defining
 unfolding started record_frame rows_for names_from
 word-found codes = refl
+
+start-library : (codes : Codes) → (started library.Derived [] names codes).library ≡ library.Derived
+unfolding started
+start-library codes = refl
 
 same-names : (codes : Codes) → (started library.Derived [] names codes).names.library ≡ (started library.Derived [] names codes).library
 unfolding started
@@ -113,7 +130,7 @@ same-names codes = refl
 module _ (d : LibRecord) where
   codes-bare : (codes : Codes) (forms : List Tree) → Each (IsDefinition blank) forms → record_of codes forms ≡ Ok d → d.run ≡ []
   unfolding record_of
-  codes-bare codes forms are e = no-lines library.Derived path names [] start (exports_of derived) forms codes d (word-found codes) (same-names codes) are e
+  codes-bare codes forms are e = no-lines library.Derived path names [] start (exports_of derived) forms codes d (word-found codes) (same-names codes) (start-library codes) (start-keyed codes) are e
 
   pub derived-bare : (prelude : Result Codes Fault) → derived_record prelude ≡ Ok d → d.run ≡ []
   unfolding derived_record

@@ -1,21 +1,27 @@
 -- A library whose forms are all definitions of keywords has no lines.
-use Rattle.std.proofs.Common.{◌≡◌, ℕ, zero, suc, Bool, true, false, List, [], ◌∷◌, ◌++◌, map, Option, Some, None, Result, Ok, Err, refl, sym, ◌∙◌, ap, subst, if◌then◌else◌}
-use Rattle.std.specs.Prelude.{◌⊎◌, ◌&&◌, nat_lt, codes}
+use Rattle.std.proofs.Common.{◌≡◌, ℕ, zero, suc, Bool, true, false, List, [], ◌∷◌, ◌++◌, map, Option, Some, None, Result, Ok, Err, refl, sym, ◌∙◌, ap, subst, inl, inr, if◌then◌else◌}
+use Rattle.std.specs.Prelude.{◌⊎◌, ◌&&◌, nat_eq, nat_lt, codes}
+use Rattle.std.specs.Cmp.Lexicographic.{pointwise}
+use Rattle.std.proofs.lemmas.Bool.{and_from, and_parts}
 use Rattle.sx_base.specs.Act.{after, give, gather}
+use Rattle.sx_base.specs.Same.{texts_decides}
 use Rattle.sx_base.specs.declared.fault.Fault.{Fault}
 use Rattle.sx_base.specs.declared.library.LibName.{LibName}
 use Rattle.sx_base.specs.declared.library.LibName.TheVariants as library
 use Rattle.sx_base.specs.declared.name.FrameNo.{FrameNo}
 use Rattle.sx_base.specs.declared.name.Label.{Label}
+use Rattle.sx_base.specs.declared.name.Mark.{Mark}
 use Rattle.sx_base.specs.declared.span.Span.{Span}
 use Rattle.sx_tree.specs.Changes.{stamp}
 use Rattle.sx_tree.specs.Context.{LeafContext, blank, stamped}
+use Rattle.sx_tree.specs.SameMarks.{same_marks, same_marks_decides}
 use Rattle.sx_tree.specs.Tree.{Tree, atom, leaf, pair, vector}
-use Rattle.sx_frames.specs.Scope.{label_at, or_else}
+use Rattle.sx_frames.specs.Rows.{Row, is_of, label_in}
+use Rattle.sx_frames.specs.Scope.{rows_at, label_at, or_else}
 use Rattle.sx_core.specs.declared.core_form.CoreForm.TheVariants as core_forms
 use Rattle.sx_core.specs.declared.record.LibRecord.{LibRecord}
 use Rattle.sx_core.specs.declared.record.Line.{Line}
-use Rattle.sx_core_laws.specs.Words.{Each}
+use Rattle.sx_core_laws.specs.Words.{Each, Among, Once}
 use Rattle.sx_scope.specs.Stands.{stands}
 use Rattle.sx_shapes.specs.Forms.{define_syntax_shape, shaped, by_operands, or_bad, shape_of, shape}
 use Rattle.sx_shapes.specs.Lists.{if_some, is_leaf, proper_elements}
@@ -49,10 +55,12 @@ use Rattle.sx_expand.specs.declared.settle.ItemStep.TheVariants as item_steps
 use Rattle.sx_expand.specs.declared.settle.SettledItem.{SettledItem}
 use Rattle.sx_expand.specs.declared.top.TopAt.{TopAt}
 use Rattle.sx_eval.specs.Codes.{Codes}
+use Rattle.sx_expand_laws.specs.States.{IsOwn, row_key, AreKeyed}
 use Rattle.sx_expand_laws.proofs.Acts.{Gave, gave-any, gave-after, gave-if, gave-both, gave-less, each-nil}
-use Rattle.sx_expand_laws.proofs.Changes.{item-takes, inside-moves, took-none}
+use Rattle.sx_expand_laws.proofs.Changes.{inside-moves, took-none}
 use Rattle.sx_expand_laws.proofs.Items.{Takes}
 use Rattle.sx_expand_laws.proofs.Later.{but-self, but-then, keeps-self, keeps-then}
+use Rattle.sx_text_laws.proofs.Words.{among-map}
 
 -- the label of the core `define-syntax`
 abbrev pub defining : Label
@@ -232,37 +240,76 @@ module _ (at : BodyAt) (depth : ℕ) where
       (λ e. gave-after (Settles go.earlier d) (λ x u. x.waiting ≡ d.waiting) (settle_item go.earlier at depth d t s) (body.perform_settled go depth) (definition-settled go.earlier s.uses_left d t s f h)
       (λ p u k. gave-less (λ x v. x ≡ p.0) (λ x v. x.waiting ≡ d.waiting) (body.perform_settled go depth p u) (keyword-performed go p.1.at p.0 p.1.form p.1.item u k.1) (λ x v j. ap (λ (y : Taken). y.waiting) j ∙ k.0)))
 
+-- What the frame of a library gives stays, where it has each symbol under marks once.
+
+abbrev row : Row
+row = record { symbol = word; marks = []; label = defining }
+
+row-found : (rs : List Row) (r : Row) → Once (map row_key rs) → Among rs r → label_in rs r.symbol r.marks ≡ Some r.label
+row-found [] r once a = elim a [ ]
+row-found (y ∷ rs) r once (inl e) = subst (λ (z : Row). label_in (z ∷ rs) r.symbol r.marks ≡ Some r.label) e here
+  where
+    here : label_in (r ∷ rs) r.symbol r.marks ≡ Some r.label
+    here =
+        ap (λ (b : Bool). if b then Some r.label else label_in rs r.symbol r.marks)
+        (and_from (pointwise nat_eq r.symbol r.symbol) (same_marks r.marks r.marks) ((texts_decides r.symbol r.symbol).1 refl) ((same_marks_decides r.marks r.marks).1 refl))
+row-found (y ∷ rs) r once (inr a) = by (is_of r.symbol r.marks y) refl (row-found rs r once.1 a)
+  where
+    by : (b : Bool) → is_of r.symbol r.marks y ≡ b → label_in rs r.symbol r.marks ≡ Some r.label → (if b then Some y.label else label_in rs r.symbol r.marks) ≡ Some r.label
+    by true e rest =
+        let both = and_parts (pointwise nat_eq r.symbol y.symbol) (same_marks r.marks y.marks) e in
+        let text = (texts_decides r.symbol y.symbol).0 both.0 in
+        let marks = (same_marks_decides r.marks y.marks).0 both.1 in
+        let key : row_key r ≡ row_key y = λ i. (text i, marks i) in
+        absurd (once.0 (subst (Among (map row_key rs)) key (among-map row_key rs r a)))
+    by false e rest = rest
+
+-- the row that gives a label
+found-row : (rs : List Row) (x : List ℕ) (ms : List Mark) (l : Label) → label_in rs x ms ≡ Some l → Among rs (record { symbol = x; marks = ms; label = l })
+found-row [] x ms l e = absurd (cc)
+found-row (y ∷ rs) x ms l e = by (is_of x ms y) refl e (found-row rs x ms l)
+  where
+    by : (b : Bool) → is_of x ms y ≡ b → (if b then Some y.label else label_in rs x ms) ≡ Some l → (label_in rs x ms ≡ Some l → Among rs (record { symbol = x; marks = ms; label = l }))
+        → Among (y ∷ rs) (record { symbol = x; marks = ms; label = l })
+    by true is k rest =
+        let both = and_parts (pointwise nat_eq x y.symbol) (same_marks ms y.marks) is in
+        let text = (texts_decides x y.symbol).0 both.0 in
+        let marks = (same_marks_decides ms y.marks).0 both.1 in
+        let label : y.label ≡ l = cc in
+        inl (λ i. record { symbol = text i; marks = marks i; label = sym label i })
+    by false is k rest = inr (rest k)
+
 -- All forms of a body.
 
-module _ (own : LibName) (rs : List LibRecord) (room : ℕ) (at : BodyAt) (low : is_top at.kind ≡ true → at.level ≡ 0) where
+module _ (own : LibName) (rs : List LibRecord) (room : ℕ) (at : BodyAt) (low : is_top at.kind ≡ true → at.level ≡ 0) (mine : IsOwn own at.frame.0) where
   record Leaves (start : State) (d : Taken) (t : State) : Type 0 where
     pub takes : Takes own at.frame (is_top at.kind) start start d t
     pub none : d.waiting ≡ []
 
-  leaves-all : (start : State) (forms : List Tree) → Found at 0 start → Each (IsDefinition (stamped at.frame blank)) forms → (d : Taken) (t : State) → Leaves start d t → Gave (Leaves start) (gather ((inside rs (suc room)).item at 0) d forms t)
+  leaves-all : (start : State) (forms : List Tree) → AreKeyed own start.frames → Found at 0 start → Each (IsDefinition (stamped at.frame blank)) forms → (d : Taken) (t : State) → Leaves start d t → Gave (Leaves start) (gather ((inside rs (suc room)).item at 0) d forms t)
   unfolding gather inside
-  leaves-all start [] f h d t k = k
-  leaves-all start (x ∷ forms) f h d t k =
-      gave-after (Leaves start) (Leaves start) ((inside rs (suc room)).item at 0 d x t) (λ e. gather ((inside rs (suc room)).item at 0) e forms) one (λ e u j. leaves-all start forms f h.1 e u j)
+  leaves-all start [] keyed f h d t k = k
+  leaves-all start (x ∷ forms) keyed f h d t k =
+      gave-after (Leaves start) (Leaves start) ((inside rs (suc room)).item at 0 d x t) (λ e. gather ((inside rs (suc room)).item at 0) e forms) one (λ e u j. leaves-all start forms keyed f h.1 e u j)
     where
       here : Found at 0 t
-      here = k.takes.later.grows.found at.frame word [] defining f
+      here = row-found (rows_at at.frame t.frames) row (k.takes.later.grows.keyed keyed at.frame mine) (k.takes.later.grows.kept at.frame row (found-row (rows_at at.frame start.frames) word [] defining f))
 
       one : Gave (Leaves start) (item (inside rs room) at 0 d x t)
       one =
           gave-less (λ e u. Takes own at.frame (is_top at.kind) start t e u × (e.waiting ≡ d.waiting)) (Leaves start) (item (inside rs room) at 0 d x t)
           (gave-both (Takes own at.frame (is_top at.kind) start t) (λ e u. e.waiting ≡ d.waiting) (item (inside rs room) at 0 d x t)
-          (item-takes own (inside rs room) (inside-moves own rs room) at start low 0 d x t k.takes.later.next k.takes.took) (definition-taken at 0 (inside rs room) d x t here h.0))
+          ((inside-moves own rs (suc room)).item at 0 d x start t k.takes.later.next low k.takes.took) (definition-taken at 0 (inside rs room) d x t here h.0))
           (λ e u j. record {
             takes = record { later = but-then own at.frame start t u k.takes.later j.0.later; took = j.0.took; keeps = keeps-then own start t u k.takes.later.up j.0.later.up k.takes.keeps j.0.keeps };
             none = j.1 ∙ k.none;
           })
 
-  pub definitions-leave : (start : State) (forms : List Tree) → start.names.library ≡ own → Found at 0 start → Each (IsDefinition (stamped at.frame blank)) forms
+  pub definitions-leave : (start : State) (forms : List Tree) → start.names.library ≡ own → AreKeyed own start.frames → Found at 0 start → Each (IsDefinition (stamped at.frame blank)) forms
       → Gave (λ d t. d.waiting ≡ []) (splice (inside rs (suc room)) at 0 begun forms start)
-  definitions-leave start forms n f h =
+  definitions-leave start forms n keyed f h =
       gave-less (Leaves start) (λ d t. d.waiting ≡ []) (splice (inside rs (suc room)) at 0 begun forms start)
-      (leaves-all start forms f h begun start (record { takes = record { later = but-self own at.frame start n; took = took-none own (is_top at.kind) start; keeps = keeps-self own start }; none = refl })) (λ d t k. k.none)
+      (leaves-all start forms keyed f h begun start (record { takes = record { later = but-self own at.frame start n; took = took-none own (is_top at.kind) start; keeps = keeps-self own start }; none = refl })) (λ d t k. k.none)
 
 -- The record of such a library has no lines.
 
@@ -273,19 +320,20 @@ finished-bare go at es d s none =
     (λ ls t k. subst (λ (ws : List Waiting). Gave (λ r u. r.run ≡ []) (after (finish_all go 0 ws t) (λ lines. give_record at ls lines))) (sym none)
     (subst (λ (x : Result (List Line × State) Fault). Gave (λ r u. r.run ≡ []) (after x (λ lines. give_record at ls lines))) (sym (each-nil (finish_one go 0) t)) refl))
 
-top-bare : (at : TopAt) (es : List (List ℕ × Tree)) (forms : List Tree) (start : State) → start.names.library ≡ start.library → label_at start.frames at.frame word [] ≡ Some defining → Each (IsDefinition blank) forms → Gave (λ r t. r.run ≡ []) (top (inside [] 602) at es forms start)
+top-bare : (at : TopAt) (es : List (List ℕ × Tree)) (forms : List Tree) (start : State) → start.names.library ≡ start.library → IsOwn start.library at.frame.0 → AreKeyed start.library start.frames → label_at start.frames at.frame word [] ≡ Some defining → Each (IsDefinition blank) forms → Gave (λ r t. r.run ≡ []) (top (inside [] 602) at es forms start)
 unfolding top first_pass
-top-bare at es forms start n found are =
+top-bare at es forms start n mine keyed found are =
     let place = body_at at start.library in
     gave-after (λ d t. d.waiting ≡ []) (λ r t. r.run ≡ []) (splice (inside [] 602) place 0 begun (map (stamp at.frame) forms) start) (finished (inside [] 602) at es)
-    (definitions-leave start.library [] 601 place (λ e. refl) start (map (stamp at.frame) forms) n found (definitions-stamped at.frame forms are))
+    (definitions-leave start.library [] 601 place (λ e. refl) mine start (map (stamp at.frame) forms) n keyed found (definitions-stamped at.frame forms are))
     (λ d t k. finished-bare (inside [] 602) at es d t k)
 
 pub no-lines : (own : LibName) (path : List ℕ) (imports : List (List ℕ × Label)) (version : List ℕ) (place : Span) (es : List (List ℕ × Tree)) (forms : List Tree) (codes : Codes) (r : LibRecord)
-    → label_at (started own [] imports codes).frames (first_frame own) word [] ≡ Some defining → (started own [] imports codes).names.library ≡ (started own [] imports codes).library → Each (IsDefinition blank) forms
+    → label_at (started own [] imports codes).frames (first_frame own) word [] ≡ Some defining → (started own [] imports codes).names.library ≡ (started own [] imports codes).library → (started own [] imports codes).library ≡ own → AreKeyed own (started own [] imports codes).frames
+    → Each (IsDefinition blank) forms
     → library_record (ready own path [] imports codes) [] version place es forms ≡ Ok r → r.run ≡ []
-no-lines own path imports version place es forms codes r found same are e =
-    by (top (inside [] 602) (body_of (ready own path [] imports codes) version place) es forms (started own [] imports codes)) (top-bare (body_of (ready own path [] imports codes) version place) es forms (started own [] imports codes) same found are) e
+no-lines own path imports version place es forms codes r found same lib keyed are e =
+    by (top (inside [] 602) (body_of (ready own path [] imports codes) version place) es forms (started own [] imports codes)) (top-bare (body_of (ready own path [] imports codes) version place) es forms (started own [] imports codes) same (sym lib) (subst (λ (k : LibName). AreKeyed k (started own [] imports codes).frames) (sym lib) keyed) found are) e
   where
     by : (x : Result (LibRecord × State) Fault) → Gave (λ q t. q.run ≡ []) x → record_in x ≡ Ok r → r.run ≡ []
     by (Ok p) h k = let is : p.0 ≡ r = cc in subst (λ (q : LibRecord). q.run ≡ []) is h

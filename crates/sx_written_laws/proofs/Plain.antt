@@ -57,9 +57,9 @@ one x ys l (inr a) = elim a [ ]
 
 mutual
   pub plain-bound : (c : PlainCore) → checked c ≡ written → Sub (binders c) (bound_variables c)
-  plain-bound (quoted d) k l a = elim a [ ]
-  plain-bound (variable x) k l a = elim a [ ]
-  plain-bound (primitive o) k l a = elim a [ ]
+  plain-bound (quoted d) k = λ l a. elim a [ ]
+  plain-bound (variable x) k = λ l a. elim a [ ]
+  plain-bound (primitive o) k = λ l a. elim a [ ]
   plain-bound (one_armed c d) k =
       let p = first-ok (checked c) (checked d) k in
       sub-parts (binders c) (binders d) (parts c) (parts d) (plain-bound c p.0) (plain-bound d p.1)
@@ -79,17 +79,17 @@ mutual
   plain-bound (call c cs) k =
       let p = first-ok (checked c) (all_checked cs) k in
       sub-parts (binders c) (all_binders cs) (parts c) (all_parts cs) (plain-bound c p.0) (all-bound cs p.1)
-  plain-bound (instance t s) k l a = elim a [ ]
-  plain-bound (matching c cs s) k l a = absurd (cc)
+  plain-bound (instance t s) k = λ l a. elim a [ ]
+  plain-bound (matching c cs s) k = λ l a. absurd (cc)
 
   all-bound : (cs : PlainCores) → all_checked cs ≡ written → Sub (all_binders cs) (of_parts (all_parts cs))
-  all-bound none k l a = elim a [ ]
+  all-bound none k = λ l a. elim a [ ]
   all-bound (more c cs) k =
       let p = first-ok (checked c) (all_checked cs) k in
       sub-parts (binders c) (all_binders cs) (parts c) (all_parts cs) (plain-bound c p.0) (all-bound cs p.1)
 
   inits-bound : (is : PlainInits) → inits_checked is ≡ written → Sub (init_binders is) (init_labels is ++ of_parts (init_parts is))
-  inits-bound no_init k l a = elim a [ ]
+  inits-bound no_init k = λ l a. elim a [ ]
   inits-bound (init x c is) k =
       let p = first-ok (checked c) (inits_checked is) k in
       let behind = of_parts (parts c ++ init_parts is) in
@@ -100,7 +100,7 @@ mutual
       (λ l a. sub-both (init_labels is) (of_parts (init_parts is)) all (λ m b. inr (among-first (init_labels is) behind m b)) (λ m b. among-second (x ∷ init_labels is) behind m (parts-second (parts c) (init_parts is) m b)) l (inits-bound is p.1 l a)))
 
   cases-bound : (cs : PlainCases) → cases_checked cs ≡ written → Sub (case_binders cs) (case_labels cs ++ of_parts (case_parts cs))
-  cases-bound no_case k l a = elim a [ ]
+  cases-bound no_case k = λ l a. elim a [ ]
   cases-bound (case f c cs) k =
       let p = first-ok (checked c) (cases_checked cs) k in
       let labels = formals_labels f ++ case_labels cs in
@@ -115,7 +115,7 @@ line-plain (line.Define l c) k = sub-both (l ∷ []) (binders c) ((l ∷ []) ++ 
 line-plain (line.Expr c) k = plain-bound c k
 
 pub lines-plain : (xs : List Line) → lines_checked xs ≡ written → Sub (flat_map line_binders xs) (flat_map line_variables xs)
-lines-plain [] k l a = elim a [ ]
+lines-plain [] k = λ l a. elim a [ ]
 lines-plain (x ∷ xs) k =
     let p = first-ok (line_checked x) (lines_checked xs) k in
     sub-both (line_binders x) (flat_map line_binders xs) (line_variables x ++ flat_map line_variables xs)
