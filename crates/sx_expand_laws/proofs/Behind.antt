@@ -357,7 +357,7 @@ module _ (own : LibName) (path : List ℕ) (records : List LibRecord) (imports :
       let variables = variables-indexed own path records imports version place es forms codes r is-ready e in
       let mine : (l : Label) → Among (run_binders r) l → l.0.library ≡ r.name = λ l a. each-at (λ (m : Label). m.0.library ≡ r.name) (run_binders r) l good.0.bound_here a in
       let frames : Each (λ (x : FrameRow). IsOwn own x.frame.0) (rows_in own runs.ended.frames) = subst (λ (k : LibName). Each (λ (x : FrameRow). IsOwn own x.frame.0) (rows_in k runs.ended.frames)) runs.name
-          (subst (Each (λ (x : FrameRow). IsOwn own x.frame.0)) runs.frames (each-map (λ (x : FrameRow). x.frame.0.library ≡ r.name) (λ (x : FrameRow). IsOwn own x.frame.0) r.frames serves.own_frames (λ x k. k ∙ runs.name))) in
+      (subst (Each (λ (x : FrameRow). IsOwn own x.frame.0)) runs.frames (each-map (λ (x : FrameRow). x.frame.0.library ≡ r.name) (λ (x : FrameRow). IsOwn own x.frame.0) r.frames serves.own_frames (λ x k. k ∙ runs.name))) in
       let keyed = runs.grows.keyed (started-keyed own records imports codes (followers-serve records h.earlier) h.new h.no_core h.imported_once) in
       let lines = lines-suit r.run good.0.well_made good.0.closed in
       record {

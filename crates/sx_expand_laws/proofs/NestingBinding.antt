@@ -127,7 +127,6 @@ module _ (own : LibName) (f : FrameNo) (place : Span) (level : ℕ) where
   abbrev Leveled : List Label → State → Type 0
   Leveled ls t = Each (IsLeveled t.bindings level) ls
 
-
   formals-leveled : (ids : List Tree) (s : State) → Here own s → Gave (λ ls t. Here own t × (Extends s.bindings t.bindings × Leveled ls t)) (bind_all f place level ids s)
   formals-leveled ids s h =
       gave-each (bind_variable f place level false) (λ id t l u. BindsLeveled false t l u) (λ xs t ls u. Here own u × (Extends t.bindings u.bindings × Leveled ls u)) (Here own)

@@ -123,7 +123,7 @@ module _ (bs : Bindings) (level : ℕ) (t : Tree) where
     filled-nests (quasi.call m qs) depth rest cs h =
         let inner = all_quasi_parts t (deeper depth) [] qs in
         let k = made-room bs level t (deeper depth) (inner ++ rest) cs
-            (subst (λ (ps : List Part). Codes bs level ps cs) (ap (λ ps. ps ++ rest) (more-all t (deeper depth) (with_made t (deeper depth) []) qs) ∙ append_assoc (with_made t (deeper depth) []) inner rest) h) in
+        (subst (λ (ps : List Part). Codes bs level ps cs) (ap (λ ps. ps ++ rest) (more-all t (deeper depth) (with_made t (deeper depth) []) qs) ∙ append_assoc (with_made t (deeper depth) []) inner rest) h) in
         let j = all-nest qs (deeper depth) [] rest cs k.1 tt in
         (calls (op_of m) depth (all_filled [] qs cs).0 k.0 j.0, j.1)
 
@@ -133,14 +133,13 @@ module _ (bs : Bindings) (level : ℕ) (t : Tree) where
     all-nest (more q qs) depth done rest cs h k =
         let inner = all_quasi_parts t depth [] qs in
         let j = filled-nests q depth (inner ++ rest) cs
-            (subst (λ (ps : List Part). Codes bs level ps cs) (ap (λ ps. ps ++ rest) (more-all t depth (quasi_parts t depth [] q) qs) ∙ append_assoc (quasi_parts t depth [] q) inner rest) h) in
+        (subst (λ (ps : List Part). Codes bs level ps cs) (ap (λ ps. ps ++ rest) (more-all t depth (quasi_parts t depth [] q) qs) ∙ append_assoc (quasi_parts t depth [] q) inner rest) h) in
         all-nest qs depth (done ++ (filled q cs).0 ∷ []) rest (filled q cs).1 j.1 (each-append (Within bs level depth 2404) done ((filled q cs).0 ∷ []) k (j.0, tt))
 
 pairs-codes : (bs : Bindings) (level : ℕ) (ps : List Part) (cs : List PlainCore) → Pairs (PartWithin bs level) ps cs → Codes bs level ps cs
 pairs-codes bs level [] cs h = tt
 pairs-codes bs level (p ∷ ps) [] h = elim h [ ]
 pairs-codes bs level (p ∷ ps) (c ∷ cs) h = (h.0, pairs-codes bs level ps cs h.1)
-
 
 -- the inserts stand two deeper than the form
 inserts-each : (bs : Bindings) (level depth : ℕ) (is : List Insert) (cs : List PlainCore) → Pairs (PartWithin bs level) (map (insert_part depth) is) cs → Each (Within bs level depth 2404) cs

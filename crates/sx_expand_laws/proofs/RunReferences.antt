@@ -134,8 +134,8 @@ module _ (own : LibName) where
   of-lines done (x ∷ xs) mine =
       of-lines (with_labels_of own done (references (code_of x))) xs (λ l a. mine l (among-second (line_binders x) (flat_map line_binders xs) l a))
       ∙ ap (λ (ks : List LibName). with_labels_of own ks (flat_map mentions (map line_core xs)))
-          (of-references done (code_of x) (λ l a. mine l (among-first (line_binders x) (flat_map line_binders xs) l (code-binders x l a)))
-          ∙ ap (λ (c : PlainCore). with_labels_of own done (mentions c)) (sym (one-code x)))
+      (of-references done (code_of x) (λ l a. mine l (among-first (line_binders x) (flat_map line_binders xs) l (code-binders x l a)))
+      ∙ ap (λ (c : PlainCore). with_labels_of own done (mentions c)) (sym (one-code x)))
       ∙ sym (labels-append done (mentions (line_core x)) (flat_map mentions (map line_core xs)))
 
   has-among : (ks : List LibName) (k : LibName) → has_library ks k ≡ among same_library ks k
