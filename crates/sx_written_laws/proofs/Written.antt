@@ -209,7 +209,7 @@ first-bare prelude found s records program e h =
     subst (λ (r : LibRecord). r.run ≡ []) is (derived-bare made.derived prelude made.made)
 
 pub runs-written : RunsAreWrittenOnce
-runs-written prelude files roots path found s records program run e counted =
+runs-written prelude files roots path found s records program text run e counted =
     let stand = all_records_stand prelude files roots path found s records program run in
     text-written records program (all_standing found s records program stand) (runs_are_closed_once prelude files roots path found s records program run)
     (all-sound found s records program (user_at files roots path found s run.loaded) stand (first-bare prelude found s records program run.recorded stand)) (text-checked records program text e) counted
