@@ -3,6 +3,7 @@ use Rattle.std.proofs.Common.{map, ◌≡◌, ℕ, Bool, true, false, List, [], 
 use Rattle.std.specs.Prelude.{◌&&◌, codes, nat_eq}
 use Rattle.std.specs.Cmp.Lexicographic.{pointwise}
 use Rattle.std.proofs.lemmas.Bool.{and_parts}
+use Rattle.bstr.specs.Utf8.{pieces_from}
 use Rattle.sx_base.specs.Datum.{PlainDatum}
 use Rattle.sx_base.specs.Datum as datum
 use Rattle.sx_base.specs.Gives.{◌>>=◌}
@@ -63,7 +64,7 @@ are_definitions (Err f) = false
 
 -- the text of the derived library, read
 derived-read : are_definitions (data_of path DERIVED_SOURCE.now file_nesting) ≡ true
-unfolding atmosphere_end repeated string_part string_from bare_step lexed_from lexed run data_of letter_here name_from value_from is_spelt characters
+unfolding pieces_from atmosphere_end repeated string_part string_from bare_step lexed_from lexed run data_of letter_here name_from value_from is_spelt characters lib.Utf8.encode
 derived-read = refl
 
 -- its forms
