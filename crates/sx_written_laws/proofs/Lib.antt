@@ -1,3 +1,5 @@
+pub mod DerivedLines
+pub mod Keywords
 pub mod Lists
 pub mod NameText
 pub mod Plain

@@ -13,16 +13,19 @@ use Rattle.sx_core.specs.declared.binding.Binding.{Binding}
 use Rattle.sx_core.specs.declared.binding.Binding.TheVariants as binding
 use Rattle.sx_core.specs.declared.binding.VarInfo.{VarInfo}
 use Rattle.sx_core.specs.declared.record.LibRecord.{LibRecord}
+use Rattle.sx_core.specs.declared.record.Line.{Line}
 use Rattle.sx_core_laws.specs.Follows.{names_of, bound_labels, index_in, index_of, indices, run_variables, IsThere, IsOwn}
-use Rattle.sx_core_laws.specs.Records.{defined, line_core, run_binders, LinesClosed}
+use Rattle.sx_core_laws.specs.Records.{defined, line_core, line_binders, run_binders, LinesClosed}
 use Rattle.sx_core_laws.specs.Words.{Each, Among, Once}
 use Rattle.sx_core_text.specs.CoreText.{Names, name_of}
 use Rattle.sx_core_text.specs.Syntax.{Checked, written, lines_checked}
 use Rattle.sx_core_text.specs.Whole.{record_checked, plan_checked, all_names, all_text, core_text}
+use Rattle.sx_eval.specs.Codes.{Codes}
 use Rattle.sx_names.specs.Generated.{generated_name}
 use Rattle.sx_expand_laws.specs.Indices.{there, bound_index}
 use Rattle.sx_expand_laws.specs.Variables.{HasIndices}
 use Rattle.sx_expand_laws.proofs.Fresh.{each-at, each-of, each-append}
+use Rattle.sx_library.specs.Loaded.{all_records}
 use Rattle.sx_load.specs.declared.found.Found.{Found}
 use Rattle.sx_load.specs.declared.found.Loading.{Loading}
 use Rattle.sx_name_laws.specs.Variable.{IsNamed}
@@ -30,6 +33,7 @@ use Rattle.sx_plan.specs.Planned.{plan_of}
 use Rattle.sx_standing.specs.Start.{or_skip, records_at}
 use Rattle.sx_run_laws.specs.Run.{AllStand}
 use Rattle.sx_run_laws.proofs.ClosedLemmas.{each_place, all_standing, runs_are_closed_once}
+use Rattle.sx_run_laws.proofs.MadeLemmas.{all_made}
 use Rattle.sx_run_laws.proofs.RunLemmas.{same_place, all_records_stand}
 use Rattle.sx_run_laws.proofs.UserLemmas.{IsUser, user_at}
 use Rattle.sx_text_laws.specs.Standing.{AreStanding}
@@ -40,6 +44,7 @@ use Rattle.sx_text_laws.proofs.Names.{same-record}
 use Rattle.sx_text_laws.proofs.Words.{among-map, among-flat, flat-among}
 use Rattle.sx_written_laws.specs.Names.{names_for, NamesClosed, IsWrittenName, IsWrittenOnce}
 use Rattle.sx_written_laws.specs.Run.{IsCounted, RunsAreWrittenOnce}
+use Rattle.sx_written_laws.proofs.DerivedLines.{derived-bare}
 use Rattle.sx_written_laws.proofs.Lists.{once-map, map-once, found-among}
 use Rattle.sx_written_laws.proofs.NameText.{names_tell, name_written}
 use Rattle.sx_written_laws.proofs.Plain.{lines-plain, lines-closed}
@@ -82,13 +87,13 @@ user-named (library.User parts) h = h
 pub record IsSound (r : LibRecord) : Type 0 where
   pub indices : HasIndices r
   pub own : Each (λ (l : Label). IsOwn r l.0) (bound_labels r)
-  pub named : (r.name ≡ library.Derived) ⊎ IsNamed r.name
+  pub named : (r.run ≡ []) ⊎ IsNamed r.name
 
 all-sound : (found : Found) (s : Loading) (records : List LibRecord) (program : LibRecord) → ((i : ℕ) (file : List ℕ) (f : Found) → slice_get s.done i ≡ Some (file, f) → IsUser f.opened.form.name)
-    → AllStand found s records program → Each IsSound (records ++ program ∷ [])
-all-sound found s records program users h =
+    → (h : AllStand found s records program) → h.derived.run ≡ [] → Each IsSound (records ++ program ∷ [])
+all-sound found s records program users h bare =
     each-append IsSound records (program ∷ [])
-    (subst (Each IsSound) (sym h.parts) (record { indices = h.first.indices; own = h.first.serves.own_bindings; named = inl h.first.named }, each_place IsSound h.others here))
+    (subst (Each IsSound) (sym h.parts) (record { indices = h.first.indices; own = h.first.serves.own_bindings; named = inl bare }, each_place IsSound h.others here))
     (record { indices = h.last.indices; own = h.last.serves.own_bindings; named = inr (subst IsNamed (sym h.last.named) tt) }, tt)
   where
     here : (i : ℕ) (r : LibRecord) → slice_get h.others i ≡ Some r → IsSound r
@@ -158,23 +163,23 @@ module _ (records : List LibRecord) (program : LibRecord) (standing : AreStandin
       let v = lines-plain r.run (each-at HasText T r checked found.1) l found.2 in
       let i = indexed-in r l (each-at IsThere (indices r) (index_of r l) s.indices.indexed (among-map (index_of r) (run_variables r) l v)) in
       let own : l.0.library ≡ r.name = each-at (λ (m : Label). IsOwn r m.0) (bound_labels r) l s.own (among-map (λ (b : Label × Binding). b.0) r.bindings (l, binding.Variable i.variable) i.bound) in
-      let small : i.number < 2 ^ 64 = each-at (λ (n : ℕ). n < 2 ^ 64) (flat_map bound_index r.bindings) i.number c.counted (among-flat bound_index r.bindings (l, binding.Variable i.variable) i.number i.bound (subst (λ (o : Option ℕ). Among (there o) i.number) (sym i.index) (inl refl))) in
+      let small : i.number < 2 ^ 64 = each-at (λ (n : ℕ). n < 2 ^ 64) (flat_map bound_index r.bindings) i.number c (among-flat bound_index r.bindings (l, binding.Variable i.variable) i.number i.bound (subst (λ (o : Option ℕ). Among (there o) i.number) (sym i.index) (inl refl))) in
       record {
         holder = r;
         there = found.1;
         variables = v;
         indexed = i;
         own = own;
-        named = subst IsNamed (sym own) (not-derived r c s.named found.2);
+        named = subst IsNamed (sym own) (not-bare r s.named found.2);
         small = small;
         name = ap (λ (o : Option (List ℕ)). unwrap_or o [])
             (ap (λ (ns : Names). lookup (same_label l) ns) (names-of-text records program)
             ∙ name-in T [] r l i.variable i.number names-once (each-of (λ q. Each (λ (m : Label). IsOwn q m.0) (bound_labels q)) T (λ q b. (text-sound q b).own)) (each-of (λ q. Once (bound_labels q)) T (λ q b. (text-sound q b).indices.bindings_once)) found.1 i.bound i.index);
       }
     where
-      not-derived : (r : LibRecord) → IsCounted r → (r.name ≡ library.Derived) ⊎ IsNamed r.name → Among (run_binders r) l → IsNamed r.name
-      not-derived r c (inl e) b = absurd (subst (λ (ls : List Label). Among ls l) (c.keywords_alone e) b)
-      not-derived r c (inr n) b = n
+      not-bare : (r : LibRecord) → (r.run ≡ []) ⊎ IsNamed r.name → Among (run_binders r) l → IsNamed r.name
+      not-bare r (inl e) b = absurd (subst (λ (xs : List Line). Among (flat_map line_binders xs) l) e b)
+      not-bare r (inr n) b = n
 
   same-name : (l m : Label) → Among (flat_map run_binders T) l → Among (flat_map run_binders T) m → name_of names l ≡ name_of names m → l ≡ m
   same-name l m a b e =
@@ -195,8 +200,16 @@ module _ (records : List LibRecord) (program : LibRecord) (standing : AreStandin
     bound_once = once-map (name_of names) (flat_map run_binders T) once.bound_once same-name;
   }
 
+-- the record of the derived library comes first, and has no lines
+first-bare : (prelude : Result Codes Fault) (found : Found) (s : Loading) (records : List LibRecord) (program : LibRecord) → all_records prelude s.done ≡ Ok records → (h : AllStand found s records program) → h.derived.run ≡ []
+first-bare prelude found s records program e h =
+    let made = all_made prelude s.done records e in
+    let same : made.derived ∷ made.others ≡ h.derived ∷ h.others = sym made.parts ∙ h.parts in
+    let is : made.derived ≡ h.derived = cc in
+    subst (λ (r : LibRecord). r.run ≡ []) is (derived-bare made.derived prelude made.made)
+
 pub runs-written : RunsAreWrittenOnce
 runs-written prelude files roots path found s records program text run e counted =
     let stand = all_records_stand prelude files roots path found s records program run in
     text-written records program (all_standing found s records program stand) (runs_are_closed_once prelude files roots path found s records program run)
-    (all-sound found s records program (user_at files roots path found s run.loaded) stand) (text-checked records program text e) counted
+    (all-sound found s records program (user_at files roots path found s run.loaded) stand (first-bare prelude found s records program run.recorded stand)) (text-checked records program text e) counted

@@ -2,9 +2,7 @@
 use Rattle.std.specs.Prelude.{◌≡◌, ℕ, ◌<◌, ◌^◌, List, [], Result, Ok}
 use Rattle.std.specs.List.{flat_map}
 use Rattle.sx_base.specs.declared.fault.Fault.{Fault}
-use Rattle.sx_base.specs.declared.library.LibName.TheVariants as library
 use Rattle.sx_core.specs.declared.record.LibRecord.{LibRecord}
-use Rattle.sx_core_laws.specs.Records.{run_binders}
 use Rattle.sx_core_laws.specs.Words.{Each}
 use Rattle.sx_core_text.specs.Whole.{all_names, core_text}
 use Rattle.sx_eval.specs.Codes.{Codes}
@@ -17,11 +15,9 @@ use Rattle.sx_run_laws.specs.Run.{IsRun}
 use Rattle.sx_text_laws.specs.Text.{text_of}
 use Rattle.sx_written_laws.specs.Names.{IsWrittenOnce}
 
--- An index is below 2^64, as code that counts in 64 bits has it, and the lines of the derived library, which defines keywords alone, bind
--- nothing.
-pub record IsCounted (r : LibRecord) : Type 0 where
-  pub counted : Each (λ i. i < 2 ^ 64) (flat_map bound_index r.bindings)
-  pub keywords_alone : r.name ≡ library.Derived → run_binders r ≡ []
+-- an index is below 2^64, as code that counts in 64 bits has it
+abbrev pub IsCounted : LibRecord → Type 0
+IsCounted r = Each (λ i. i < 2 ^ 64) (flat_map bound_index r.bindings)
 
 -- where a run gives a text
 abbrev pub RunsAreWrittenOnce : Type 0
