@@ -50,13 +50,17 @@ use Rattle.sx_expand_laws.proofs.Uses.{Patterned}
 abbrev pub with_pattern : FrameNo → PatternVariable → ℕ → State → State
 with_pattern f v level s = record s { frames = with_row s.frames f (row_for v.id v.label); bindings = s.bindings ++ (v.label, binding.PatternVariable level v.depth) ∷ []; scope = with_label s.scope v.label }
 
-pattern-binds : (f : FrameNo) (place : Span) (level : ℕ) (v : PatternVariable) (s : State) → Gave (λ x u. u ≡ with_pattern f v level s) (bind_pattern_variable f place level v s)
+-- it is bound where the frame has no row of its symbol and marks
+abbrev IsNew : FrameNo → PatternVariable → State → Type 0
+IsNew f v s = is_some (label_at s.frames f (row_for v.id v.label).symbol (row_for v.id v.label).marks) ≡ false
+
+pattern-binds : (f : FrameNo) (place : Span) (level : ℕ) (v : PatternVariable) (s : State) → Gave (λ x u. (u ≡ with_pattern f v level s) × IsNew f v s) (bind_pattern_variable f place level v s)
 unfolding bind_pattern_variable
-pattern-binds f place level v s = by (is_some (label_at s.frames f (row_for v.id v.label).symbol (row_for v.id v.label).marks))
+pattern-binds f place level v s = by (is_some (label_at s.frames f (row_for v.id v.label).symbol (row_for v.id v.label).marks)) refl
   where
-    by : (b : Bool) → Gave (λ x u. u ≡ with_pattern f v level s) (after (row_put v.id place s (if b then Err (second_binder (symbol_of v.id)) else Ok (with_row s.frames f (row_for v.id v.label)))) (λ _. put_pattern_variable v.label level v.depth))
-    by true = tt
-    by false = refl
+    by : (b : Bool) → is_some (label_at s.frames f (row_for v.id v.label).symbol (row_for v.id v.label).marks) ≡ b → Gave (λ x u. (u ≡ with_pattern f v level s) × IsNew f v s) (after (row_put v.id place s (if b then Err (second_binder (symbol_of v.id)) else Ok (with_row s.frames f (row_for v.id v.label)))) (λ _. put_pattern_variable v.label level v.depth))
+    by true e = tt
+    by false e = (refl, e)
 
 module _ (own : LibName) (f : FrameNo) (level : ℕ) where
   -- pattern variables that came into scope
@@ -97,15 +101,15 @@ module _ (own : LibName) (f : FrameNo) (level : ℕ) where
       by x (inl e) = absurd (new x e)
       by x (inr p) = sym p.1
 
-  pattern-more : (s : State) (v : PatternVariable) (vs : List PatternVariable) (u : State) → s.names.library ≡ own → IsOwn own v.label.0 → v.label.0.number < s.names.number
+  pattern-more : (s : State) (v : PatternVariable) (vs : List PatternVariable) (u : State) → s.names.library ≡ own → IsOwn own v.label.0 → v.label.0.number < s.names.number → IsNew f v s
       → BindsPatterns (with_pattern f v level s) vs u → BindsPatterns s (v ∷ vs) u
-  pattern-more s v vs u n mine lt k = record {
+  pattern-more s v vs u n mine lt isnew k = record {
     later = but-then own f s t u (record {
       here = refl;
       next = n;
       up = omega arith;
       same = λ g o d. rows_at-other s.frames f g (row_for v.id v.label) d;
-      grows = other-grows own s f v.id v.label x (with_label s.scope v.label) tt (λ w e. absurd (cc)) mine lt;
+      grows = other-grows own s f v.id v.label x (with_label s.scope v.label) tt (λ w e. absurd (cc)) mine lt isnew;
     }) k.later;
     names = k.names;
     keeps = keeps-then own s t u (omega arith) (let e = ap (λ (m : Named). m.number) k.names in omega (arith, e)) (keeps-more own s t v.label x refl (λ l e y. absurd (cc)) refl) k.keeps;
@@ -174,11 +178,11 @@ module _ (own : LibName) (f : FrameNo) (level : ℕ) where
   unfolding gather
   binds-patterns place [] s n h = patterns-none s n
   binds-patterns place (v ∷ vs) s n h =
-      gave-after (λ x u. u ≡ with_pattern f v level s) (λ x u. BindsPatterns s (v ∷ vs) u) (bind_pattern_variable f place level v s) (λ e. gather (bind_next f place level) e vs) (pattern-binds f place level v s)
-      (λ x u k. subst (λ (w : State). Gave (λ y z. BindsPatterns s (v ∷ vs) z) (gather (bind_next f place level) tt vs w)) (sym k)
+      gave-after (λ x u. (u ≡ with_pattern f v level s) × IsNew f v s) (λ x u. BindsPatterns s (v ∷ vs) u) (bind_pattern_variable f place level v s) (λ e. gather (bind_next f place level) e vs) (pattern-binds f place level v s)
+      (λ x u k. subst (λ (w : State). Gave (λ y z. BindsPatterns s (v ∷ vs) z) (gather (bind_next f place level) tt vs w)) (sym k.0)
       (gave-less (λ y z. BindsPatterns (with_pattern f v level s) vs z) (λ y z. BindsPatterns s (v ∷ vs) z) (gather (bind_next f place level) tt vs (with_pattern f v level s))
       (binds-patterns place vs (with_pattern f v level s) n h.1)
-      (λ y z j. pattern-more s v vs z n h.0.0 h.0.1 j)))
+      (λ y z j. pattern-more s v vs z n h.0.0 h.0.1 k.1 j)))
 
   -- the labels of a pattern that was just compiled aren't bound
   patterned-unbound : (p : Compiled) (s t : State) → Patterned own s p t → IsNumbered own s → Each (λ (v : PatternVariable). IsUnbound t v.label) p.variables
@@ -258,9 +262,10 @@ module _ (own : LibName) (f : FrameNo) where
     keywords = insert_entry same_label s.keywords (as_label s.names) (known.Waiting place);
   }
 
-  keyword-put : (s : State) (id : Tree) (level : ℕ) (place : Span) (x : BoundSpec) → x.label ≡ as_label s.names → s.names.library ≡ own → BindsKeywords s (x ∷ []) (with_keyword id level place s)
+  keyword-put : (s : State) (id : Tree) (level : ℕ) (place : Span) (x : BoundSpec) → x.label ≡ as_label s.names → s.names.library ≡ own → is_some (label_at s.frames f (row_for id (as_label s.names)).symbol (row_for id (as_label s.names)).marks) ≡ false
+      → BindsKeywords s (x ∷ []) (with_keyword id level place s)
   unfolding with_keyword
-  keyword-put s id level place x is n = record {
+  keyword-put s id level place x is n isnew = record {
     later = record { here = refl; next = n; up = omega arith; same = λ g o d. rows_at-other s.frames f g (row_for id (as_label s.names)) d; grows = grows };
     adds = λ top. adds-same own top s t refl grows.bound tops grows.numbered;
     kept = λ l lt k. (k.0, ap expression_in (found-other s.keywords (as_label s.names) l (known.Waiting place) (λ e. let same = ap (λ (m : Label). m.0.number) e in omega (arith, lt, same))) ∙ k.1);
@@ -273,7 +278,7 @@ module _ (own : LibName) (f : FrameNo) where
 
       grows : Grows own s t
       grows = grows-then own s (counted s) t (grows-same own s (counted s) refl refl refl (omega arith))
-          (grows-then own (counted s) u t (other-grows own (counted s) f id (as_label s.names) (binding.Macro level None) s.scope tt (λ w e. absurd (cc)) n (omega arith)) (grows-same own u t refl refl refl (omega arith)))
+          (grows-then own (counted s) u t (other-grows own (counted s) f id (as_label s.names) (binding.Macro level None) s.scope tt (λ w e. absurd (cc)) n (omega arith) isnew) (grows-same own u t refl refl refl (omega arith)))
         where
           u : State
           u = record (counted s) { frames = with_row s.frames f (row_for id (as_label s.names)); bindings = s.bindings ++ (as_label s.names, binding.Macro level None) ∷ []; scope = s.scope }
@@ -293,14 +298,14 @@ module _ (own : LibName) (f : FrameNo) where
   unfolding bind_keyword fresh stage.begin_keyword with_keyword
   binds-keyword place level b s n =
       gave-if (λ x u. BindsKeywords s (x ∷ []) u) (is_leaf b.id) (after (fresh s) (bind_keyword_as f place level b)) (fault_form kind.BadForm b.id place s)
-      (λ e. by_row (is_some (label_at s.frames f (row_for b.id (as_label s.names)).symbol (row_for b.id (as_label s.names)).marks))) (λ e. tt)
+      (λ e. by_row (is_some (label_at s.frames f (row_for b.id (as_label s.names)).symbol (row_for b.id (as_label s.names)).marks)) refl) (λ e. tt)
     where
-      by_row : (r : Bool)
+      by_row : (r : Bool) → is_some (label_at s.frames f (row_for b.id (as_label s.names)).symbol (row_for b.id (as_label s.names)).marks) ≡ r
           → Gave (λ x u. BindsKeywords s (x ∷ []) u) (after (row_put b.id place (counted s) (if r then Err (second_binder (symbol_of b.id)) else Ok (with_row s.frames f (row_for b.id (as_label s.names))))) (λ _ t.
           after (put_keyword (as_label s.names) level t) (λ _ u.
           after (on_stage (stage.begin_keyword (as_label s.names) (place_of b.init place)) u) (λ _. give (record { label = as_label s.names; init = b.init })))))
-      by_row true = tt
-      by_row false = keyword-put s b.id level (place_of b.init place) (record { label = as_label s.names; init = b.init }) refl n
+      by_row true d = tt
+      by_row false d = keyword-put s b.id level (place_of b.init place) (record { label = as_label s.names; init = b.init }) refl n d
 
   pub binds-keywords : (place : Span) (level : ℕ) (bs : List BindingSpec) (s : State) → s.names.library ≡ own → Gave (BindsKeywords s) (bind_keywords f place level bs s)
   binds-keywords place level bs s n =

@@ -63,7 +63,7 @@ use Rattle.sx_expand_laws.proofs.Binding.{BindsAll, spec_label, binds-formals, b
 use Rattle.sx_expand_laws.proofs.Items.{wait_kinds, Took, Takes, took-later, Settles, BindsOne, defines-keyword, settle-takes}
 
 -- nothing was taken yet
-took-none : (own : LibName) (top : Bool) (s : State) → Took own top s begun s
+pub took-none : (own : LibName) (top : Bool) (s : State) → Took own top s begun s
 took-none own top s = record { labels = fresh-none label_name own s.names.number s.names.number; up = omega arith; adds = adds-self own top s; value = λ e. cc }
 
 -- what is done inside forms changes the state so
@@ -95,7 +95,7 @@ module _ (own : LibName) (go : Inside) (moves : Moves own go) where
       (λ e. tt)
 
   -- the first pass goes on
-  splice-takes : (at : BodyAt) (depth : ℕ) (start : State) (d : Taken) (forms : List Tree) (s : State) → Names own s → (is_top at.kind ≡ true → at.level ≡ 0) → Took own (is_top at.kind) start d s
+  pub splice-takes : (at : BodyAt) (depth : ℕ) (start : State) (d : Taken) (forms : List Tree) (s : State) → Names own s → (is_top at.kind ≡ true → at.level ≡ 0) → Took own (is_top at.kind) start d s
       → Gave (Takes own at.frame (is_top at.kind) start s) (splice go at depth d forms s)
   splice-takes at depth start d forms s n low k =
       gave-gather (go.item at depth) (λ e t. Takes own at.frame (is_top at.kind) start s e t)
@@ -354,7 +354,7 @@ module _ (own : LibName) (go : Inside) (moves : Moves own go) where
         (λ xs u l. gave-less (T u) (T s) (splice go at depth d xs u) (splice-takes at depth start d xs u l.next low (took-later own (is_top at.kind) start d s u l.up (adds-later own (is_top at.kind) s u l) k))
         (λ y v j. record { later = but-then own at.frame s u v (but-later own at.frame s u l) j.later; took = j.took; keeps = keeps-then own s u v l.up j.later.up l.keeps j.keeps }))
 
-    performs-item : (depth : ℕ) (d : Taken) (t : Tree) (i : Item) (s : State) → Names own s → Took own (is_top at.kind) start d s → Gave (T s) (perform_item go at depth d t i s)
+    pub performs-item : (depth : ℕ) (d : Taken) (t : Tree) (i : Item) (s : State) → Names own s → Took own (is_top at.kind) start d s → Gave (T s) (perform_item go at depth d t i s)
     unfolding perform_item
     performs-item depth d t items.Nothing s n k = record { later = but-self own at.frame s n; took = k; keeps = keeps-self own s }
     performs-item depth d t (items.Forms forms) s n k = splice-takes at (deeper depth) start d forms s n low k

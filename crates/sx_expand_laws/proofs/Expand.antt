@@ -22,6 +22,7 @@ use Rattle.sx_expand_laws.proofs.Later.{later-self, later-then, sound-later}
 use Rattle.sx_expand_laws.proofs.Good.{Bindings, IsVariableIn, InTurn, Good, GoodCase, IsFrom, Before, good-one_armed, good-two_armed, good-assignment, good-call, good-wider, good-sequence, good-grown}
 use Rattle.sx_expand_laws.proofs.Meanings.{reach-later}
 use Rattle.sx_expand_laws.proofs.Changes.{Moves}
+use Rattle.sx_expand_laws.proofs.NestingBodies.{Nests}
 
 -- what is given from one state to another is good
 abbrev pub GivesGood : LibName → Depths → List Label → State → PlainCore → State → Type 0
@@ -33,6 +34,7 @@ GivesCase own vs ls s c t = GoodCase own t.bindings vs ls s.names.number t.names
 -- what is done inside forms gives good core code, whatever the forms are
 pub record Safe (own : LibName) (given : List Label) (go : Inside) : Type 0 where
   pub moves : Moves own go
+  pub nests : Nests own go
   pub form : (place : Span) (level depth : ℕ) (t : Tree) (s : State) (vs : Depths) (ls : List Label) → Sound own given s → Reach own given vs level s ls → Gave (GivesGood own vs ls s) (go.form place level depth t s)
   pub procedure : (place : Span) (level depth : ℕ) (t : Tree) (ids : FormalIds) (forms : List Tree) (s : State) (vs : Depths) (ls : List Label) → Sound own given s → Reach own given vs level s ls
       → Gave (GivesCase own vs ls s) (go.procedure place level depth t ids forms s)

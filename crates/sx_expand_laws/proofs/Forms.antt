@@ -44,6 +44,7 @@ use Rattle.sx_expand_laws.specs.States.{IsPattern, Later}
 use Rattle.sx_expand_laws.proofs.Acts.{Gave, gave-after, gave-within, gave-less, gave-both, gave-if, gave-each}
 use Rattle.sx_expand_laws.proofs.Fresh.{Made, FreshLabels, label_name, code_name, each-map, fresh-wider, fresh-append, made-apart}
 use Rattle.sx_expand_laws.proofs.Later.{later-self, later-then}
+use Rattle.sx_expand_laws.proofs.NestingForms.{inside-nests}
 use Rattle.sx_expand_laws.proofs.Naming.{as_frame, counted, counted-later, next-made}
 use Rattle.sx_expand_laws.proofs.Good.{Bindings, IsPatternIn, InTurn, Good, GoodCase, GoodInit, GoodInits, GoodClauses, GoodClause, GoodFender, Before, label_of, good-lambda, good-case_lambda, good-wider, inner-wider, inits-wider, good-inits, good-letrec, good-clause, good-clauses, good-matching, case-grown, clauses-grown, clauses-sooner}
 use Rattle.sx_expand_laws.proofs.Meanings.{Planned}
@@ -321,11 +322,12 @@ module _ (own : LibName) (given : List Label) (go : Inside) (safe : Safe own giv
 -- So it is inside forms, however deep they may nest.
 pub inside-safe : (own : LibName) (given : List Label) (rs : List LibRecord) (room : ℕ) → Safe own given (inside rs room)
 unfolding inside
-inside-safe own given rs zero = record { moves = inside-moves own rs zero; form = λ place level depth t s vs ls h k. tt; procedure = λ place level depth t ids forms s vs ls h k. tt }
+inside-safe own given rs zero = record { moves = inside-moves own rs zero; nests = inside-nests own rs zero; form = λ place level depth t s vs ls h k. tt; procedure = λ place level depth t ids forms s vs ls h k. tt }
 inside-safe own given rs (suc room) =
     let safe = inside-safe own given rs room in
     record {
       moves = inside-moves own rs (suc room);
+      nests = inside-nests own rs (suc room);
       form = λ place level depth t s vs ls h k. gives-form own given (inside rs room) safe level vs ls place depth t s (h, k);
       procedure = λ place level depth t ids forms s vs ls h k. gives-case own given (inside rs room) safe place level depth t vs ls ids forms s (h, k);
     }

@@ -58,7 +58,7 @@ use Rattle.sx_expand_laws.proofs.SparesBodies.{T, LinesAway, Lines, spares-splic
 use Rattle.sx_expand_laws.proofs.SparesAll.{inside-spares}
 
 -- the state in which the expansion of a record ended: neither its lines nor its keywords share a name with another keyword
-record Ends (own : LibName) (given : List Label) (r : LibRecord) (v : State) : Type 0 where
+pub record Ends (own : LibName) (given : List Label) (r : LibRecord) (v : State) : Type 0 where
   pub kept : KeptGood own given v
   pub bindings : r.bindings ≡ own_bindings v
   pub next : v.names.library ≡ own
@@ -111,11 +111,11 @@ started-begins own records imports codes h = record {
   };
 }
 
-record Ended (own : LibName) (given : List Label) (r : LibRecord) : Type 0 where
+pub record Ended (own : LibName) (given : List Label) (r : LibRecord) : Type 0 where
   pub state : State
   pub ends : Ends own given r state
 
-record-ends : (own : LibName) (path : List ℕ) (records : List LibRecord) (imports : List (List ℕ × Label)) (version : List ℕ) (place : Span) (exports : List (List ℕ × Tree)) (forms : List Tree) (codes : Codes) (r : LibRecord)
+pub record-ends : (own : LibName) (path : List ℕ) (records : List LibRecord) (imports : List (List ℕ × Label)) (version : List ℕ) (place : Span) (exports : List (List ℕ × Tree)) (forms : List Tree) (codes : Codes) (r : LibRecord)
     → IsReady own records → library_record (ready own path records imports codes) records version place exports forms ≡ Ok r → Ended own (flat_map defined records) r
 record-ends own path records imports version place exports forms codes r h e =
     let given = flat_map defined records in

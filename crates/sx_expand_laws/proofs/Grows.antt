@@ -1,20 +1,29 @@
 -- What a library adds to frames and bindings.
-use Rattle.std.proofs.Common.{◌≡◌, Bool, true, false, List, [], ◌∷◌, Some, refl, sym, ◌∙◌, ap, subst, arith, inl, inr}
-use Rattle.std.specs.Prelude.{◌⊎◌, ◌≤◌}
+use Rattle.std.proofs.Common.{◌≡◌, ℕ, Bool, true, false, List, [], ◌∷◌, ◌++◌, map, Some, refl, sym, ◌∙◌, ap, subst, arith, inl, inr, if◌then◌else◌}
+use Rattle.std.specs.Prelude.{◌⊎◌, ◌≤◌, ◌&&◌, is_some, nat_eq}
+use Rattle.std.specs.Cmp.Lexicographic.{pointwise}
+use Rattle.std.proofs.lemmas.Bool.{and_from}
+use Rattle.std.proofs.lemmas.List.{map-append}
+use Rattle.sx_base.specs.Same.{texts_decides}
 use Rattle.sx_base.specs.declared.library.LibName.{LibName}
 use Rattle.sx_base.specs.declared.name.FrameNo.{FrameNo}
 use Rattle.sx_base.specs.declared.name.Label.{Label}
-use Rattle.sx_frames.specs.Rows.{Row}
-use Rattle.sx_frames.specs.Scope.{Scope, rows_at, same_frame, with_row}
+use Rattle.sx_base.specs.declared.name.Mark.{Mark}
+use Rattle.sx_tree.specs.SameMarks.{same_marks, same_marks_decides}
+use Rattle.sx_tree.specs.Tree.{Tree}
+use Rattle.sx_frames.specs.Rows.{Row, is_of, label_in}
+use Rattle.sx_frames.specs.Scope.{Scope, rows_at, same_frame, label_at, with_row}
 use Rattle.sx_frames.proofs.FrameLaws.{rows_at-with_row, rows_at-other}
 use Rattle.sx_frames.proofs.MemoLemmas.{same_frame_is}
 use Rattle.sx_frames.proofs.ScopeLemmas.{same_frame-self}
 use Rattle.sx_core.specs.Bindings.{bound_to}
 use Rattle.sx_core.specs.declared.binding.Binding.{Binding}
-use Rattle.sx_core_laws.specs.Words.{Among}
+use Rattle.sx_core_laws.specs.Words.{Among, Once}
+use Rattle.sx_quasi_code.specs.Inserted.{dots, ellipsis}
+use Rattle.sx_scope.specs.Stands.{row_for}
 use Rattle.sx_standing.specs.State.{State}
-use Rattle.sx_expand_laws.specs.States.{IsOwn, IsOwnOrEllipsis, Shows, IsAdded, IndicesApart, Grows}
-use Rattle.sx_expand_laws.proofs.Fresh.{among-parts, among-first}
+use Rattle.sx_expand_laws.specs.States.{IsOwn, IsOwnOrEllipsis, IsBound, Shows, IsAdded, IndicesApart, row_key, AreKeyed, RowsAreBound, Grows}
+use Rattle.sx_expand_laws.proofs.Fresh.{among-parts, among-first, once-append}
 
 -- a frame that keeps its rows shows what it showed
 pub shows-more : (rs more : List Row) (l : Label) → ((r : Row) → Among rs r → Among more r) → Shows rs l → Shows more l
@@ -27,6 +36,10 @@ module _ (own : LibName) where
     apart = λ l m v w i o q e d k r. h.apart l m v w i o q (ap (λ bs. bound_to bs l) (sym b) ∙ e) (ap (λ bs. bound_to bs m) (sym b) ∙ d) k r;
   }
 
+  shown-same : (s t : State) → t.bindings ≡ s.bindings → (r : Row) → IsBound s r.label ⊎ (r ≡ row_for dots ellipsis) → IsBound t r.label ⊎ (r ≡ row_for dots ellipsis)
+  shown-same s t b r (inl x) = inl (x.0, subst (λ bs. bound_to bs r.label ≡ Some x.0) (sym b) x.1)
+  shown-same s t b r (inr e) = inr e
+
   -- where frames, bindings and the next index are the same
   pub grows-same : (s t : State) → t.frames ≡ s.frames → t.bindings ≡ s.bindings → t.index ≡ s.index → s.names.number ≤ t.names.number → Grows own s t
   grows-same s t f b x up = record {
@@ -36,6 +49,8 @@ module _ (own : LibName) where
     bound = λ l y e. subst (λ bs. bound_to bs l ≡ Some y) (sym b) e;
     indices = indices-same s t b x;
     numbered = λ h l y o e. let lt = h l y o (subst (λ bs. bound_to bs l ≡ Some y) b e) in omega (arith, lt, up);
+    keyed = λ h. subst (AreKeyed own) (sym f) h;
+    shown = λ h g r a o. shown-same s t b r (h g r (subst (λ fs. Among (rows_at g fs) r) f a) o);
   }
 
   pub grows-self : (s : State) → Grows own s s
@@ -49,6 +64,8 @@ module _ (own : LibName) where
     bound = λ l b e. k.bound l b (h.bound l b e);
     indices = λ a. k.indices (h.indices a);
     numbered = λ n. k.numbered (h.numbered n);
+    keyed = λ n. k.keyed (h.keyed n);
+    shown = λ n. k.shown (h.shown n);
   }
     where
       by_row : (f : FrameNo) (r : Row) → Among (rows_at f t.frames) r ⊎ IsOwnOrEllipsis own r → Among (rows_at f s.frames) r ⊎ IsOwnOrEllipsis own r
@@ -87,3 +104,45 @@ module _ (fs : Scope) (f : FrameNo) (r : Row) where
           last is (among-parts (rows_at f fs) (r ∷ []) x
           (subst (λ (rs : List Row). Among rs x) (rows_at-with_row fs f r) (subst (λ (h : FrameNo). Among (rows_at h (with_row fs f r)) x) is a)))
       by false e = inl (subst (λ (rs : List Row). Among rs x) (rows_at-other fs f g r (apart g e)) a)
+
+-- a symbol under marks that a row has is found
+key-found : (rs : List Row) (x : List ℕ) (ms : List Mark) → Among (map row_key rs) (x, ms) → is_some (label_in rs x ms) ≡ true
+key-found [] x ms a = elim a [ ]
+key-found (r ∷ rs) x ms (inl e) =
+    let text = (texts_decides x r.symbol).1 (ap (λ (k : List ℕ × List Mark). k.0) e) in
+    let marks = (same_marks_decides ms r.marks).1 (ap (λ (k : List ℕ × List Mark). k.1) e) in
+    ap (λ b. is_some (if b then Some r.label else label_in rs x ms)) (and_from (pointwise nat_eq x r.symbol) (same_marks ms r.marks) text marks)
+key-found (r ∷ rs) x ms (inr a) = by (is_of x ms r) (key-found rs x ms a)
+  where
+    by : (b : Bool) → is_some (label_in rs x ms) ≡ true → is_some (if b then Some r.label else label_in rs x ms) ≡ true
+    by true e = refl
+    by false e = e
+
+-- where a frame has no row of its symbol and marks, all rows stay keyed
+pub keyed-with-row : (own : LibName) (fs : Scope) (f : FrameNo) (r : Row) → is_some (label_at fs f r.symbol r.marks) ≡ false → AreKeyed own fs → AreKeyed own (with_row fs f r)
+keyed-with-row own fs f r new h g o = by (same_frame g f) refl
+  where
+    never : (k : List ℕ × List Mark) → Among (map row_key (rows_at f fs)) k → Among (row_key r ∷ []) k → ⊥
+    never k a (inl e) =
+        let there = key-found (rows_at f fs) r.symbol r.marks (subst (Among (map row_key (rows_at f fs))) e a) in
+        let bad : false ≡ true = sym new ∙ there in absurd (cc)
+    never k a (inr b) = elim b [ ]
+
+    last : IsOwn own f.0 → Once (map row_key (rows_at f fs ++ r ∷ []))
+    last mine = subst Once (sym (map-append row_key (rows_at f fs) (r ∷ []))) (once-append (map row_key (rows_at f fs)) (row_key r ∷ []) (h f mine) ((λ a. a), tt) never)
+
+    by : (b : Bool) → same_frame g f ≡ b → Once (map row_key (rows_at g (with_row fs f r)))
+    by true e = subst (λ (x : FrameNo). Once (map row_key (rows_at x (with_row fs f r)))) (sym (same_frame_is g f e)) (subst (λ (rs : List Row). Once (map row_key rs)) (sym (rows_at-with_row fs f r)) (last (subst (λ (x : FrameNo). IsOwn own x.0) (same_frame_is g f e) o)))
+    by false e = subst (λ (rs : List Row). Once (map row_key rs)) (sym (rows_at-other fs f g r (apart fs f r g e))) (h g o)
+
+-- a row for a label that is bound
+pub shown-with-row : (own : LibName) (s t : State) (f : FrameNo) (id : Tree) (l : Label) → t.frames ≡ with_row s.frames f (row_for id l) → ((m : Label) → IsBound s m → IsBound t m) → IsBound t l → RowsAreBound own s → RowsAreBound own t
+shown-with-row own s t f id l is kept bound h g r a o = by (row-new s.frames f (row_for id l) g r (subst (λ fs. Among (rows_at g fs) r) is a))
+  where
+    still : IsBound s r.label ⊎ (r ≡ row_for dots ellipsis) → IsBound t r.label ⊎ (r ≡ row_for dots ellipsis)
+    still (inl x) = inl (kept r.label x)
+    still (inr e) = inr e
+
+    by : Among (rows_at g s.frames) r ⊎ (r ≡ row_for id l) → IsBound t r.label ⊎ (r ≡ row_for dots ellipsis)
+    by (inl b) = still (h g r b o)
+    by (inr e) = inl (subst (λ (x : Row). IsBound t x.label) (sym e) bound)

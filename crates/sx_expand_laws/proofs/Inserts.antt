@@ -20,12 +20,12 @@ use Rattle.sx_quasi_code.specs.Inserted.{dots, ellipsis, insert_variable, insert
 use Rattle.sx_standing.specs.Binders.{row_put, put_row}
 use Rattle.sx_standing.specs.Patterns.{bind_pattern}
 use Rattle.sx_standing.specs.State.{State, fresh}
-use Rattle.sx_expand_laws.specs.States.{IsOwn, IsOwnOrEllipsis, IsPattern, IsNumbered, Keeps, Grows, Adds, Later, LaterBut}
+use Rattle.sx_expand_laws.specs.States.{IsOwn, IsOwnOrEllipsis, IsPattern, IsNumbered, Keeps, Grows, Adds, Later, LaterBut, IsBound, RowsAreBound}
 use Rattle.sx_expand_laws.proofs.Acts.{Gave, gave-after, gave-less, gave-each}
 use Rattle.sx_expand_laws.proofs.BindingKeywords.{BindsPatterns, binds-patterns, pattern-are, pattern-adds-so}
 use Rattle.sx_expand_laws.proofs.Compiled.{variable_label, variable_depth}
 use Rattle.sx_expand_laws.proofs.Fresh.{Made, FreshLabels, label_name, fresh-none, fresh-one, fresh-append, fresh-wider}
-use Rattle.sx_expand_laws.proofs.Grows.{row-kept, row-new}
+use Rattle.sx_expand_laws.proofs.Grows.{row-kept, row-new, keyed-with-row}
 use Rattle.sx_expand_laws.proofs.InsertPatterns.{inserts-variables, inserts-literals, inserts-depths}
 use Rattle.sx_expand_laws.proofs.Later.{later-self, later-then, keeps-same, keeps-then, but-then, but-later}
 use Rattle.sx_expand_laws.proofs.Moved.{Names}
@@ -40,12 +40,16 @@ as_compiled vs = record { pattern = inserts_pattern vs; variables = vs }
 abbrev pub with_dots : FrameNo → State → State
 with_dots f s = record s { frames = with_row s.frames f (row_for dots ellipsis) }
 
-pub dots-put : (f : FrameNo) (place : Span) (s : State) → Gave (λ x u. u ≡ with_dots f s) (put_row dots place f ellipsis s)
-dots-put f place s = by (is_some (label_at s.frames f (row_for dots ellipsis).symbol (row_for dots ellipsis).marks))
+-- the frame has no row for it
+abbrev pub IsNewThere : FrameNo → State → Type 0
+IsNewThere f s = is_some (label_at s.frames f (row_for dots ellipsis).symbol (row_for dots ellipsis).marks) ≡ false
+
+pub dots-put : (f : FrameNo) (place : Span) (s : State) → Gave (λ x u. (u ≡ with_dots f s) × IsNewThere f s) (put_row dots place f ellipsis s)
+dots-put f place s = by (is_some (label_at s.frames f (row_for dots ellipsis).symbol (row_for dots ellipsis).marks)) refl
   where
-    by : (b : Bool) → Gave (λ x u. u ≡ with_dots f s) (row_put dots place s (if b then Err (second_binder (symbol_of dots)) else Ok (with_row s.frames f (row_for dots ellipsis))))
-    by true = tt
-    by false = refl
+    by : (b : Bool) → is_some (label_at s.frames f (row_for dots ellipsis).symbol (row_for dots ellipsis).marks) ≡ b → Gave (λ x u. (u ≡ with_dots f s) × IsNewThere f s) (row_put dots place s (if b then Err (second_binder (symbol_of dots)) else Ok (with_row s.frames f (row_for dots ellipsis))))
+    by true e = tt
+    by false e = (refl, e)
 
 module _ (own : LibName) where
   -- New labels.
@@ -97,22 +101,28 @@ module _ (own : LibName) where
 
   -- A row for the ellipsis.
 
-  dots-grows : (f : FrameNo) (s : State) → Grows own s (with_dots f s)
-  dots-grows f s = record {
+  dots-grows : (f : FrameNo) (s : State) → IsNewThere f s → Grows own s (with_dots f s)
+  dots-grows f s isnew = record {
     kept = row-kept s.frames f (row_for dots ellipsis);
     rows = λ g r a. by g r (row-new s.frames f (row_for dots ellipsis) g r a);
     bindings = λ l b e. inl e;
     bound = λ l b e. e;
     indices = λ h. record { below = h.below; apart = h.apart };
     numbered = λ h. h;
+    keyed = λ h. keyed-with-row own s.frames f (row_for dots ellipsis) isnew h;
+    shown = λ h g r a o. old h g r o (row-new s.frames f (row_for dots ellipsis) g r a);
   }
     where
+      old : RowsAreBound own s → (g : FrameNo) (r : Row) → IsOwn own r.label.0 → Among (rows_at g s.frames) r ⊎ (r ≡ row_for dots ellipsis) → IsBound s r.label ⊎ (r ≡ row_for dots ellipsis)
+      old h g r o (inl a) = h g r a o
+      old h g r o (inr e) = inr e
+
       by : (g : FrameNo) (r : Row) → Among (rows_at g s.frames) r ⊎ (r ≡ row_for dots ellipsis) → Among (rows_at g s.frames) r ⊎ IsOwnOrEllipsis own r
       by g r (inl a) = inl a
       by g r (inr e) = inr (inr e)
 
-  dots-but : (f : FrameNo) (s : State) → Names own s → LaterBut own f s (with_dots f s)
-  dots-but f s n = record { here = refl; next = n; up = omega arith; same = λ g o d. rows_at-other s.frames f g (row_for dots ellipsis) d; grows = dots-grows f s }
+  dots-but : (f : FrameNo) (s : State) → Names own s → IsNewThere f s → LaterBut own f s (with_dots f s)
+  dots-but f s n isnew = record { here = refl; next = n; up = omega arith; same = λ g o d. rows_at-other s.frames f g (row_for dots ellipsis) d; grows = dots-grows f s isnew }
 
   -- Both.
 
@@ -122,13 +132,14 @@ module _ (own : LibName) where
     pub variables : State
     pub binds : BindsPatterns own f level labels vs variables
     pub row : u ≡ with_dots f variables
+    pub isnew : IsNewThere f variables
 
   pub inserts-bound : (f : FrameNo) (place : Span) (level : ℕ) (vs : List PatternVariable) (s t : State) → Patterned own s (as_compiled vs) t → Gave (λ x u. BindsInserts f level s vs u) (bind_inserts f place level vs t)
   inserts-bound f place level vs s t h =
       gave-after (λ x u. BindsPatterns own f level t vs u) (λ x u. BindsInserts f level s vs u) (bind_pattern f place level vs t) (λ _. put_row dots place f ellipsis)
       (binds-patterns own f level place vs t h.later.next (mapped vs h.compiles.fresh.made))
-      (λ x u b. gave-less (λ y v. v ≡ with_dots f u) (λ y v. BindsInserts f level s vs v) (put_row dots place f ellipsis u) (dots-put f place u)
-      (λ y v e. record { labels = t; patterned = h; variables = u; binds = b; row = e }))
+      (λ x u b. gave-less (λ y v. (v ≡ with_dots f u) × IsNewThere f u) (λ y v. BindsInserts f level s vs v) (put_row dots place f ellipsis u) (dots-put f place u)
+      (λ y v e. record { labels = t; patterned = h; variables = u; binds = b; row = e.0; isnew = e.1 }))
     where
       mapped : (ws : List PatternVariable) → Each (λ (l : Label). Made own s.names.number t.names.number l.0) (map variable_label ws) → Each (λ (w : PatternVariable). IsOwn own w.label.0 × (w.label.0.number < t.names.number)) ws
       mapped [] m = tt
@@ -145,7 +156,7 @@ module _ (own : LibName) where
       let first = but-then own f s b.labels v (but-later own f s b.labels b.patterned.later) b.binds.later in
       let keeps = keeps-then own s b.labels v b.patterned.later.up b.binds.later.up b.patterned.later.keeps b.binds.keeps in
       subst (λ (x : State). LaterBut own f s x × (Adds own false (map variable_label vs) (map variable_depth vs) s x × Keeps own s x)) (sym b.row) (
-        but-then own f s v w first (dots-but f v first.next),
+        but-then own f s v w first (dots-but f v first.next b.isnew),
         (
           dots-adds f level vs s v (pattern-adds-so own f level (as_compiled vs) s b.labels v b.patterned b.binds),
           keeps-then own s v w first.up (omega arith) keeps (keeps-same own v w refl refl),

@@ -77,16 +77,16 @@ pub record Takes (own : LibName) (f : FrameNo) (top : Bool) (start s : State) (d
   pub took : Took own top start d t
   pub keeps : Keeps own s t
 
-map-append : {A B : Type 0} (g : A → B) (xs ys : List A) → map g (xs ++ ys) ≡ map g xs ++ map g ys
+pub map-append : {A B : Type 0} (g : A → B) (xs ys : List A) → map g (xs ++ ys) ≡ map g xs ++ map g ys
 map-append g [] ys = refl
 map-append g (x ∷ xs) ys = ap (λ zs. g x ∷ zs) (map-append g xs ys)
 
-kinds-none : (ks : List (Option Label)) → kind_labels (ks ++ None ∷ []) ≡ kind_labels ks
+pub kinds-none : (ks : List (Option Label)) → kind_labels (ks ++ None ∷ []) ≡ kind_labels ks
 kinds-none [] = refl
 kinds-none (None ∷ ks) = kinds-none ks
 kinds-none (Some l ∷ ks) = ap (λ ls. l ∷ ls) (kinds-none ks)
 
-kinds-some : (ks : List (Option Label)) (l : Label) → kind_labels (ks ++ Some l ∷ []) ≡ kind_labels ks ++ l ∷ []
+pub kinds-some : (ks : List (Option Label)) (l : Label) → kind_labels (ks ++ Some l ∷ []) ≡ kind_labels ks ++ l ∷ []
 kinds-some [] l = refl
 kinds-some (None ∷ ks) l = kinds-some ks l
 kinds-some (Some m ∷ ks) l = ap (λ ls. m ∷ ls) (kinds-some ks l)
@@ -307,7 +307,7 @@ module _ (own : LibName) (rs : List LibRecord) (start : State) where
   abbrev pub Steps : {A : Type 0} → BodyAt → State → Taken × A → State → Type 0
   Steps at s p u = Takes own at.frame (is_top at.kind) start s p.0 u
 
-  takes-moved : (at : BodyAt) (s t u : State) (d : Taken) → Takes own at.frame (is_top at.kind) start s d t → Later own t u → Takes own at.frame (is_top at.kind) start s d u
+  pub takes-moved : (at : BodyAt) (s t u : State) (d : Taken) → Takes own at.frame (is_top at.kind) start s d t → Later own t u → Takes own at.frame (is_top at.kind) start s d u
   takes-moved at s t u d h k = record { later = but-then own at.frame s t u h.later (but-later own at.frame t u k); took = took-later own (is_top at.kind) start d t u k.up (adds-later own (is_top at.kind) t u k) h.took; keeps = keeps-then own s t u h.later.up k.up h.keeps k.keeps }
 
   module _ (depth : ℕ) where
@@ -325,7 +325,7 @@ module _ (own : LibName) (rs : List LibRecord) (start : State) where
         gave-after (λ b v. Later own u v) (Steps {A = ItemStep} at s) (asks_variable rs (place_of t at.place) l u) (set_item_step at depth d t l) (asks-later own rs (place_of t at.place) l u h.later.next)
         (λ b v k. set-steps at d t l b s v (takes-moved at s u v d h k))
 
-    step-takes : (at : BodyAt) (d : Taken) (t : Tree) (s : State) → s.names.library ≡ own → (is_top at.kind ≡ true → at.level ≡ 0) → Took own (is_top at.kind) start d s → Gave (Steps {A = ItemStep} at s) (item_step rs at depth d t s)
+    pub step-takes : (at : BodyAt) (d : Taken) (t : Tree) (s : State) → s.names.library ≡ own → (is_top at.kind ≡ true → at.level ≡ 0) → Took own (is_top at.kind) start d s → Gave (Steps {A = ItemStep} at s) (item_step rs at depth d t s)
     unfolding item_step
     step-takes at d t s n low k =
         gave-after (Comes own start at s) (Steps {A = ItemStep} at s) (item_plan at depth d t s) (λ p. item_step_of rs at depth t p.0 p.1) (takes-item own start at s n low depth d t k) (λ p u h. steps-of at t p.0 p.1 s u h)

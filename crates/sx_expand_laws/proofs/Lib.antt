@@ -24,6 +24,12 @@ pub mod QuasiLater
 pub mod Settled
 pub mod Items
 pub mod Changes
+pub mod Nesting
+pub mod NestingBinding
+pub mod NestingItems
+pub mod NestingBodies
+pub mod NestingQuasi
+pub mod NestingForms
 pub mod Meanings
 pub mod Expand
 pub mod SettledPlans
@@ -49,3 +55,8 @@ pub mod SparesForms
 pub mod SparesAll
 pub mod GoodKeywords
 pub mod Replaced
+pub mod Shallow
+pub mod BoundVariables
+pub mod Variables
+pub mod RunReferences
+pub mod Behind

@@ -25,7 +25,7 @@ use Rattle.sx_standing.specs.State.{State, fresh, fault_form}
 use Rattle.sx_expand_laws.specs.States.{IsOwn, IsOwnOrEllipsis, IsAdded, IsTop, IsPattern, IsUnbound, IsNumbered, IndicesApart, Grows, Keeps, Adds, Later, LaterBut}
 use Rattle.sx_expand_laws.proofs.Acts.{Gave, gave-if}
 use Rattle.sx_expand_laws.proofs.Fresh.{Made, each-append, each-at, each-map, among-parts}
-use Rattle.sx_expand_laws.proofs.Grows.{grows-same, grows-then, row-kept, row-new}
+use Rattle.sx_expand_laws.proofs.Grows.{grows-same, grows-then, row-kept, row-new, keyed-with-row, shown-with-row}
 use Rattle.sx_expand_laws.proofs.Scope.{binder-behind}
 use Rattle.sx_expand_laws.proofs.Later.{bound-more, bound-kept, bound-last, keeps-same, keeps-more}
 
@@ -109,9 +109,9 @@ module _ (own : LibName) where
       by (inr p) = subst (λ (y : Label). y.0.number < s.names.number) (sym p.0) lt
 
   -- the binding of what is no variable
-  pub other-grows : (s : State) (f : FrameNo) (id : Tree) (l : Label) (x : Binding) (ls : List Label) → IsAdded x → ((v : VarInfo) → x ≡ binding.Variable v → ⊥) → IsOwn own l.0 → l.0.number < s.names.number
+  pub other-grows : (s : State) (f : FrameNo) (id : Tree) (l : Label) (x : Binding) (ls : List Label) → IsAdded x → ((v : VarInfo) → x ≡ binding.Variable v → ⊥) → IsOwn own l.0 → l.0.number < s.names.number → is_some (label_at s.frames f (row_for id l).symbol (row_for id l).marks) ≡ false
       → Grows own s (record s { frames = with_row s.frames f (row_for id l); bindings = s.bindings ++ (l, x) ∷ []; scope = ls })
-  other-grows s f id l x ls added other mine lt = record {
+  other-grows s f id l x ls added other mine lt new = record {
     kept = row-kept s.frames f (row_for id l);
     rows = added-row s f id l mine;
     bindings = added-binding s l x mine added;
@@ -121,6 +121,8 @@ module _ (own : LibName) where
       apart = λ m j w y i o q e d k r. h.apart m j w y i o q (before m w e) (before j y d) k r;
     };
     numbered = λ h. added-numbered s l x lt h;
+    keyed = λ h. keyed-with-row own s.frames f (row_for id l) new h;
+    shown = λ h. shown-with-row own s (record s { frames = with_row s.frames f (row_for id l); bindings = s.bindings ++ (l, x) ∷ []; scope = ls }) f id l refl (λ m b. (b.0, bound-kept s.bindings l m x b.0 b.1)) (bound-last s.bindings l x) h;
   }
     where
       before : (m : Label) (w : VarInfo) → bound_to (s.bindings ++ (l, x) ∷ []) m ≡ Some (binding.Variable w) → bound_to s.bindings m ≡ Some (binding.Variable w)
@@ -130,14 +132,16 @@ module _ (own : LibName) where
           by (inl e) = e
           by (inr p) = absurd (other w p.1)
 
-  variable-grows : (s : State) (f : FrameNo) (id : Tree) (l : Label) (v : VarInfo) → v.index ≡ index_at v.level s.index → IsOwn own l.0 → l.0.number < s.names.number → Grows own s (with_variable f id l v s)
-  variable-grows s f id l v ix mine lt = record {
+  variable-grows : (s : State) (f : FrameNo) (id : Tree) (l : Label) (v : VarInfo) → v.index ≡ index_at v.level s.index → IsOwn own l.0 → l.0.number < s.names.number → is_some (label_at s.frames f (row_for id l).symbol (row_for id l).marks) ≡ false → Grows own s (with_variable f id l v s)
+  variable-grows s f id l v ix mine lt new = record {
     kept = row-kept s.frames f (row_for id l);
     rows = added-row s f id l mine;
     bindings = added-binding s l (binding.Variable v) mine tt;
     bound = λ m b e. bound-kept s.bindings l m (binding.Variable v) b e;
     indices = variable-indices s f id l v ix;
     numbered = λ h. added-numbered s l (binding.Variable v) lt h;
+    keyed = λ h. keyed-with-row own s.frames f (row_for id l) new h;
+    shown = λ h. shown-with-row own s (with_variable f id l v s) f id l refl (λ m b. (b.0, bound-kept s.bindings l m (binding.Variable v) b.0 b.1)) (bound-last s.bindings l (binding.Variable v)) h;
   }
 
   -- what comes into scope is bound, where it is the label that was bound or was in scope
@@ -202,16 +206,16 @@ module _ (own : LibName) where
     pub adds : Adds own top (l ∷ []) [] s t
     pub keeps : Keeps own s t
 
-  variable-binds : (s : State) (f : FrameNo) (id : Tree) (v : VarInfo) → v.index ≡ index_at v.level s.index → (v.top ≡ true → v.level ≡ 0) → s.names.library ≡ own
+  variable-binds : (s : State) (f : FrameNo) (id : Tree) (v : VarInfo) → v.index ≡ index_at v.level s.index → (v.top ≡ true → v.level ≡ 0) → s.names.library ≡ own → is_some (label_at s.frames f (row_for id (as_label s.names)).symbol (row_for id (as_label s.names)).marks) ≡ false
       → Binds f v.top s (as_label s.names) (with_variable f id (as_label s.names) v (counted s))
-  variable-binds s f id v ix low n =
+  variable-binds s f id v ix low n new =
       record {
         later = record {
           here = refl;
           next = n;
           up = omega arith;
           same = λ g o d. rows_at-other s.frames f g (row_for id (as_label s.names)) d;
-          grows = grows-then own s (counted s) (with_variable f id (as_label s.names) v (counted s)) (grows-same own s (counted s) refl refl refl (omega arith)) (variable-grows (counted s) f id (as_label s.names) v ix n (omega arith));
+          grows = grows-then own s (counted s) (with_variable f id (as_label s.names) v (counted s)) (grows-same own s (counted s) refl refl refl (omega arith)) (variable-grows (counted s) f id (as_label s.names) v ix n (omega arith) new);
         };
         label = refl;
         up = refl;
@@ -222,9 +226,9 @@ module _ (own : LibName) where
   pub binds : (f : FrameNo) (place : Span) (level : ℕ) (top : Bool) (id : Tree) (s : State) → (top ≡ true → level ≡ 0) → s.names.library ≡ own → Gave (Binds f top s) (bind_variable f place level top id s)
   unfolding bind_variable fresh
   binds f place level top id s low n =
-      gave-if (Binds f top s) (is_leaf id) (after (fresh s) (bind_as f id place level top)) (fault_form kind.BadForm id place s) (λ e. by_row (is_some (label_at s.frames f (row_for id (as_label s.names)).symbol (row_for id (as_label s.names)).marks))) (λ e. tt)
+      gave-if (Binds f top s) (is_leaf id) (after (fresh s) (bind_as f id place level top)) (fault_form kind.BadForm id place s) (λ e. by_row (is_some (label_at s.frames f (row_for id (as_label s.names)).symbol (row_for id (as_label s.names)).marks)) refl) (λ e. tt)
     where
-      by_row : (b : Bool)
+      by_row : (b : Bool) → is_some (label_at s.frames f (row_for id (as_label s.names)).symbol (row_for id (as_label s.names)).marks) ≡ b
           → Gave (Binds f top s) (after (row_put id place (counted s) (if b then Err (second_binder (symbol_of id)) else Ok (with_row s.frames f (row_for id (as_label s.names))))) (λ _ t. after (put_variable (as_label s.names) (variable_for id level top (counted s).index) t) (λ _. give (as_label s.names))))
-      by_row true = tt
-      by_row false = variable-binds s f id (variable_for id level top s.index) refl low n
+      by_row true d = tt
+      by_row false d = variable-binds s f id (variable_for id level top s.index) refl low n d

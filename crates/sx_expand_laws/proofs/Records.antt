@@ -6,6 +6,7 @@ use Rattle.sx_base.specs.Act.{after}
 use Rattle.sx_base.specs.Named.{Named}
 use Rattle.sx_base.specs.declared.fault.Fault.{Fault}
 use Rattle.sx_base.specs.declared.library.LibName.{LibName}
+use Rattle.sx_base.specs.declared.library.LibName.TheVariants as library
 use Rattle.sx_base.specs.declared.name.Label.{Label}
 use Rattle.sx_base.specs.declared.span.Span.{Span}
 use Rattle.sx_tree.specs.Changes.{stamp}
@@ -17,9 +18,10 @@ use Rattle.sx_core.specs.declared.binding.Binding.{Binding}
 use Rattle.sx_core.specs.declared.binding.Binding.TheVariants as binding
 use Rattle.sx_core.specs.declared.binding.VarInfo.{VarInfo}
 use Rattle.sx_core.specs.declared.record.LibRecord.{LibRecord}
+use Rattle.sx_core.specs.declared.record.Line.{Line}
 use Rattle.sx_core_laws.specs.Words.{Each, Among, Once}
 use Rattle.sx_core_laws.specs.Parts.{code_numbers}
-use Rattle.sx_core_laws.specs.Records.{defined, line_labels, run_binders}
+use Rattle.sx_core_laws.specs.Records.{defined, line_core, line_labels, run_binders}
 use Rattle.sx_core_laws.specs.Follows.{line_cores}
 use Rattle.sx_eval.specs.Codes.{Codes}
 use Rattle.sx_standing.specs.Own.{own_bindings}
@@ -37,8 +39,8 @@ use Rattle.sx_expand_laws.specs.Good.{RecordsAreGood}
 use Rattle.sx_expand_laws.specs.Indices.{bound_index}
 use Rattle.sx_expand_laws.proofs.Indices.{indices-once}
 use Rattle.sx_expand_laws.specs.Ready.{IsReady}
-use Rattle.sx_expand_laws.specs.States.{IsOwn, IsForeign, IsTop, Sound, Keeps, Grows, Adds, Reach}
-use Rattle.sx_expand_laws.proofs.Acts.{Gave, gave-after, gave-less}
+use Rattle.sx_expand_laws.specs.States.{IsOwn, IsForeign, IsTop, Sound, Keeps, Grows, Adds, Reach, Later}
+use Rattle.sx_expand_laws.proofs.Acts.{Gave, gave-after, gave-both, gave-less}
 use Rattle.sx_expand_laws.proofs.Fresh.{Made, FreshLabels, each-map, among-parts, among-first, among-second}
 use Rattle.sx_expand_laws.proofs.Grows.{grows-same, grows-then}
 use Rattle.sx_expand_laws.proofs.Shown.{IsShown, shown-later}
@@ -48,9 +50,12 @@ use Rattle.sx_expand_laws.proofs.Top.{GoodRun, SameScope, AreShown, kinds-define
 use Rattle.sx_expand_laws.proofs.Good.{InTurn}
 use Rattle.sx_expand_laws.proofs.LineLabels.{kind_labels}
 use Rattle.sx_expand_laws.proofs.Lines.{GoodLine}
-use Rattle.sx_expand_laws.proofs.Items.{wait_kinds, Took, Takes}
+use Rattle.sx_expand_laws.proofs.Items.{wait_kinds, Took}
 use Rattle.sx_expand_laws.proofs.Meanings.{reach-more, reach-added}
-use Rattle.sx_expand_laws.proofs.Changes.{first-takes}
+use Rattle.sx_expand_laws.proofs.Nesting.{IsDefined, Within, defined-grown}
+use Rattle.sx_expand_laws.proofs.NestingBinding.{Pairs, pairs-each}
+use Rattle.sx_expand_laws.proofs.NestingBodies.{LineWithin, lines-nest, Splices, first-nests}
+use Rattle.sx_expand_laws.proofs.NestingItems.{IsDeep}
 use Rattle.sx_expand_laws.proofs.Expand.{Safe, Starts}
 use Rattle.sx_expand_laws.proofs.Bodies.{GivesLines, gives-lines}
 use Rattle.sx_expand_laws.proofs.Forms.{inside-safe}
@@ -72,6 +77,16 @@ pub record Runs (own : LibName) (given : List Label) (start : State) (r : LibRec
   pub frames : r.frames ≡ rows_in r.name ended.frames
   pub exports : AreShown ended.frames r.exports
   pub tops : (l : Label) (v : VarInfo) → IsOwn own l.0 → IsTop ended l v → Among (defined r) l
+  pub nests : Each (λ x. Within ended.bindings 0 0 2404 (line_core x)) r.run
+  pub labels : Each (IsDefined ended.bindings 0 true) (defined r)
+
+-- libraries and programs define at the top
+always-top : (own : LibName) → is_top (kind_of own) ≡ true
+always-top library.Core = refl
+always-top library.Derived = refl
+always-top library.Prelude = refl
+always-top library.Program = refl
+always-top (library.User parts) = refl
 
 -- behind a state in which nothing is in scope and no label of the library is bound
 module _ (own : LibName) (given : List Label) (go : Inside) (safe : Safe own given go) (start : State) (sound : Sound own given start) (blank : start.scope ≡ [])
@@ -85,6 +100,11 @@ module _ (own : LibName) (given : List Label) (go : Inside) (safe : Safe own giv
     pub took : Took own Top start d s
     pub grows : Grows own start s
     pub keeps : Keeps own start s
+    pub deep : Each (IsDeep 0) d.waiting
+    pub labels : Each (IsDefined s.bindings 0 true) (kind_labels (wait_kinds d.waiting))
+
+  abbrev Pairs-at : Taken → State → List Line → Type 0
+  Pairs-at d v xs = Pairs (LineWithin v.bindings 0 0) d.waiting xs
 
   -- the exports leave what was taken
   took-same : (d : Taken) (s t : State) → SameScope s t → Done d s → Done d t
@@ -99,6 +119,8 @@ module _ (own : LibName) (given : List Label) (go : Inside) (safe : Safe own giv
     };
     grows = grows-then own start s t k.grows grows;
     keeps = keeps-then own start s t k.took.up (let e = ap (λ (n : Named). n.number) h.names in omega (arith, e)) k.keeps (keeps-same own s t h.bindings h.keywords);
+    deep = k.deep;
+    labels = subst (λ bs. Each (IsDefined bs 0 true) (kind_labels (wait_kinds d.waiting))) (sym h.bindings) k.labels;
   }
     where
       grows : Grows own s t
@@ -140,9 +162,12 @@ module _ (own : LibName) (given : List Label) (go : Inside) (safe : Safe own giv
   gives-record at es d t h shown =
       let labels = kind_labels (wait_kinds d.waiting) in
       let took = h.took in
-      gave-after (GivesLines own given go safe 0 [] (given ++ labels) d.waiting t) (λ r v. Runs own given start r) (finish_all go 0 d.waiting t) (λ lines. give_record at es lines)
+      gave-after (λ xs v. GivesLines own given go safe 0 [] (given ++ labels) d.waiting t xs v × Pairs-at d v xs) (λ r v. Runs own given start r) (finish_all go 0 d.waiting t) (λ lines. give_record at es lines)
+      (gave-both (GivesLines own given go safe 0 [] (given ++ labels) d.waiting t) (λ xs v. Pairs-at d v xs) (finish_all go 0 d.waiting t)
       (gives-lines own given go safe 0 [] (given ++ labels) d.waiting t (starts-top labels d t h took.adds))
-      (λ xs v k.
+      (gave-less (λ xs v. Later own t v × Pairs (LineWithin v.bindings 0 0) d.waiting xs) (λ xs v. Pairs-at d v xs) (finish_all go 0 d.waiting t)
+      (lines-nest own go safe.nests 0 0 d.waiting t h.deep (h.next, h.grows.numbered sound.numbered)) (λ xs v j. j.1)))
+      (λ xs v both. let k = both.0 in
       let is : labels ≡ flat_map line_labels xs = sym (kinds-defined xs ∙ ap kind_labels k.kinds) in
       record {
         first = start.names.number;
@@ -162,6 +187,8 @@ module _ (own : LibName) (given : List Label) (go : Inside) (safe : Safe own giv
         frames = refl;
         exports = each-map (λ (e : List ℕ × Label). IsShown t.frames e.1) (λ (e : List ℕ × Label). IsShown v.frames e.1) es shown (λ e j. shown-later own t v e.1 k.later.grows j);
         tops = λ l w o b. subst (λ (ls : List Label). Among ls l) is (new-top labels l w o (took.adds.tops l w o (k.later.tops l w o b)));
+        nests = pairs-each (LineWithin v.bindings 0 0) (λ x. Within v.bindings 0 0 2404 (line_core x)) (λ w x j. j.0) d.waiting xs both.1;
+        labels = subst (Each (IsDefined v.bindings 0 true)) is (each-map (IsDefined t.bindings 0 true) (IsDefined v.bindings 0 true) labels h.labels (λ l j. defined-grown t.bindings v.bindings k.later.grows.bound 0 true l j));
       })
 
   gives-finished : (at : TopAt) (es : List (List ℕ × Tree)) (d : Taken) (s : State) → Done d s → Gave (λ r v. Runs own given start r) (finished go at es d s)
@@ -174,9 +201,17 @@ module _ (own : LibName) (given : List Label) (go : Inside) (safe : Safe own giv
   unfolding top first_pass
   gives-top at es forms =
       gave-after Done (λ r v. Runs own given start r) (splice go (body_at at start.library) 0 begun (map (stamp at.frame) forms) start) (finished go at es)
-      (gave-less (Takes own at.frame Top start start) Done (splice go (body_at at start.library) 0 begun (map (stamp at.frame) forms) start)
-      (first-takes own go safe.moves (body_at at start.library) 0 (map (stamp at.frame) forms) start sound.next (λ e. refl))
-      (λ d t k. record { here = k.later.here; next = k.later.next; took = k.took; grows = k.later.grows; keeps = k.keeps }))
+      (gave-less (Splices own go safe.nests (body_at at start.library) 0 start start) Done (splice go (body_at at start.library) 0 begun (map (stamp at.frame) forms) start)
+      (first-nests own go safe.nests (body_at at start.library) 0 (map (stamp at.frame) forms) start (sound.next, sound.numbered) (λ e. refl))
+      (λ d t k. record {
+        here = k.takes.later.here;
+        next = k.takes.later.next;
+        took = k.takes.took;
+        grows = k.takes.later.grows;
+        keeps = k.takes.keeps;
+        deep = k.waiting.deep;
+        labels = subst (λ (top : Bool). Each (IsDefined t.bindings 0 top) (kind_labels (wait_kinds d.waiting))) (always-top start.library) k.waiting.labels;
+      }))
       (λ d t k. gives-finished at es d t k)
 
 in-record : (P : LibRecord → Type 0) (x : Result (LibRecord × State) Fault) (r : LibRecord) → Gave (λ y v. P y) x → record_in x ≡ Ok r → P r

@@ -50,7 +50,7 @@ leaf-shown fs t l e = stamps-shown fs (symbol_of t) (stamps_of t) l e
 
 -- The rows of a library as one list.
 
-among-filter : {A : Type 0} (p : A → Bool) (xs : List A) (x : A) → p x ≡ true → Among xs x → Among (filter p xs) x
+pub among-filter : {A : Type 0} (p : A → Bool) (xs : List A) (x : A) → p x ≡ true → Among xs x → Among (filter p xs) x
 among-filter p [] x h a = elim a [ ]
 among-filter {A} p (y ∷ xs) x h a = by (p y) refl a (among-filter p xs x h)
   where

@@ -29,6 +29,7 @@ use Rattle.sx_expand.specs.Body.{sequence_of}
 use Rattle.sx_expand.specs.Expression.{in_order, application, alternate, conditional, set, in_sequence}
 use Rattle.sx_expand.specs.Inside.{Inside}
 use Rattle.sx_expand.specs.Keywords.{keyword, seen_in, keyword_in, all_keywords, keywords, with_keywords}
+use Rattle.sx_expand_laws.specs.Shallow.{IsShallow}
 use Rattle.sx_expand_laws.specs.States.{IsOwn, Reach, Later}
 use Rattle.sx_expand_laws.proofs.Acts.{Gave, gave-after, gave-less, gave-both, gave-each, gave-within}
 use Rattle.sx_expand_laws.proofs.BindingKeywords.{BindsKeywords, binds-keywords}
@@ -38,6 +39,7 @@ use Rattle.sx_expand_laws.proofs.Good.{Good}
 use Rattle.sx_expand_laws.proofs.Items.{wait_kinds}
 use Rattle.sx_expand_laws.proofs.LineLabels.{kind_labels}
 use Rattle.sx_expand_laws.proofs.Naming.{as_frame, as_label, counted}
+use Rattle.sx_expand_laws.proofs.Nesting.{Within}
 use Rattle.sx_expand_laws.proofs.Uses.{later-apart, finish-later}
 use Rattle.sx_expand_laws.proofs.WellMade.{good-well-made}
 use Rattle.sx_expand_laws.proofs.Spent.{Known, Has, as_code, IsSpent, Tracks, AreUnspent, AwayCore, away-append, away-round, away-later, AwayCase, all-away, away-has, GoodExpression, KeptGood, kept-less, Begins, Onward}
@@ -138,7 +140,7 @@ module _ (own : LibName) (given : List Label) where
 
     -- the expression of a keyword
     abbrev pub Expressed : State → PlainCore → State → Type 0
-    Expressed s c w = O s w × (C w c × Good own w.bindings [] given s.names.number w.names.number c)
+    Expressed s c w = O s w × ((C w c × IsShallow c) × Good own w.bindings [] given s.names.number w.names.number c)
 
     pub has-made : (w : State) (a b : ℕ) (c : PlainCore) (n : Named) → Good own w.bindings [] given a b c → Has c n → Made own a b n
     has-made w a b c n h (inl x) = each-at (λ (l : Label). Made own a b l.0) (binders c) (as_label n) h.binders.made x
@@ -165,14 +167,15 @@ module _ (own : LibName) (given : List Label) where
     expresses place level depth t s b =
         let z : State = record s { scope = [] } in
         let start = nothing-begins s b in
-        gave-after (λ c u. Later own z u × (GivesGood own [] given z c u × Gives C z c u)) (Expressed s) (go.form place (level + 1) depth t z) (restoring s.scope)
-        (gave-both (λ c u. Later own z u) (λ c u. GivesGood own [] given z c u × Gives C z c u) (go.form place (level + 1) depth t z) (spares.safe.moves.form place (level + 1) depth t z b.sound.next)
+        gave-after (λ c u. (Later own z u × Within u.bindings (level + 1) depth 2404 c) × (GivesGood own [] given z c u × Gives C z c u)) (Expressed s) (go.form place (level + 1) depth t z) (restoring s.scope)
+        (gave-both (λ c u. Later own z u × Within u.bindings (level + 1) depth 2404 c) (λ c u. GivesGood own [] given z c u × Gives C z c u) (go.form place (level + 1) depth t z)
+        (gave-both (λ c u. Later own z u) (λ c u. Within u.bindings (level + 1) depth 2404 c) (go.form place (level + 1) depth t z) (spares.safe.moves.form place (level + 1) depth t z b.sound.next) (spares.safe.nests.form place (level + 1) depth t z (b.sound.next, b.sound.numbered)))
         (gave-both (GivesGood own [] given z) (Gives C z) (go.form place (level + 1) depth t z) (spares.safe.form place (level + 1) depth t z [] given start.sound (nothing-reached level s b)) (spares.form place (level + 1) depth t z start)))
         (λ c u h.
         let w : State = record u { scope = s.scope } in
-        let later : Later own s w = later-apart own s u h.0 in
+        let later : Later own s w = later-apart own s u h.0.0 in
         let same = kept-less own given u w (omega arith) (λ k d o e. e) h.1.1.0.0.kept in
-        ((begins-later own given s w later same.0 b, record { up = h.1.1.0.1.up; spent = h.1.1.0.1.spent }), (core-lift u w c same.1 h.1.1.1, h.1.0)))
+        ((begins-later own given s w later same.0 b, record { up = h.1.1.0.1.up; spent = h.1.1.0.1.spent }), ((core-lift u w c same.1 h.1.1.1, (let low = h.0.1.low in omega (arith, low))), h.1.0)))
 
     -- what is kept then
     finished : (s w v : State) (l : Label) (c : PlainCore) → Expressed s c w → Later own w v → TellsBut l c w.keywords v.keywords → O s v
@@ -190,6 +193,7 @@ module _ (own : LibName) (given : List Label) where
           closed = x.1.1.closed;
           well_made = good-well-made own w.bindings [] given s.names.number w.names.number c tt x.1.1;
           here = λ n y. (has-made w s.names.number w.names.number c n x.1.1 y).library;
+          low = x.1.0.1;
         }
 
         good : (k : Label) (d : PlainCore) → IsOwn own k.0 → Known w.keywords k d ⊎ ((k ≡ l) × (d ≡ c)) → GoodExpression own given d
@@ -198,7 +202,7 @@ module _ (own : LibName) (given : List Label) where
 
         -- the new expression shares no name with an old one
         never : (k : Label) (d : PlainCore) (n : Named) → IsOwn own k.0 → Known w.keywords k d → Has d n → Has c n → ⊥
-        never k d n o e y z = (away-has own w c n x.1.0 z).1 (k, (d, (o, (e, y))))
+        never k d n o e y z = (away-has own w c n x.1.0.0 z).1 (k, (d, (o, (e, y))))
 
         apart-so : (k m : Label) (d e : PlainCore) (n : Named) → IsOwn own k.0 → IsOwn own m.0 → Known w.keywords k d ⊎ ((k ≡ l) × (d ≡ c)) → Known w.keywords m e ⊎ ((m ≡ l) × (e ≡ c)) → Has d n → Has e n → k ≡ m
         apart-so k m d e n o p (inl f) (inl g) y z = x.0.0.kept.apart k m d e n o p f g y z

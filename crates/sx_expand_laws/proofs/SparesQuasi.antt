@@ -38,7 +38,7 @@ use Rattle.sx_expand_laws.proofs.Acts.{Gave, gave-after, gave-less, gave-both}
 use Rattle.sx_expand_laws.proofs.Compiled.{variable_label, variable_depth}
 use Rattle.sx_expand_laws.proofs.Fresh.{each-append, each-map}
 use Rattle.sx_expand_laws.proofs.InsertPatterns.{inserts-variables}
-use Rattle.sx_expand_laws.proofs.Inserts.{with_dots, dots-put, Labelled, labelled, labelled-patterned, BindsInserts, inserts-bound, inserts-add, inserts-made}
+use Rattle.sx_expand_laws.proofs.Inserts.{with_dots, IsNewThere, dots-put, Labelled, labelled, labelled-patterned, BindsInserts, inserts-bound, inserts-add, inserts-made}
 use Rattle.sx_expand_laws.proofs.Naming.{as_frame, counted}
 use Rattle.sx_expand_laws.proofs.Plans.{IsTemplate, template-is}
 use Rattle.sx_expand_laws.proofs.QuasiLater.{form-same}
@@ -50,7 +50,7 @@ use Rattle.sx_expand_laws.proofs.SpentOnStage.{Tells}
 inserts-same : (f : FrameNo) (place : Span) (level : ℕ) (vs : List PatternVariable) (s : State) → Gave (Same s) (bind_inserts f place level vs s)
 inserts-same f place level vs s =
     gave-after (Same s) (Same s) (bind_pattern f place level vs s) (λ _. put_row dots place f ellipsis) (bind-pattern-same f place level vs s)
-    (λ x u e. gave-less (λ y v. v ≡ with_dots f u) (Same s) (put_row dots place f ellipsis u) (dots-put f place u) (λ y v k. ap (λ (z : State). z.keywords) k ∙ e))
+    (λ x u e. gave-less (λ y v. (v ≡ with_dots f u) × IsNewThere f u) (Same s) (put_row dots place f ellipsis u) (dots-put f place u) (λ y v k. ap (λ (z : State). z.keywords) k.0 ∙ e))
 
 same-told : (s u : State) → u.keywords ≡ s.keywords → Tells s.keywords u.keywords
 same-told s u same k c e = subst (λ (ks : List (Label × Keyword)). Known ks k c) same e

@@ -20,6 +20,7 @@ use Rattle.sx_core_laws.specs.Words.{Each, Among}
 use Rattle.sx_stage.specs.Stage.{keyword_at, expression_in}
 use Rattle.sx_stage.specs.declared.keyword.Keyword.{Keyword}
 use Rattle.sx_standing.specs.State.{State}
+use Rattle.sx_expand_laws.specs.Shallow.{IsShallow}
 use Rattle.sx_expand_laws.specs.States.{IsOwn, IsTop, Sound}
 use Rattle.sx_expand_laws.proofs.Fresh.{Made, FreshLabels, each-at, each-map, each-append, among-parts}
 use Rattle.sx_expand_laws.proofs.Naming.{as_label, counted}
@@ -172,11 +173,12 @@ module _ (own : LibName) where
   -- The keywords of the library that are kept.
 
   module _ (given : List Label) where
-    -- their expressions are well made, and closed under what others define
+    -- their expressions are well made, closed under what others define, and not too deep
     pub record GoodExpression (c : PlainCore) : Type 0 where
       pub closed : Closed given c
       pub well_made : IsWellMade [] c
       pub here : (n : Named) → Has c n → IsOwn own n
+      pub low : IsShallow c
 
     -- so are all that are kept; their names were made, and no two keywords share one
     pub record KeptGood (s : State) : Type 0 where

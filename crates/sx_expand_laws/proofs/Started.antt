@@ -40,7 +40,7 @@ names-append [] r = refl
 names-append (x ∷ rs) r = ap (λ ns. x.name ∷ ns) (names-append rs r)
 
 -- what holds of the labels of all rows holds of those of one frame
-rows-hold : (P : Label → Type 0) (f : FrameNo) (rows : List FrameRow) → Each (λ (r : FrameRow). P r.label) rows → Each (λ (r : Row). P r.label) (map row_in (filter (λ r. same_frame f r.frame) rows))
+pub rows-hold : (P : Label → Type 0) (f : FrameNo) (rows : List FrameRow) → Each (λ (r : FrameRow). P r.label) rows → Each (λ (r : Row). P r.label) (map row_in (filter (λ r. same_frame f r.frame) rows))
 rows-hold P f [] h = tt
 rows-hold P f (r ∷ rows) h = by (same_frame f r.frame) (rows-hold P f rows h.1)
   where

@@ -158,7 +158,7 @@ module _ (own : LibName) where
     next = h.next;
     up = h.up;
     same = h.same;
-    grows = record { kept = h.grows.kept; rows = h.grows.rows; bindings = h.grows.bindings; bound = h.grows.bound; indices = indices; numbered = h.grows.numbered };
+    grows = record { kept = h.grows.kept; rows = h.grows.rows; bindings = h.grows.bindings; bound = h.grows.bound; indices = indices; numbered = h.grows.numbered; keyed = h.grows.keyed; shown = h.grows.shown };
     scope = refl;
     tops = h.tops;
     keeps = record { kept = h.keeps.kept; keywords = h.keeps.keywords };

@@ -6,6 +6,9 @@ pub mod Stages
 pub mod Indices
 pub mod Good
 pub mod Keywords
+pub mod Shallow
+pub mod Variables
+pub mod Behind
 pub mod Serving
 pub mod Named
 pub mod InScope

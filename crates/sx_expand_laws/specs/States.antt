@@ -1,20 +1,21 @@
 -- The states of an expansion, and how they change.
-use Rattle.std.specs.Prelude.{◌≡◌, ◌≤◌, ◌<◌, ◌⊎◌, ℕ, Bool, true, List, ◌++◌, Option, Some, None}
+use Rattle.std.specs.Prelude.{◌≡◌, ◌≤◌, ◌<◌, ◌⊎◌, ℕ, Bool, true, List, ◌++◌, map, Option, Some, None}
 use Rattle.sx_base.specs.Named.{Named}
 use Rattle.sx_base.specs.Op.{name_count}
 use Rattle.sx_base.specs.declared.library.LibName.{LibName}
 use Rattle.sx_base.specs.declared.name.FrameNo.{FrameNo}
 use Rattle.sx_base.specs.declared.name.Label.{Label}
+use Rattle.sx_base.specs.declared.name.Mark.{Mark}
 use Rattle.sx_base.specs.declared.op.Op.{Op}
 use Rattle.sx_frames.specs.Rows.{Row}
-use Rattle.sx_frames.specs.Scope.{rows_at}
+use Rattle.sx_frames.specs.Scope.{Scope, rows_at}
 use Rattle.sx_scope.specs.Stands.{row_for}
 use Rattle.sx_core.specs.Bindings.{bound_to}
 use Rattle.sx_core.specs.Core.{PlainCore}
 use Rattle.sx_core.specs.declared.binding.Binding.{Binding}
 use Rattle.sx_core.specs.declared.binding.Binding.TheVariants as binding
 use Rattle.sx_core.specs.declared.binding.VarInfo.{VarInfo}
-use Rattle.sx_core_laws.specs.Words.{Each, Among}
+use Rattle.sx_core_laws.specs.Words.{Each, Among, Once}
 use Rattle.sx_core_laws.specs.Templates.{Depths}
 use Rattle.sx_quasi_code.specs.Inserted.{dots, ellipsis}
 use Rattle.sx_stage.specs.Stage.{expression_of}
@@ -94,8 +95,21 @@ pub record IndicesApart (own : LibName) (s : State) : Type 0 where
   pub apart : (l m : Label) (v w : VarInfo) (i : ℕ) → IsOwn own l.0 → IsOwn own m.0 → bound_to s.bindings l ≡ Some (binding.Variable v) → bound_to s.bindings m ≡ Some (binding.Variable w)
       → v.index ≡ Some i → w.index ≡ Some i → l ≡ m
 
+-- the symbol and the marks of a row
+abbrev pub row_key : Row → List ℕ × List Mark
+row_key r = (r.symbol, r.marks)
+
+-- each frame of the library has a symbol under marks once
+abbrev pub AreKeyed : LibName → Scope → Type 0
+AreKeyed own fs = (f : FrameNo) → IsOwn own f.0 → Once (map row_key (rows_at f fs))
+
+-- what rows give of the labels of the library is bound, but for what the row of the ellipsis gives
+abbrev pub RowsAreBound : LibName → State → Type 0
+RowsAreBound own s = (f : FrameNo) (r : Row) → Among (rows_at f s.frames) r → IsOwn own r.label.0 → IsBound s r.label ⊎ (r ≡ row_for dots ellipsis)
+
 -- What a library adds: its frames keep their rows, labels stay bound to what they are bound to, what comes gives labels of the
--- library, but for the row of the ellipsis, and binds labels of the library, and indices that are apart stay so.
+-- library, but for the row of the ellipsis, and binds labels of the library, and indices that are apart stay so. Where frames have each
+-- row once, and give what is bound, they stay so.
 pub record Grows (own : LibName) (s t : State) : Type 0 where
   pub kept : (f : FrameNo) (r : Row) → Among (rows_at f s.frames) r → Among (rows_at f t.frames) r
   pub rows : (f : FrameNo) (r : Row) → Among (rows_at f t.frames) r → Among (rows_at f s.frames) r ⊎ IsOwnOrEllipsis own r
@@ -103,6 +117,8 @@ pub record Grows (own : LibName) (s t : State) : Type 0 where
   pub bound : (l : Label) (b : Binding) → bound_to s.bindings l ≡ Some b → bound_to t.bindings l ≡ Some b
   pub indices : IndicesApart own s → IndicesApart own t
   pub numbered : IsNumbered own s → IsNumbered own t
+  pub keyed : AreKeyed own s.frames → AreKeyed own t.frames
+  pub shown : RowsAreBound own s → RowsAreBound own t
 
 -- What comes into scope stands behind what was there, and is among these labels. So are the variables of the top of the library
 -- that come, if any may, and they are of level 0. The pattern variables that come into scope are among these, with their depths.

@@ -1,9 +1,12 @@
 //! Laws of expansion. Each function here computes nothing: what it promises is the law.
 
+ghost use Rattle.sx_expand_laws.specs.Behind.{RecordsFollow};
 ghost use Rattle.sx_expand_laws.specs.Good.{RecordsAreGood};
 ghost use Rattle.sx_expand_laws.specs.InScope.{ScopeStays};
 ghost use Rattle.sx_expand_laws.specs.Keywords.{KeywordsAreGood};
 ghost use Rattle.sx_expand_laws.specs.Serving.{FollowersServe, RecordsServe};
+ghost use Rattle.sx_expand_laws.specs.Shallow.{RecordsAreShallow};
+ghost use Rattle.sx_expand_laws.specs.Variables.{VariablesHaveIndices};
 ghost use Rattle.sx_expand_laws.specs.Uses.{UsesAreReplaced, BodyUsesAreReplaced, RecordFormsAreReplaced, BodyRecordFormsAreReplaced};
 ghost use Rattle.sx_expand_laws.specs.Named.{ReferencesNameBinders, AssignmentsNameBinders, BindersAreFound, BindersStay};
 
@@ -16,6 +19,25 @@ pub fn records_are_good()
 /// its lines and keywords bind one label or number two codes alike.
 pub fn keywords_are_good()
     ensures { KeywordsAreGood }
+{}
+
+/// Every record that expansion gives nests at most 2,404 levels deep, in each line and in each expression of a keyword. So recursion
+/// over its core code ends long before a stack does.
+pub fn records_are_shallow()
+    ensures { RecordsAreShallow }
+{}
+
+/// Each variable that a line of a record defines or binds has an index, and so a name; none is defined or bound twice, no two of them
+/// have one index, and each variable that a line defines is one of the top.
+pub fn variables_have_indices()
+    ensures { VariablesHaveIndices }
+{}
+
+/// So every record that expansion gives follows the records before it, which follow one another, in all that is asked of one: its exports,
+/// bindings, binders, codes and rows stand once each and are its own, what it mentions is known, and its references are the earlier
+/// libraries that its lines mention.
+pub fn records_follow()
+    ensures { RecordsFollow }
 {}
 
 /// What a record leaves to those behind it: records that follow one another serve, and so does every record

@@ -23,16 +23,16 @@ use Rattle.sx_name_laws.proofs.Words.{all_append, all_weaker}
 use Rattle.sx_name_laws.proofs.Telling.{is_path, is_word, part_word, library_path, name_is, names_tell}
 
 -- what stands in a name stands for itself in an identifier, behind its first character
-path_subsequent : (b : ℕ) → is_path b ≡ true → is_subsequent b ≡ true
+pub path_subsequent : (b : ℕ) → is_path b ≡ true → is_subsequent b ≡ true
 path_subsequent b h = grind (arith, nat_tests)
 
-word_subsequent : (b : ℕ) → is_word b ≡ true → is_subsequent b ≡ true
+pub word_subsequent : (b : ℕ) → is_word b ≡ true → is_subsequent b ≡ true
 word_subsequent b h = grind (arith, nat_tests)
 
 digit_subsequent : (b : ℕ) → digit_value b < 10 → is_subsequent b ≡ true
 digit_subsequent b h = grind (arith, nat_tests)
 
-digits_subsequent : (ds : List ℕ) → AllDigits 10 ds → list_all is_subsequent ds ≡ true
+pub digits_subsequent : (ds : List ℕ) → AllDigits 10 ds → list_all is_subsequent ds ≡ true
 digits_subsequent [] h = refl
 digits_subsequent (d ∷ ds) h = and_from (is_subsequent d) (list_all is_subsequent ds) (digit_subsequent d h.0) (digits_subsequent ds h.1)
 
@@ -79,7 +79,7 @@ unspanned_symbol (atom s a) x e = absurd (cc)
 unspanned_symbol (pair s a b) x e = absurd (cc)
 unspanned_symbol (vector s a) x e = absurd (cc)
 
-read_itself : (file : List ℕ) (nesting : ℕ) (bs : List ℕ) → list_all is_subsequent bs ≡ true → IsReadAs file nesting (0x25 ∷ bs) (0x25 ∷ bs)
+pub read_itself : (file : List ℕ) (nesting : ℕ) (bs : List ℕ) → list_all is_subsequent bs ≡ true → IsReadAs file nesting (0x25 ∷ bs) (0x25 ∷ bs)
 read_itself file nesting bs h =
     let name : IsName (0x25 ∷ bs) = (IsUtf8-from_ascii (0x25 ∷ bs) (ascii (0x25 ∷ bs) h), omega arith) in
     let r = read_back file nesting (symbol None (0x25 ∷ bs)) name in

@@ -40,7 +40,7 @@ or_left : (a b : Bool) → a ≡ true → (a || b) ≡ true
 or_left true b h = refl
 or_left false b h = absurd (cc)
 
-plain_word : (b : ℕ) → is_plain b ≡ true → is_word b ≡ true
+pub plain_word : (b : ℕ) → is_plain b ≡ true → is_word b ≡ true
 plain_word b h = or_left (is_plain b) (b == 0x7E) h
 
 word_path : (b : ℕ) → is_word b ≡ true → is_path b ≡ true
@@ -189,7 +189,7 @@ users_same [] qs h k e = absurd (omega (arith, h.0))
 users_same (p ∷ ps) [] h k e = absurd (omega (arith, k.0))
 users_same (p ∷ ps) (q ∷ qs) h k e = parts_same p q ps qs (are_parts (p ∷ ps) h.1) (are_parts (q ∷ qs) k.1) e
 
-library_same : (l m : LibName) → IsNamed l → IsNamed m → library_text l ≡ library_text m → l ≡ m
+pub library_same : (l m : LibName) → IsNamed l → IsNamed m → library_text l ≡ library_text m → l ≡ m
 library_same library.Core m h k e = elim h [ ]
 library_same library.Derived m h k e = elim h [ ]
 library_same library.Prelude m h k e = elim h [ ]

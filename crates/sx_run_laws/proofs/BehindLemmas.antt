@@ -23,6 +23,8 @@ use Rattle.sx_expand_laws.specs.Serves.{IsThere, AllServe}
 use Rattle.sx_expand_laws.proofs.Fresh.{each-append}
 use Rattle.sx_expand_laws.proofs.GoodKeywords.{keywords-good}
 use Rattle.sx_expand_laws.proofs.Records.{records-good}
+use Rattle.sx_expand_laws.proofs.Shallow.{records-shallow}
+use Rattle.sx_expand_laws.proofs.Variables.{variables-indexed}
 use Rattle.sx_expand_laws.proofs.Serving.{records-serve}
 use Rattle.sx_forms.specs.declared.form.LibraryForm.{LibraryForm}
 use Rattle.sx_import.specs.Names.{Labelled}
@@ -48,6 +50,8 @@ module _ (records : List LibRecord) (serve : AllServe [] records) (path : List �
         good = g.0;
         keywords = keywords-good form.name path records names form.version form.name_span (map export_tree form.exports) forms codes r is_ready h;
         serves = records-serve form.name path records names form.version form.name_span (map export_tree form.exports) forms codes r is_ready there h;
+        indices = variables-indexed form.name path records names form.version form.name_span (map export_tree form.exports) forms codes r is_ready h;
+        shallow = records-shallow form.name path records names form.version form.name_span (map export_tree form.exports) forms codes r is_ready h;
       }
 
   -- expansion reads both first, and then all that it promises holds
@@ -96,6 +100,8 @@ module _ (d : LibRecord) where
         good = g.0;
         keywords = keywords-good library.Derived path [] names [] start (exports_of derived) forms codes d is_ready h;
         serves = records-serve library.Derived path [] names [] start (exports_of derived) forms codes d is_ready (names_there derived 0 301) h;
+        indices = variables-indexed library.Derived path [] names [] start (exports_of derived) forms codes d is_ready h;
+        shallow = records-shallow library.Derived path [] names [] start (exports_of derived) forms codes d is_ready h;
       }
 
   pub derived_stands : (prelude : Result Codes Fault) → derived_record prelude ≡ Ok d → Stands [] library.Derived d

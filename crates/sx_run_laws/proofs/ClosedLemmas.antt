@@ -34,7 +34,7 @@ at_among rs (p ∷ ps) = by (slice_get rs p) refl (at_among rs ps)
     by None e rest = rest
     by (Some r) e rest = (get_among rs p r e, rest)
 
-each_place : (P : LibRecord → Type 0) (rs : List LibRecord) → ((i : ℕ) (r : LibRecord) → slice_get rs i ≡ Some r → P r) → Each P rs
+pub each_place : (P : LibRecord → Type 0) (rs : List LibRecord) → ((i : ℕ) (r : LibRecord) → slice_get rs i ≡ Some r → P r) → Each P rs
 each_place P [] h = tt
 each_place P (r ∷ rs) h = (h zero r refl, each_place P rs (λ i x e. h (suc i) x e))
 
@@ -54,7 +54,7 @@ standing records earlier loaded name r h = record {
   referred = h.good.references;
 }
 
-all_standing : (found : Found) (s : Loading) (records : List LibRecord) (program : LibRecord) → AllStand found s records program → AreStanding records program
+pub all_standing : (found : Found) (s : Loading) (records : List LibRecord) (program : LibRecord) → AllStand found s records program → AreStanding records program
 all_standing found s records program h = subst (λ (rs : List LibRecord). AreStanding rs program) (sym h.parts) (record {
   named_once = subst (λ (rs : List LibRecord). Once (names_of (rs ++ program ∷ []))) h.parts h.once;
   libraries = (standing (h.derived ∷ h.others) [] tt library.Derived h.derived h.first, each_place (IsStanding (h.derived ∷ h.others)) h.others here);

@@ -1,5 +1,6 @@
 pub mod NameLemmas
 pub mod ImportLemmas
+pub mod SymbolLemmas
 pub mod UserLemmas
 pub mod PlaceLemmas
 pub mod MadeLemmas

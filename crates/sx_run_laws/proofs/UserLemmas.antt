@@ -1,6 +1,6 @@
 -- A library that is loaded has a name of one or more parts, and a program that of programs.
-use Rattle.std.proofs.Common.{◌≡◌, ℕ, zero, suc, Bool, true, false, List, [], ◌∷◌, ◌++◌, length, Result, Ok, Err, Option, Some, None, refl, sym, ap, subst, ◌∙◌}
-use Rattle.std.specs.Prelude.{is_some, slice_get, nat_le, codes, if◌then◌else◌}
+use Rattle.std.proofs.Common.{◌≡◌, ℕ, zero, suc, ◌<◌, Bool, true, false, List, [], ◌∷◌, ◌++◌, length, Result, Ok, Err, Option, Some, None, refl, sym, ap, subst, arith, ◌∙◌}
+use Rattle.std.specs.Prelude.{is_some, slice_get, nat_le, codes, All, if◌then◌else◌}
 use Rattle.sx_base.specs.Datum.{PlainDatum, proper_elements}
 use Rattle.sx_base.specs.Gives.{◌>>=◌}
 use Rattle.sx_base.specs.declared.fault.Fault.{Fault}
@@ -26,7 +26,7 @@ use Rattle.sx_import.specs.declared.set.ImportSet.{ImportSet}
 use Rattle.sx_outside.specs.Contents.{Paths, at_path, Reading, bytes, longer, absent, read_of}
 use Rattle.sx_reader.specs.Read.{data_of, file_nesting}
 use Rattle.sx_load.specs.Found.{nothing_loaded, no_needs, with_needs, with_source, with_sources, with_done, most_libraries, found_of}
-use Rattle.sx_load.specs.Load.{Loads, Loader, lifted, about, too_many, most, file_limit, look_for, program_in, begun, opened_from, opened_with, open_file, fitting, known_of, settled, load_new, refer_to, refer, refer_each, load_with, load_file, program_from, load}
+use Rattle.sx_load.specs.Load.{Loads, Loader, lifted, about, too_many, most, file_limit, look_for, program_in, begun, opened_from, opened_with, open_file, known_of, settled, load_new, refer_to, refer, refer_each, load_with, load_file, program_from, load}
 use Rattle.sx_load.specs.Load as loading
 use Rattle.sx_load.specs.declared.found.Found.{Found}
 use Rattle.sx_load.specs.declared.found.Loading.{Loading}
@@ -35,6 +35,8 @@ use Rattle.sx_load.specs.declared.refer.Known.{Known}
 use Rattle.sx_load.specs.declared.refer.Known.TheVariants as known
 use Rattle.sx_load.specs.declared.search.Sought.{Sought}
 use Rattle.sx_load.specs.declared.search.Sought.TheVariants as sought
+use Rattle.sx_round.specs.Readable.{IsName}
+use Rattle.sx_run_laws.proofs.SymbolLemmas.{HasNames, read_names, proper_named, form_named, leading_named}
 use Rattle.sx_load_laws.proofs.OpenLemmas.{Ends, ends_on, ends_ok}
 use Rattle.sx_load_laws.proofs.SourceLemmas.{library_is}
 
@@ -43,29 +45,29 @@ each_at_place P [] i x h at = absurd (cc)
 each_at_place P (y ∷ ys) zero x h at = let same : y ≡ x = cc in subst P same h.0
 each_at_place P (y ∷ ys) (suc i) x h at = each_at_place P ys i x h.1 at
 
--- the name of a library of a file
+-- the name of a library of a file: it has parts, and each of them is a name
 abbrev pub IsUser : LibName → Type 0
 IsUser library.Core = ⊥
 IsUser library.Derived = ⊥
 IsUser library.Prelude = ⊥
 IsUser library.Program = ⊥
-IsUser (library.User parts) = Unit {0}
+IsUser (library.User parts) = (0 < length parts) × All IsName parts
 
 -- ---- the name that a form has
 
-named_user : (d : PlainDatum) (n : VersionedName) → named d ≡ Some n → IsUser n.name
-named_user d n h = by (proper_elements d) h
+named_user : (d : PlainDatum) (n : VersionedName) → HasNames d → named d ≡ Some n → IsUser n.name
+named_user d n read h = by (proper_elements d) refl h
   where
-    by_parts : (ps : List (List ℕ)) (v : Option (List ℕ)) → named_by ps v ≡ Some n → IsUser n.name
-    by_parts [] v h = absurd (cc)
-    by_parts (p ∷ ps) None h = absurd (cc)
-    by_parts (p ∷ ps) (Some v) h =
+    by_parts : (ps : List (List ℕ)) (v : Option (List ℕ)) → All IsName ps → named_by ps v ≡ Some n → IsUser n.name
+    by_parts [] v are h = absurd (cc)
+    by_parts (p ∷ ps) None are h = absurd (cc)
+    by_parts (p ∷ ps) (Some v) are h =
         let same : ◌≡◌ {A = VersionedName} (record { name = library.User (p ∷ ps); version = v }) n = cc in
-        subst (λ (x : VersionedName). IsUser x.name) same tt
+        subst (λ (x : VersionedName). IsUser x.name) same (omega arith, are)
 
-    by : (o : Option (List PlainDatum)) → given o (λ ds. named_by (leading ds) (version_in (behind ds))) ≡ Some n → IsUser n.name
-    by None h = absurd (cc)
-    by (Some ds) h = by_parts (leading ds) (version_in (behind ds)) h
+    by : (o : Option (List PlainDatum)) → proper_elements d ≡ o → given o (λ ds. named_by (leading ds) (version_in (behind ds))) ≡ Some n → IsUser n.name
+    by None is h = absurd (cc)
+    by (Some ds) is h = by_parts (leading ds) (version_in (behind ds)) (leading_named ds (proper_named d ds read is)) h
 
 module _ (file : List ℕ) (f : LibraryForm) where
   -- a form has the name that is read
@@ -85,27 +87,27 @@ module _ (file : List ℕ) (f : LibraryForm) where
       by_exports (Ok es) h = by_imports es (import_specs file [] imports) h
       by_exports (Err e) h = absurd (cc)
 
-  parts_user : (fault : Fault) (name : PlainDatum) (n : Option VersionedName) (exports imports : Option (List PlainDatum)) → named name ≡ n
+  parts_user : (fault : Fault) (name : PlainDatum) (n : Option VersionedName) (exports imports : Option (List PlainDatum)) → HasNames name → named name ≡ n
       → library_parts file fault name n exports imports ≡ Ok f → IsUser f.name
-  parts_user fault name None exports imports e h = absurd (cc)
-  parts_user fault name (Some n) None imports e h = absurd (cc)
-  parts_user fault name (Some n) (Some es) None e h = absurd (cc)
-  parts_user fault name (Some n) (Some es) (Some is) e h = form_user (place_of file name) es is n (named_user name n e) h
+  parts_user fault name None exports imports read e h = absurd (cc)
+  parts_user fault name (Some n) None imports read e h = absurd (cc)
+  parts_user fault name (Some n) (Some es) None read e h = absurd (cc)
+  parts_user fault name (Some n) (Some es) (Some is) read e h = form_user (place_of file name) es is n (named_user name n read e) h
 
-  in_user : (fault : Fault) (ds : List PlainDatum) → library_in file fault ds ≡ Ok f → IsUser f.name
-  in_user fault [] h = absurd (cc)
-  in_user fault (name ∷ []) h = absurd (cc)
-  in_user fault (name ∷ exports ∷ []) h = absurd (cc)
-  in_user fault (name ∷ exports ∷ imports ∷ body) h = parts_user fault name (named name) (form_of (codes "export") exports) (form_of (codes "import") imports) refl h
+  in_user : (fault : Fault) (ds : List PlainDatum) → Each HasNames ds → library_in file fault ds ≡ Ok f → IsUser f.name
+  in_user fault [] read h = absurd (cc)
+  in_user fault (name ∷ []) read h = absurd (cc)
+  in_user fault (name ∷ exports ∷ []) read h = absurd (cc)
+  in_user fault (name ∷ exports ∷ imports ∷ body) read h = parts_user fault name (named name) (form_of (codes "export") exports) (form_of (codes "import") imports) read.0 refl h
 
-  read_user : (ds : List PlainDatum) → read_library file ds ≡ Ok f → IsUser f.name
-  read_user [] h = absurd (cc)
-  read_user (d ∷ []) h = by (form_of (codes "library") d) h
+  read_user : (ds : List PlainDatum) → Each HasNames ds → read_library file ds ≡ Ok f → IsUser f.name
+  read_user [] read h = absurd (cc)
+  read_user (d ∷ []) read h = by (form_of (codes "library") d) refl h
     where
-      by : (o : Option (List PlainDatum)) → or_fault (not_library file (d ∷ [])) o (library_in file (not_library file (d ∷ []))) ≡ Ok f → IsUser f.name
-      by None h = absurd (cc)
-      by (Some ds) h = in_user (not_library file (d ∷ [])) ds h
-  read_user (d ∷ e ∷ ds) h = absurd (cc)
+      by : (o : Option (List PlainDatum)) → form_of (codes "library") d ≡ o → or_fault (not_library file (d ∷ [])) o (library_in file (not_library file (d ∷ []))) ≡ Ok f → IsUser f.name
+      by None is h = absurd (cc)
+      by (Some ds) is h = in_user (not_library file (d ∷ [])) ds (form_named (codes "library") d ds read.0 is) h
+  read_user (d ∷ e ∷ ds) read h = absurd (cc)
 
   read_is_program : (ds : List PlainDatum) → read_program file ds ≡ Ok f → f.name ≡ library.Program
   read_is_program [] h = absurd (cc)
@@ -125,11 +127,11 @@ module _ (file : List ℕ) (f : LibraryForm) where
 -- ---- the file of a library, and that of a program
 
 library_user : (name : LibName) (path held : List ℕ) (o : Opened) → loading.library_in name path held ≡ Ok o → IsUser o.form.name
-library_user name path held o h = by (data_of path held file_nesting) (library_is name path held o h)
+library_user name path held o h = by (data_of path held file_nesting) refl (library_is name path held o h)
   where
-    by : (r : Result (List PlainDatum) Fault) → (r >>= read_library path) ≡ Ok o.form → IsUser o.form.name
-    by (Ok ds) h = read_user path o.form ds h
-    by (Err f) h = absurd (cc)
+    by : (r : Result (List PlainDatum) Fault) → data_of path held file_nesting ≡ r → (r >>= read_library path) ≡ Ok o.form → IsUser o.form.name
+    by (Ok ds) is h = read_user path o.form ds (read_names path held file_nesting ds is) h
+    by (Err f) is h = absurd (cc)
 
 program_named : (path held : List ℕ) (o : Opened) → program_in path held ≡ Ok o → o.form.name ≡ library.Program
 unfolding program_in

@@ -4,12 +4,14 @@ use Rattle.sx_base.specs.declared.fault.Fault.{Fault}
 use Rattle.sx_base.specs.declared.library.LibName.{LibName}
 use Rattle.sx_base.specs.declared.library.LibName.TheVariants as library
 use Rattle.sx_core.specs.declared.record.LibRecord.{LibRecord}
-use Rattle.sx_core_laws.specs.Follows.{names_of}
-use Rattle.sx_core_laws.specs.Words.{Once}
+use Rattle.sx_core_laws.specs.Follows.{names_of, all_cores}
+use Rattle.sx_core_laws.specs.Words.{Each, Once}
 use Rattle.sx_eval.specs.Codes.{Codes}
 use Rattle.sx_expand_laws.specs.Good.{IsGood}
 use Rattle.sx_expand_laws.specs.Keywords.{HasGoodKeywords}
 use Rattle.sx_expand_laws.specs.Serves.{Serves}
+use Rattle.sx_expand_laws.specs.Shallow.{IsShallow}
+use Rattle.sx_expand_laws.specs.Variables.{HasIndices}
 use Rattle.sx_forms.specs.Form.{program_body}
 use Rattle.sx_library.specs.Loaded.{all_records, expand_found}
 use Rattle.sx_load.specs.Found.{needed}
@@ -34,6 +36,8 @@ pub record Stands (earlier : List LibRecord) (name : LibName) (r : LibRecord) : 
   pub good : IsGood earlier r
   pub keywords : HasGoodKeywords earlier r
   pub serves : Serves earlier r
+  pub indices : HasIndices r
+  pub shallow : Each IsShallow (all_cores r)
 
 -- the records of the derived library, of libraries that were loaded, and of the program
 pub record AllStand (found : Found) (s : Loading) (records : List LibRecord) (program : LibRecord) : Type 0 where

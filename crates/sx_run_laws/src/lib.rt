@@ -17,8 +17,8 @@
 //! ```
 //!
 //! The first promise: each record of a run, and the program's, is good behind the records that its library needs,
-//! and so are its keywords; it serves those behind it; and no two of them have one name. Three things bring this
-//! about.
+//! and so are its keywords; it serves those behind it; its variables have indices, and its code nests at most so
+//! deep; and no two of them have one name. Three things bring this about.
 //!
 //! - Where a library is needed, so is all that it needs, and this was loaded before it. So the records that a
 //!   library needs serve, each behind those of them that come earlier.

@@ -95,7 +95,7 @@ module _ (own : LibName) (texts : List CodeNo) (rs : List LibRecord) (x : Around
   codes-apart : (s w : State) (c : PlainCore) → E s c w → Each (λ n. OwnHasCode own w.keywords n → ⊥) (code_numbers c)
   codes-apart s w c e =
       each_of (λ n. OwnHasCode own w.keywords n → ⊥) (code_numbers c)
-      (λ n a y. (away-has own w c n.0 e.1.0 (inr a)).1 (y.label, (y.expression, (y.label_here, (ap expression_in y.kept, inr y.among)))))
+      (λ n a y. (away-has own w c n.0 e.1.0.0 (inr a)).1 (y.label, (y.expression, (y.label_here, (ap expression_in y.kept, inr y.among)))))
 
   -- The expression of a keyword is expanded with nothing in scope.
 

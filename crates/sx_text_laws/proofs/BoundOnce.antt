@@ -101,7 +101,7 @@ module _ (rs : List LibRecord) (p : LibRecord) (h : AreStanding rs p) where
   abbrev planned : List LibRecord
   planned = records_at rs (plan_of rs p)
 
-  text-names-once : Once (names_of (text_of rs p))
+  pub text-names-once : Once (names_of (text_of rs p))
   text-names-once = subst Once (sym (map-append name_of planned (p ∷ [])))
       (once-append (names_of planned) (names_of (p ∷ [])) (planned-once rs (libraries-once rs p h) 0 (plan_of rs p) (is_plan rs p).rising) (once-one p.name) apart)
     where

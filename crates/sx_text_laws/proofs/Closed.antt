@@ -57,7 +57,7 @@ module _ (rs : List LibRecord) (p : LibRecord) (h : AreStanding rs p) where
       by (inr (inl e)) = subst (IsStanding rs) (sym e) h.program
       by (inr (inr b)) = elim b [ ]
 
-  text-known : (r : LibRecord) → Among (text_of rs p) r → Among (rs ++ p ∷ []) r
+  pub text-known : (r : LibRecord) → Among (text_of rs p) r → Among (rs ++ p ∷ []) r
   text-known r a = by (among-parts planned (p ∷ []) r a)
     where
       by : Among planned r ⊎ Among (p ∷ []) r → Among (rs ++ p ∷ []) r

@@ -1,0 +1,28 @@
+-- The core code of every record that expansion gives isn't deep.
+use Rattle.std.proofs.Common.{◌≡◌, List, [], ◌∷◌, map, sym, ap, subst, arith}
+use Rattle.std.specs.List.{flat_map}
+use Rattle.sx_core.specs.declared.record.Line.{Line}
+use Rattle.sx_core_laws.specs.Follows.{keyword_of, keywords, line_cores}
+use Rattle.sx_core_laws.specs.Records.{defined, line_core}
+use Rattle.sx_core_laws.specs.Words.{Each}
+use Rattle.sx_standing.specs.Own.{own_bindings}
+use Rattle.sx_expand_laws.specs.Shallow.{IsShallow, RecordsAreShallow}
+use Rattle.sx_expand_laws.proofs.Fresh.{each-append}
+use Rattle.sx_expand_laws.proofs.Good.{Bindings}
+use Rattle.sx_expand_laws.proofs.GoodKeywords.{record-ends, keywords-each}
+use Rattle.sx_expand_laws.proofs.Nesting.{Within}
+use Rattle.sx_expand_laws.proofs.Records.{record-runs}
+
+lines-shallow : (bs : Bindings) (xs : List Line) → Each (λ x. Within bs 0 0 2404 (line_core x)) xs → Each IsShallow (map line_core xs)
+lines-shallow bs [] h = tt
+lines-shallow bs (x ∷ xs) h = ((let low = h.0.low in omega (arith, low)), lines-shallow bs xs h.1)
+
+pub records-shallow : RecordsAreShallow
+records-shallow own path records imports version place exports forms codes r h e =
+    let given = flat_map defined records in
+    let runs = record-runs own path records imports version place exports forms codes r h e in
+    let ended = record-ends own path records imports version place exports forms codes r h e in
+    let v = ended.state in
+    let is : flat_map keyword_of (own_bindings v) ≡ keywords r = ap (flat_map keyword_of) (sym ended.ends.bindings) in
+    each-append IsShallow (line_cores r) (keywords r) (lines-shallow runs.ended.bindings r.run runs.nests)
+    (subst (Each IsShallow) is (keywords-each own given v ended.ends.next ended.ends.kept IsShallow (λ c x. x.low)))
