@@ -53,8 +53,8 @@ pub is-bound : (fs : Scope) (f : FrameNo) (r : Row) → label_at fs f r.symbol r
 is-bound fs f r e = ap (λ o. if is_some o then Err (second_binder r.symbol) else Ok (with_row fs f r)) e
 
 not-same : (f g : FrameNo) → same_frame f g ≡ false → f ≡ g → ⊥
-not-same f g no same =
-    let yes : same_frame f g ≡ true = ap (same_frame f) (sym same) ∙ same_frame-self f in
+not-same f g apart same =
+    let alike : same_frame f g ≡ true = ap (same_frame f) (sym same) ∙ same_frame-self f in
     absurd (cc)
 
 row-once : (own : LibName) (fs : Scope) (g : FrameNo) (r : Row) → RowsOnce own fs → label_at fs g r.symbol r.marks ≡ None → RowsOnce own (with_row fs g r)
