@@ -1,0 +1,10 @@
+mod Steps
+mod Rows
+mod Binding
+mod Settling
+mod Forms
+mod Tops
+mod Labels
+mod Starts
+mod Derived
+mod Runs
