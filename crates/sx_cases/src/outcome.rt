@@ -2,9 +2,9 @@
 
 use std::alloc::Global;
 use std::sync::ledger::Ledger;
-use std::test::Fail;
 use sx_base::fault::Stop;
 use sx_base::fault_line::fault_line;
+use sx_base::memory::Memory;
 use sx_base::symbol::Symbol;
 use sx_library::loaded::{first_fault, program_text};
 use sx_load::found::{Found, Loading, Source};
@@ -29,13 +29,13 @@ fn held_in<'a>(sources: &'a [Source], path: &Symbol) -> &'a [u8] {
 }
 
 // The line of a stop's fault.
-fn line_of(alloc: Global, loading: &Loading, stop: &Stop) -> Result<String, Fail> {
+fn line_of(alloc: Global, loading: &Loading, stop: &Stop) -> Result<String, Memory> {
     match stop {
         Stop::Fault(fault) => {
             let source = held_in(loading.sources.as_slice(), &fault.span.file);
-            Ok(fault_line(alloc, fault, source)?)
+            fault_line(alloc, fault, source)
         }
-        Stop::Memory => Err("no memory".into()),
+        Stop::Memory => Err(Memory),
     }
 }
 
@@ -46,7 +46,7 @@ fn of_found<N: Ledger, L: Ledger>(
     found: &Found,
     loading: &Loading,
     counts: &mut Counts<N, L>,
-) -> Result<String, Fail> {
+) -> Result<String, Memory> {
     match program_text(alloc, prelude, found, loading, prims, counts) {
         Ok(text) => Ok(text),
         Err(stop) => line_of(alloc, loading, &stop),
@@ -61,7 +61,7 @@ pub fn outcome<N: Ledger, L: Ledger>(
     files: Vec<(String, Vec<u8>)>,
     roots: &[Symbol],
     counts: &mut Counts<N, L>,
-) -> Result<String, Fail> {
+) -> Result<String, Memory> {
     let mut files = MemFiles::new(alloc, files, Vec::new(alloc));
     let program = Symbol::new(alloc, "p.sps")?;
     let mut loading = Loading::new(alloc);
@@ -71,6 +71,7 @@ pub fn outcome<N: Ledger, L: Ledger>(
             let stop = first_fault(alloc, prelude, &loading, fault, prims, counts);
             line_of(alloc, &loading, &stop)
         }
-        Err(_) => Err("no files".into()),
+        Err(Halt::Read) => Ok(String::from_str(alloc, "a file in memory can't be read\n")?),
+        Err(Halt::Memory) => Err(Memory),
     }
 }
