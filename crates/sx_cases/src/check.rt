@@ -1,42 +1,33 @@
 //! Tables of cases, and whether each case comes to what it should.
 
-use crate::case::{Unread, read_case};
+use crate::case::read_case;
 use crate::outcome::outcome;
+use crate::unread::Unread;
 use std::alloc::Global;
+use std::fmt::Write;
 use std::io::ErrorKind;
 use std::sync::ledger::Ledger;
 use std::{fs, io};
 use sx_base::memory::Memory;
-use sx_prelude::prelude::Prelude;
 use sx_prims::table::PrimTable;
-use sx_stage::earlier::Earlier;
-use sx_standing::means::{Counts, Means};
+use sx_standing::means::Counts;
 
 // What is to be said of a case that comes to something else than it should.
 fn difference<N: Ledger, L: Ledger>(
     alloc: Global,
-    prelude: &Prelude,
     prims: &PrimTable,
     text: &str,
     counts: &mut Counts<N, L>,
 ) -> Result<Option<String>, Memory> {
-    let case = match read_case(alloc, text) {
-        Ok(case) => case,
+    let (wanted, run) = match read_case(alloc, text) {
+        Ok(case) => (case.wanted, case.run),
         Err(Unread::Memory) => return Err(Memory),
         Err(why) => return Ok(Some(format!(in alloc; "{text}\n{why}\n")?)),
     };
-    let came = outcome(
-        alloc,
-        prelude,
-        prims,
-        case.files,
-        case.roots.as_slice(),
-        counts,
-    )?;
-    if came.as_str() == case.wanted.as_str() {
+    let came = outcome(alloc, run, prims, counts)?;
+    if came.as_str() == wanted.as_str() {
         return Ok(None);
     }
-    let wanted = &case.wanted;
     Ok(Some(format!(in alloc; "{text}\nwanted: {wanted}came: {came}")?))
 }
 
@@ -76,7 +67,6 @@ impl Tally {
 // Tells of each case of a table that differs.
 fn check_cases<N: Ledger, L: Ledger>(
     rt: &HostRuntime,
-    prelude: &Prelude,
     prims: &PrimTable,
     name: &str,
     table: &str,
@@ -87,7 +77,7 @@ fn check_cases<N: Ledger, L: Ledger>(
         differing: 0,
     };
     for text in table.split("\n\n") {
-        let said = difference(rt.alloc(), prelude, prims, text, counts).map_err(no_memory)?;
+        let said = difference(rt.alloc(), prims, text, counts).map_err(no_memory)?;
         tally.add(said.is_some());
         if let Some(said) = said {
             let number = tally.programs;
@@ -100,7 +90,6 @@ fn check_cases<N: Ledger, L: Ledger>(
 // Whether all of a table is as written. Each file ends with a line end.
 fn check_file<N: Ledger, L: Ledger>(
     rt: &HostRuntime,
-    prelude: &Prelude,
     prims: &PrimTable,
     file: &str,
     counts: &mut Counts<N, L>,
@@ -109,37 +98,21 @@ fn check_file<N: Ledger, L: Ledger>(
     let table = table.as_str();
     let table = table.strip_suffix("\n").unwrap_or(table);
     let name = file.strip_suffix(".txt").unwrap_or(file);
-    let tally = check_cases(rt, prelude, prims, name, table, counts)?;
+    let tally = check_cases(rt, prims, name, table, counts)?;
     tally.tell(rt, name)?;
     Ok(tally.differing == 0)
 }
 
-fn check_each<N: Ledger, L: Ledger>(
+/// Whether all cases of these files come to what they should.
+pub fn check_files<N: Ledger, L: Ledger>(
     rt: &HostRuntime,
-    prelude: &Prelude,
-    prims: &PrimTable,
     files: &[String],
+    prims: &PrimTable,
     counts: &mut Counts<N, L>,
 ) -> io::Result<bool> {
     let mut well = true;
     for file in files {
-        well &= check_file(rt, prelude, prims, file.as_str(), counts)?;
+        well &= check_file(rt, prims, file.as_str(), counts)?;
     }
     Ok(well)
-}
-
-/// Whether all cases of these files come to what they should. The procedures that are texts are expanded once.
-pub fn check_tables<N: Ledger, L: Ledger>(
-    rt: &HostRuntime,
-    files: &[String],
-    prims: &PrimTable,
-    counts: &mut Counts<N, L>,
-) -> io::Result<bool> {
-    let earlier = Earlier {
-        records: &[],
-        needs: &[],
-    };
-    let means = Means { earlier, prims };
-    let prelude = Prelude::new(rt.alloc(), &means, counts).map_err(no_memory)?;
-    check_each(rt, &prelude, prims, files, counts)
 }

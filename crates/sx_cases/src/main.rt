@@ -17,19 +17,35 @@
 //! looked for. Where line ends or bytes come before a place that a text can't show, `=> p.sps:2:1: ` has it written out;
 //! between `‹` and `›` stand bytes in hexadecimal.
 //!
+//! A case may tell more of a run: its words stand behind `run`, then which calls of the outside fail, each by its
+//! number from 0 (`fail read N`; `fail out N TAKEN` and `fail err N TAKEN` with how many bytes the put takes) and how
+//! many bytes each file is padded to (`pad N`), and then all files. The answer is the status, and what is written on
+//! both streams:
+//!
+//! ```text
+//! run --report p.sps
+//! fail err 0 5
+//! file p.sps
+//! (import (rnrs) (m)) a
+//! file ./m.sls
+//! (library (m) (export a) (import (rnrs)) (define a 1))
+//! => 4 "(import (rnrs))\n(define %m/a/0 1)\n%m/a/0\n" "expan"
+//! ```
+//!
 //! Each table gets a line, as `hygiene: 19 programs, all as written`, behind what is to be said of the cases that differ.
 //! The exit status is 0 where none does. So a case is added in a file of `data/` and its count in the file `stdout`, and
 //! a table in the file `args` too; `data/README.md` says what each is about.
 //!
-//! What is expected was derived by hand from R6RS and from docs/DECISIONS.md. `case` reads a case, `outcome` runs its
-//! program through loading, expansion and core text over files in memory, `check` compares the two, and `system` has the
-//! files, the primitives and the counters.
+//! What is expected was derived by hand from R6RS and from docs/DECISIONS.md. `case` reads a case, `outcome` has what
+//! comes of it by the call that the program itself makes, `sx_run::top::run`, over files and streams in memory; `check`
+//! compares the two, and `system` has the files, the primitives and the counters.
 #![tactic(auto)]
 
 mod case;
 mod check;
 mod outcome;
 mod system;
+mod unread;
 
 use crate::system::check_files;
 use std::alloc::Global;

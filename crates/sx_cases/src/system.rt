@@ -2,7 +2,8 @@
 
 ghost use Rattle.std.specs.Prelude.{◌≡◌, ◌<◌};
 
-use crate::check::{check_tables, no_memory};
+use crate::check;
+use crate::check::no_memory;
 use std::alloc::Global;
 use std::io;
 use std::marker::Brand;
@@ -38,7 +39,7 @@ fn check_both<'a, N: Ledger, L: Ledger>(
     steps: &'a mut Steps<L>,
 ) -> io::Result<bool> {
     let mut counts = Counts { nodes, steps };
-    check_tables(rt, files, prims, &mut counts)
+    check::check_files(rt, files, prims, &mut counts)
 }
 
 fn check_counted<N: Ledger, L: Ledger>(

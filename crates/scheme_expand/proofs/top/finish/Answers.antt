@@ -1,9 +1,0 @@
-use Rattle.scheme_expand.specs.Headline.{written, broken}
-use Rattle.scheme_expand.proofs.Sinks.{gains_nothing, broke}
-use Rattle.scheme_expand.proofs.top.finish.Goals as goal
-
-pub returns-in-Ok : goal.returns-in-Ok
-returns-in-Ok g c = written c.in-Ok.ensures.gains c.tell.ensures
-
-pub returns-in-Err : goal.returns-in-Err
-returns-in-Err g c = broken (broke _ _ _ c.in-Err.ensures.short c.in-Err.ensures.gains c.in-Err.ensures.failed) (gains_nothing _)
