@@ -5,10 +5,11 @@
 
 PROGRAM is the built program, as crates/scheme_expand/out/scheme_expand; with no TABLE all of them are run. The exit
 status is 0 where no case differs. crates/sx_cases itself runs them over files in memory; its src/main.rt says how a
-case is written.
+case is written. Runs in which a call fails are left out.
 """
 import argparse
 import glob
+import json
 import os
 import re
 import subprocess
@@ -23,15 +24,33 @@ def bytes_of(text):
     return b"".join(bytes.fromhex(it) if i % 2 else it.encode() for i, it in enumerate(parts))
 
 
+def read_run(head, answer):
+    """The words, the files by path, the status and both streams of a run, or None where a call is to fail."""
+    orders, *files = ("\n" + head).split("\nfile ")
+    first, *orders = orders[1:].split("\n")
+    least = 0
+    for order in orders:
+        if not order.startswith("pad "):
+            return None
+        least = int(order.removeprefix("pad "))
+    files = dict(it.partition("\n")[::2] for it in files)
+    status, _, streams = answer.partition(" ")
+    out, err = json.loads("[" + streams.replace('" "', '", "') + "]")
+    files = {path: bytes_of(text).ljust(least) for path, text in files.items()}
+    return first.split(" ")[1:], files, int(status), out, err
+
+
 def read(case):
-    """The roots, the files by path, the status and all that is wanted of a case."""
+    """The words, the files by path, the status and what is to be written on both streams, or None."""
     head, _, answer = case.partition("\n=>")
     answer = answer.removeprefix(" ")
-    roots = []
+    if head.partition("\n")[0].partition(" ")[0] == "run":
+        return read_run(head, answer)
+    words = ["p.sps"]
     if head.startswith("root "):
         first, _, head = head.partition("\n")
-        roots = first.removeprefix("root ").split(" ")
-    files, place = {}, None
+        words = ["--root", first.removeprefix("root ").replace(" ", ":"), "p.sps"]
+    files, place = {}, "" if answer.startswith("p.sps:") else None
     for i, part in enumerate(head.split("\nfile ")):
         path, _, text = part.partition("\n") if i else ("p.sps", "", part)
         before, sign, behind = text.partition("§")
@@ -39,30 +58,29 @@ def read(case):
             place = f"{path}:{before.count(chr(10)) + 1}:{len(before.rpartition(chr(10))[2]) + 1}: "
         files[path] = bytes_of(before + behind)
     ended = answer + "\n" if answer else ""
-    if answer.startswith("p.sps:"):
-        return roots, files, 1, ended
-    return (roots, files, 1, place + ended) if place else (roots, files, 0, "(import (rnrs))\n" + ended)
+    if place is None:
+        return words, files, 0, "(import (rnrs))\n" + ended, ""
+    return words, files, 1, "", place + ended
 
 
 def run(program, seconds, case):
     """What is to be said of a case that comes to something else than it should, or None."""
-    roots, files, status, wanted = read(case)
+    wanted = read(case)
+    if wanted is None:
+        return None
+    words, files, *wanted = wanted
     with tempfile.TemporaryDirectory() as folder:
         for path, held in files.items():
             path = os.path.join(folder, path)
             os.makedirs(os.path.dirname(path), exist_ok=True)
             with open(path, "wb") as it:
                 it.write(held)
-        words = [program, *(["--root", ":".join(roots)] if roots else []), "p.sps"]
         try:
-            ran = subprocess.run(words, cwd=folder, capture_output=True, timeout=seconds)
+            ran = subprocess.run([program, *words], cwd=folder, capture_output=True, timeout=seconds)
         except subprocess.TimeoutExpired:
             return f"no answer after {seconds} seconds\n"
-    came = (ran.stdout if status == 0 else ran.stderr).decode(errors="replace")
-    other = (ran.stderr if status == 0 else ran.stdout).decode(errors="replace")
-    if (ran.returncode, came, other) == (status, wanted, ""):
-        return None
-    return f"wanted: {wanted}came, with status {ran.returncode}: {came}{other}"
+    came = [ran.returncode, ran.stdout.decode(errors="replace"), ran.stderr.decode(errors="replace")]
+    return None if came == wanted else "wanted: {} {}{}came: {} {}{}".format(*wanted, *came)
 
 
 def main():
