@@ -37,7 +37,7 @@ pub fn no_memory(_memory: Memory) -> io::Error {
 }
 
 // How many programs a table has, and how many of them differ.
-#[derive(Clone, Copy, Debug)]
+#[derive(Clone, Copy)]
 struct Tally {
     programs: u64,
     differing: u64,
