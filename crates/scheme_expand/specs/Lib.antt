@@ -1,5 +1,0 @@
-pub mod Statuses
-pub mod Words
-pub mod Whole
-pub mod Headline
-pub mod Prepared

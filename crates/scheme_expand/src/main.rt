@@ -11,26 +11,18 @@
 //!
 //! and a program at fault gets the line of its first fault, as `p.sps:1:25: 21 Unbound: x`.
 //!
-//! The promise, on `run`: for every set of files, what is written and answered is what the eager
-//! definition `whole` gives, its core text or its first fault with its place; any other answer is a
-//! usage fault, a read or write fault that was counted in the call, or want of memory.
-//!
-//! This crate stands topmost: `words` asks `sx_words` for the job that the words ask for, `prepare` makes
-//! all text with no sink at hand, by `sx_library` and what stands below it, and `top` writes it.
+//! What a run promises stands in `sx_run`. This crate stands topmost: `system` calls it over the system's files and
+//! streams, with all primitives.
 #![tactic(auto)]
 
-mod prepare;
-mod status;
 mod system;
-mod top;
-mod words;
 
-use crate::status::Status;
 use crate::system::run_over_system;
 use std::alloc::Global;
 use std::io::ErrorKind;
 use std::process::ExitCode;
 use std::{env, io};
+use sx_run::status::Status;
 
 fn arguments(rt: &HostRuntime, alloc: Global) -> io::Result<Vec<String>> {
     let mut words = Vec::new(alloc);
@@ -59,8 +51,3 @@ fn main(rt: HostRuntime) -> io::Result<ExitCode> {
     };
     Ok(ExitCode::from(status.number()))
 }
-
-#[cfg(test)]
-mod primitives;
-#[cfg(test)]
-mod tests;

@@ -2,8 +2,6 @@
 
 ghost use Rattle.std.specs.Prelude.{◌≡◌, ◌<◌};
 
-use crate::status::Status;
-use crate::top;
 use std::alloc::Global;
 use std::marker::Brand;
 use std::sync::ledger::{Blank, Ledger};
@@ -21,6 +19,8 @@ use sx_ops::strings::{number_strings, string_comparisons, strings};
 use sx_ops::syntax::{identifiers, temporaries};
 use sx_outside::{HostFiles, HostSink};
 use sx_prims::table::{PrimRow, PrimTable};
+use sx_run::status::Status;
+use sx_run::top;
 use sx_standing::means::Counts;
 
 // The rows with one more.

@@ -1,76 +1,99 @@
-//! What is written of a program over files in memory.
+//! What comes of a run over files in memory.
 
-use std::alloc::Global;
+use crate::case::Run;
+use std::alloc::{AllocError, Global};
+use std::fmt::Write;
 use std::sync::ledger::Ledger;
-use std::test::Fail;
-use sx_base::fault::Stop;
-use sx_base::fault_line::fault_line;
-use sx_base::symbol::Symbol;
-use sx_library::loaded::{first_fault, program_text};
-use sx_load::found::{Found, Loading, Source};
-use sx_load::halt::Halt;
-use sx_load::load::load;
-use sx_outside::MemFiles;
-use sx_prelude::prelude::Prelude;
+use sx_base::memory::Memory;
+use sx_outside::{MemFiles, MemSink};
 use sx_prims::table::PrimTable;
+use sx_run::status::Status;
+use sx_run::top;
 use sx_standing::means::Counts;
 
-// The bytes of a file that was read.
-fn held_in<'a>(sources: &'a [Source], path: &Symbol) -> &'a [u8] {
-    for source in sources {
-        if source.path == *path {
-            return match &source.held {
-                Some(held) => held.as_slice(),
-                None => &[],
-            };
-        }
-    }
-    &[]
+/// How many bytes a stream takes. No case has as many to be written.
+const ROOM: usize = 65_536;
+
+// Files and streams in memory.
+#[derive(Drop)]
+struct Outside {
+    files: MemFiles,
+    out: MemSink,
+    err: MemSink,
 }
 
-// The line of a stop's fault.
-fn line_of(alloc: Global, loading: &Loading, stop: &Stop) -> Result<String, Fail> {
-    match stop {
-        Stop::Fault(fault) => {
-            let source = held_in(loading.sources.as_slice(), &fault.span.file);
-            Ok(fault_line(alloc, fault, source)?)
-        }
-        Stop::Memory => Err("no memory".into()),
-    }
+// How a run ended, and what it wrote.
+#[derive(Drop)]
+struct End {
+    status: Status,
+    out: String,
+    err: String,
 }
 
-fn of_found<N: Ledger, L: Ledger>(
+fn stream(alloc: Global, fails: Vec<(u64, usize)>) -> Result<MemSink, Memory> {
+    let mut stream = MemSink::new(alloc, fails);
+    stream.reserve(ROOM)?;
+    Ok(stream)
+}
+
+fn run_over<N: Ledger, L: Ledger>(
     alloc: Global,
-    prelude: &Prelude,
+    words: &[String],
     prims: &PrimTable,
-    found: &Found,
-    loading: &Loading,
+    outside: &mut Outside,
     counts: &mut Counts<N, L>,
-) -> Result<String, Fail> {
-    match program_text(alloc, prelude, found, loading, prims, counts) {
-        Ok(text) => Ok(text),
-        Err(stop) => line_of(alloc, loading, &stop),
-    }
+) -> Status {
+    top::run(
+        alloc,
+        words,
+        &mut outside.files,
+        &mut outside.out,
+        &mut outside.err,
+        prims,
+        counts,
+    )
 }
 
-/// What is written of the program `p.sps` among files: core text, or the line of its first fault.
+fn end_of(alloc: Global, status: Status, outside: &Outside) -> Result<End, AllocError> {
+    Ok(End {
+        status,
+        out: String::from_utf8_lossy(alloc, outside.out.bytes())?,
+        err: String::from_utf8_lossy(alloc, outside.err.bytes())?,
+    })
+}
+
+// Core text or the line of a fault, where that is all that came; else the status and both streams.
+fn shown(alloc: Global, is_told: bool, end: End) -> Result<String, AllocError> {
+    let End { status, out, err } = end;
+    if !is_told && status == Status::Done && err.is_empty() {
+        return Ok(out);
+    }
+    if !is_told && status == Status::Fault && out.is_empty() {
+        return Ok(err);
+    }
+    let number = status.number();
+    format!(in alloc; "{number} {out:?} {err:?}\n")
+}
+
+/// What comes of a run, as a case has it.
 pub fn outcome<N: Ledger, L: Ledger>(
     alloc: Global,
-    prelude: &Prelude,
+    run: Run,
     prims: &PrimTable,
-    files: Vec<(String, Vec<u8>)>,
-    roots: &[Symbol],
     counts: &mut Counts<N, L>,
-) -> Result<String, Fail> {
-    let mut files = MemFiles::new(alloc, files, Vec::new(alloc));
-    let program = Symbol::new(alloc, "p.sps")?;
-    let mut loading = Loading::new(alloc);
-    match load(alloc, &mut files, roots, &program, &mut loading) {
-        Ok(found) => of_found(alloc, prelude, prims, &found, &loading, counts),
-        Err(Halt::Fault(fault)) => {
-            let stop = first_fault(alloc, prelude, &loading, fault, prims, counts);
-            line_of(alloc, &loading, &stop)
-        }
-        Err(_) => Err("no files".into()),
-    }
+) -> Result<String, Memory> {
+    let Run {
+        words,
+        files,
+        fails,
+        is_told,
+    } = run;
+    let mut outside = Outside {
+        files: MemFiles::new(alloc, files, fails.reads),
+        out: stream(alloc, fails.outs)?,
+        err: stream(alloc, fails.errs)?,
+    };
+    let status = run_over(alloc, &words, prims, &mut outside, counts);
+    let end = end_of(alloc, status, &outside)?;
+    Ok(shown(alloc, is_told, end)?)
 }

@@ -1,0 +1,97 @@
+//! A check of files, with all primitives.
+
+ghost use Rattle.std.specs.Prelude.{◌≡◌, ◌<◌};
+
+use crate::check;
+use crate::check::no_memory;
+use std::alloc::Global;
+use std::io;
+use std::marker::Brand;
+use std::sync::ledger::{Blank, Ledger};
+use sx_base::memory::Memory;
+use sx_base::steps::Steps;
+use sx_ops::basics::basics;
+use sx_ops::characters::characters;
+use sx_ops::data::{data, trees};
+use sx_ops::equality::equality;
+use sx_ops::lists::{appended, gathered, indexed, lists};
+use sx_ops::numbers::numbers;
+use sx_ops::parts::{parts, unpacked};
+use sx_ops::raised::raising;
+use sx_ops::strings::{number_strings, string_comparisons, strings};
+use sx_ops::syntax::{identifiers, temporaries};
+use sx_prims::table::{PrimRow, PrimTable};
+use sx_standing::means::Counts;
+
+// The rows with one more.
+fn with_row(rows: Vec<PrimRow>, row: PrimRow) -> io::Result<Vec<PrimRow>> {
+    let mut rows = rows;
+    rows.push(row)?;
+    Ok(rows)
+}
+
+// Both counters are borrowed for one time, as `Counts` has them.
+fn check_both<'a, N: Ledger, L: Ledger>(
+    rt: &HostRuntime,
+    files: &[String],
+    prims: &PrimTable,
+    nodes: &'a mut Steps<N>,
+    steps: &'a mut Steps<L>,
+) -> io::Result<bool> {
+    let mut counts = Counts { nodes, steps };
+    check::check_files(rt, files, prims, &mut counts)
+}
+
+fn check_counted<N: Ledger, L: Ledger>(
+    rt: &HostRuntime,
+    files: &[String],
+    prims: &PrimTable,
+    nodes: Blank,
+    steps: Blank,
+) -> io::Result<bool>
+    requires name { nodes.name ≡ N.name }
+    requires parts { (nodes.parts ≡ N.parts) × (0 < N.parts) }
+    requires step_name { steps.name ≡ L.name }
+    requires step_parts { (steps.parts ≡ L.parts) × (0 < L.parts) }
+{
+    let mut nodes = Steps::<N>::open(nodes);
+    let mut steps = Steps::<L>::open(steps);
+    check_both(rt, files, prims, &mut nodes, &mut steps)
+}
+
+// The same, counting for nobody. Rows in order always fill the table.
+fn check_with(rt: &HostRuntime, files: &[String], rows: Vec<PrimRow>) -> io::Result<bool> {
+    let Ok(prims) = PrimTable::fill(rows) else {
+        return Err(no_memory(Memory));
+    };
+    check_counted::<Brand, Brand>(rt, files, &prims, Blank::new(1), Blank::new(1))
+}
+
+// The primitives are boxed here, since a call that handed boxes back would hide what they hold.
+fn check_boxed(rt: &HostRuntime, alloc: Global, files: &[String]) -> io::Result<bool> {
+    let rows = Vec::new(alloc);
+    let rows = with_row(rows, PrimRow::new(0, Box::new(alloc, basics)?))?;
+    let rows = with_row(rows, PrimRow::new(1, Box::new(alloc, numbers)?))?;
+    let rows = with_row(rows, PrimRow::new(2, Box::new(alloc, characters)?))?;
+    let rows = with_row(rows, PrimRow::new(3, Box::new(alloc, parts)?))?;
+    let rows = with_row(rows, PrimRow::new(4, Box::new(alloc, gathered)?))?;
+    let rows = with_row(rows, PrimRow::new(5, Box::new(alloc, lists)?))?;
+    let rows = with_row(rows, PrimRow::new(6, Box::new(alloc, appended)?))?;
+    let rows = with_row(rows, PrimRow::new(7, Box::new(alloc, indexed)?))?;
+    let rows = with_row(rows, PrimRow::new(8, Box::new(alloc, unpacked)?))?;
+    let rows = with_row(rows, PrimRow::new(9, Box::new(alloc, strings)?))?;
+    let rows = with_row(rows, PrimRow::new(10, Box::new(alloc, number_strings)?))?;
+    let rows = with_row(rows, PrimRow::new(11, Box::new(alloc, string_comparisons)?))?;
+    let rows = with_row(rows, PrimRow::new(12, Box::new(alloc, equality)?))?;
+    let rows = with_row(rows, PrimRow::new(13, Box::new(alloc, identifiers)?))?;
+    let rows = with_row(rows, PrimRow::new(14, Box::new(alloc, data)?))?;
+    let rows = with_row(rows, PrimRow::new(15, Box::new(alloc, trees)?))?;
+    let rows = with_row(rows, PrimRow::new(16, Box::new(alloc, temporaries)?))?;
+    let rows = with_row(rows, PrimRow::new(17, Box::new(alloc, raising)?))?;
+    check_with(rt, files, rows)
+}
+
+/// Whether all cases of these files come to what they should.
+pub fn check_files(rt: &HostRuntime, files: &[String]) -> io::Result<bool> {
+    check_boxed(rt, rt.alloc(), files)
+}

@@ -1,0 +1,5 @@
+pub mod Statuses
+pub mod Words
+pub mod Whole
+pub mod Headline
+pub mod Prepared

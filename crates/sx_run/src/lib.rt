@@ -1,0 +1,26 @@
+//! All that the program does, over any files and sinks.
+//!
+//! The words of a call name a top-level program (R6RS 8). It is loaded with the libraries that it imports, all is
+//! expanded, and the core text is written; a program at fault gets the line of its first fault:
+//!
+//! ```text
+//! p.sps   (import (rnrs base)) (define x 1) (+ x 2)
+//! out     (import (rnrs)) (define %/x/0 1) (+ %/x/0 2)       and the status is 0
+//!
+//! p.sps   (import (rnrs base)) x
+//! err     p.sps:1:22: 21 Unbound: x                          and the status is 1
+//! ```
+//!
+//! The promise, on `run`: for every set of files, what is written and answered is what the eager definition `whole`
+//! gives, its core text or its first fault with its place; any other answer is a usage fault, a read or write fault
+//! that was counted in the call, or want of memory.
+//!
+//! `words` asks `sx_words` for the job that the words ask for, `prepare` makes all text with no sink at hand, by
+//! `sx_library` and what stands below it, and `top` writes it. The program `scheme_expand` calls it over the system's
+//! files and streams, and `sx_cases` over files and sinks in memory.
+#![tactic(auto)]
+
+mod prepare;
+pub mod status;
+pub mod top;
+mod words;

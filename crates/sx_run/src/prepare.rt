@@ -1,0 +1,223 @@
+//! All that is to be written, before anything is.
+
+ghost use Rattle.std.specs.Option.{option_copied};
+ghost use Rattle.std.specs.Prelude.{◌≡◌, ◌≢◌, Some, Ok, IfOk, IfSome, Err, map};
+ghost use Rattle.std.specs.String.{string_bytes};
+ghost use Rattle.sx_base.specs.FaultLine.{fault_line};
+ghost use Rattle.sx_outside.specs.Causes.{Rose};
+ghost use Rattle.sx_outside.specs.Contents.{Paths};
+ghost use Rattle.sx_prelude.specs.Prelude.{kept, prelude_table};
+ghost use Rattle.sx_run.specs.Whole.{libraries, report_if, held_at, source_of, of_loaded, of_job};
+ghost use Rattle.sx_run.specs.Prepared.{Prepares};
+ghost use Rattle.sx_run.specs.declared.prepare.Unfinished.TheVariants as unfinished;
+
+use std::alloc::Global;
+use std::sync::ledger::Ledger;
+use sx_base::fault::{Fault, Stop};
+use sx_base::fault_line::fault_line;
+use sx_base::items::Items;
+use sx_base::memory::Memory;
+use sx_base::symbol::Symbol;
+use sx_library::loaded::{first_fault, program_text};
+use sx_load::found::{Found, Loading, Source};
+use sx_load::halt::Halt;
+use sx_load::load::load;
+use sx_outside::Files;
+use sx_prelude::prelude::Prelude;
+use sx_prims::table::PrimTable;
+use sx_report::report::{Fate, Told, report_text};
+use sx_stage::earlier::Earlier;
+use sx_standing::means::{Counts, Means};
+use sx_standing::share::share_library;
+use sx_words::job::Job;
+
+/// What is to be written of a program without fault.
+#[derive(Drop)]
+pub struct Prepared {
+    /// The core text.
+    pub text: String,
+    /// The report on the libraries, where it is asked for, and else nothing.
+    pub report: String,
+}
+
+/// Why there is no core text.
+#[derive(Drop)]
+pub enum Unfinished {
+    /// A fault, by its line.
+    Line(String),
+    /// A file couldn't be read.
+    Read,
+    Memory,
+}
+
+impl From<Memory> for Unfinished {
+    ghost from_gives = { λ _ e. e ≡ unfinished.Memory };
+
+    fn from(_error: Memory) -> Unfinished {
+        Unfinished::Memory
+    }
+}
+
+// The libraries of files, each of which was expanded.
+fn libraries(alloc: Global, loading: &Loading) -> Result<Items<Told>, Memory>
+    ensures { IfOk result (λ all. all ≡ libraries loading.now) }
+{
+    let mut all = Items::new(alloc);
+    for place in 0..loading.done.size() {
+        let Some((_, found)) = loading.done.at(place) else {
+            return Err(Memory);
+        };
+        let library = share_library(alloc, &found.opened.form.name)?;
+        let fate = Fate::Expanded;
+        all.push(Told { fate, library })?;
+    }
+    Ok(all)
+}
+
+// The report, where it is asked for.
+fn report_if(alloc: Global, report: bool, loading: &Loading) -> Result<String, Memory>
+    ensures { IfOk result (λ text. string_bytes text ≡ report_if report loading.now) }
+{
+    if !report {
+        return Ok(String::new(alloc));
+    }
+    let told = libraries(alloc, loading)?;
+    report_text(alloc, told.as_slice())
+}
+
+// The bytes of a source, where it has a path and was there.
+fn held_at<'a>(path: &Symbol, source: &'a Source) -> Option<&'a Items<u8>>
+    ensures { option_copied result ≡ held_at path.now source.now }
+{
+    if source.path == *path {
+        source.held.as_ref()
+    } else {
+        None
+    }
+}
+
+// The bytes of a file that was read.
+fn source_of<'a>(sources: &'a [Source], path: &Symbol) -> &'a [u8]
+    ensures { result.now ≡ source_of sources.now path.now }
+{
+    for source in sources {
+        if let Some(held) = held_at(path, source) {
+            return held.as_slice();
+        }
+    }
+    &[]
+}
+
+// The line of a fault, whose place is that in the file that it names.
+fn line_of(alloc: Global, loading: &Loading, fault: &Fault) -> Result<String, Memory>
+    ensures { IfOk result (λ line. string_bytes line ≡ fault_line fault.now (source_of loading.now.sources fault.now.span.file)) }
+{
+    let source = source_of(loading.sources.as_slice(), &fault.span.file);
+    fault_line(alloc, fault, source)
+}
+
+// The codes of the procedures that are texts.
+fn prelude<N: Ledger, L: Ledger>(
+    alloc: Global,
+    prims: &PrimTable,
+    counts: &mut Counts<N, L>,
+) -> Result<Prelude, Memory>
+    ensures { IfOk result (λ p. kept p ≡ prelude_table) }
+{
+    let earlier = Earlier {
+        records: &[],
+        needs: &[],
+    };
+    let means = Means { earlier, prims };
+    Prelude::new(alloc, &means, counts)
+}
+
+// What comes of a program that was loaded.
+fn of_found<N: Ledger, L: Ledger>(
+    alloc: Global,
+    prelude: &Prelude,
+    report: bool,
+    found: &Found,
+    loading: &Loading,
+    prims: &PrimTable,
+    counts: &mut Counts<N, L>,
+) -> Result<Prepared, Unfinished>
+    requires { kept prelude.now ≡ prelude_table }
+    ensures gives { Prepares result (of_loaded report (Ok (found.now, loading.now))) }
+    ensures unread { result ≢ Err Unfinished.Read }
+{
+    match program_text(alloc, prelude, found, loading, prims, counts) {
+        Ok(text) => {
+            let report = report_if(alloc, report, loading)?;
+            Ok(Prepared { text, report })
+        }
+        Err(Stop::Fault(fault)) => Err(Unfinished::Line(line_of(alloc, loading, &fault)?)),
+        Err(Stop::Memory) => Err(Unfinished::Memory),
+    }
+}
+
+// What comes of a fault that ended loading.
+fn of_fault<N: Ledger, L: Ledger>(
+    alloc: Global,
+    prelude: &Prelude,
+    report: bool,
+    loading: &Loading,
+    fault: Fault,
+    prims: &PrimTable,
+    counts: &mut Counts<N, L>,
+) -> Result<Prepared, Unfinished>
+    requires { kept prelude.now ≡ prelude_table }
+    ensures gives { Prepares result (of_loaded report (Err (loading.now, fault))) }
+    ensures unread { result ≢ Err Unfinished.Read }
+{
+    match first_fault(alloc, prelude, loading, fault, prims, counts) {
+        Stop::Fault(fault) => Err(Unfinished::Line(line_of(alloc, loading, &fault)?)),
+        Stop::Memory => Err(Unfinished::Memory),
+    }
+}
+
+// What comes of a job, once the texts of procedures are expanded.
+#[tactic(auto, unfolding(crate::specs::Whole::of_job))]
+fn of_job<F: Files, N: Ledger, L: Ledger>(
+    alloc: Global,
+    prelude: &Prelude,
+    job: &Job,
+    files: &mut F,
+    prims: &PrimTable,
+    counts: &mut Counts<N, L>,
+) -> Result<Prepared, Unfinished>
+    requires { kept prelude.now ≡ prelude_table }
+    ensures gives { IfSome (F.told files.old) (λ fs. Prepares result (of_job fs job.now)) }
+    ensures read { result ≡ Err Unfinished.Read → Rose (F.faults files.old) (F.faults files.new) }
+{
+    let mut loading = Loading::new(alloc);
+    match load(
+        alloc,
+        files,
+        job.roots.as_slice(),
+        &job.program,
+        &mut loading,
+    ) {
+        Ok(found) => of_found(alloc, prelude, job.report, &found, &loading, prims, counts),
+        Err(Halt::Fault(fault)) => of_fault(
+            alloc, prelude, job.report, &loading, fault, prims, counts,
+        ),
+        Err(Halt::Read) => Err(Unfinished::Read),
+        Err(Halt::Memory) => Err(Unfinished::Memory),
+    }
+}
+
+/// The core text of a job's program and its report, or why there is none.
+pub fn prepare<F: Files, N: Ledger, L: Ledger>(
+    alloc: Global,
+    job: &Job,
+    files: &mut F,
+    prims: &PrimTable,
+    counts: &mut Counts<N, L>,
+) -> Result<Prepared, Unfinished>
+    ensures gives { IfSome (F.told files.old) (λ fs. Prepares result (of_job fs job.now)) }
+    ensures read { result ≡ Err Unfinished.Read → Rose (F.faults files.old) (F.faults files.new) }
+{
+    let prelude = prelude(alloc, prims, counts)?;
+    of_job(alloc, &prelude, job, files, prims, counts)
+}
