@@ -101,6 +101,10 @@ module _ (w : PlainSetting) where
       by false k n = refl
       by true k n = absurd (cc)
 
+  -- a test that faults
+  pub test-stops : (c d e : PlainCore) (scope : Place) (s t : State) (f : Bare) → ExpressionEnds c scope s (Err f) t → ExpressionEnds (two_armed c d e) scope s (Err f) t
+  test-stops c d e scope s t f h = ends-step (two_armed c d e) scope s (Err f) t (ends-stopped (eval_of w c scope s) (two_arms w (eval_of w) d e scope) f t h)
+
   pub if-false : (c d e : PlainCore) (scope : Place) (s t u : State) (x v : Value) → Evaluates c scope s x t → truth_of x ≡ false → Evaluates e scope t v u → Evaluates (two_armed c d e) scope s v u
   if-false c d e scope s t u x v test is h = false-ends c d e scope s t u x (Ok v) test is h
 
