@@ -42,7 +42,7 @@ module _ (w : PlainSetting) (known : code_at w.codes (code_no 61) ≡ Some (proc
   abbrev Faulted : List Value → Value → State → Type 0
   Faulted xs l s = Faults w g (f ∷ l ∷ []) f xs s
 
-  names : Names 60 63 64 home g
+  abbrev names : Names 60 63 64 home g
   names = record { procedure = λ f l. refl; list = λ f l. refl; no_loop = λ f l. refl; loop = refl }
 
   module _ (x l d : Value) (xs : List Value) (s : State) (round : Home s.cells p home) (pair : pair_of s.cells l ≡ Some (x, d)) where

@@ -36,7 +36,7 @@ module _ (w : PlainSetting) (known : code_at w.codes (code_no 61) ≡ Some (proc
   abbrev Filtered : List Value → Value → State → Type 0
   Filtered xs l s = Filters w g (f ∷ l ∷ []) f chosen xs s
 
-  names : Names 60 63 64 home g
+  abbrev names : Names 60 63 64 home g
   names = record { procedure = λ f l. refl; list = λ f l. refl; no_loop = λ f l. refl; loop = refl }
 
   pub nothing : (s : State) → Home s.cells p home → Filtered [] nil s

@@ -1,5 +1,5 @@
 -- The loop of `memp`, where calls may fault.
-use Rattle.std.proofs.Common.{◌≡◌, List, [], ◌∷◌, Some, None, Bool, true, false, Ok, Err, refl, sym, subst, inl, inr}
+use Rattle.std.proofs.Common.{◌≡◌, List, [], ◌∷◌, Some, None, true, false, Ok, Err, refl, sym, subst, inl, inr}
 use Rattle.std.specs.Prelude.{◌⊎◌}
 use Rattle.sx_base.specs.declared.fault.Bare.{Bare}
 use Rattle.sx_region.specs.declared.region.Place.{Place}
@@ -15,10 +15,10 @@ use Rattle.sx_eval.specs.Variables.{Entries}
 use Rattle.sx_eval_laws.specs.Kept.{Later}
 use Rattle.sx_list_laws.specs.Runs.{IsList}
 use Rattle.sx_given_laws.specs.Calls.{End, CallEnds, Calls}
-use Rattle.sx_given_laws.specs.Codes.{label, code_no, var, one_case, app, car, memp_some, memp_loop}
+use Rattle.sx_given_laws.specs.Codes.{label, code_no, one_case, memp_some, memp_loop}
 use Rattle.sx_given_laws.specs.Given.{FindsTail, SearchFaults}
 use Rattle.sx_given_laws.specs.InTurn.{search_stops, search_goes_on, AfterFalse, SearchEnds}
-use Rattle.sx_given_laws.proofs.Giving.{Evaluates, ExpressionEnds, false-ends, test-stops}
+use Rattle.sx_given_laws.proofs.Giving.{ExpressionEnds, false-ends, test-stops}
 use Rattle.sx_given_laws.proofs.FindLoop.{by-truth}
 use Rattle.sx_given_laws.proofs.MempLoop.{nothing, found, missed}
 use Rattle.sx_given_laws.proofs.Inside.{Home, home-later, one_home}
@@ -42,7 +42,7 @@ module _ (w : PlainSetting) (known : code_at w.codes (code_no 86) ≡ Some (proc
   abbrev Faulted : List Value → Value → State → Type 0
   Faulted xs l s = SearchFaults w g (f ∷ l ∷ []) f xs s
 
-  names : Names 85 88 89 home g
+  abbrev names : Names 85 88 89 home g
   names = record { procedure = λ f l. refl; list = λ f l. refl; no_loop = λ f l. refl; loop = refl }
 
   module _ (x l d : Value) (xs : List Value) (s : State) (round : Home s.cells p home) (pair : pair_of s.cells l ≡ Some (x, d)) where

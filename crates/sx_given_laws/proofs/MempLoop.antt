@@ -41,7 +41,7 @@ module _ (w : PlainSetting) (known : code_at w.codes (code_no 86) ≡ Some (proc
   abbrev Found : List Value → Value → State → Type 0
   Found xs l s = FindsTail w g (f ∷ l ∷ []) f l xs s
 
-  names : Names 85 88 89 home g
+  abbrev names : Names 85 88 89 home g
   names = record { procedure = λ f l. refl; list = λ f l. refl; no_loop = λ f l. refl; loop = refl }
 
   pub nothing : (s : State) → Home s.cells p home → Found [] nil s

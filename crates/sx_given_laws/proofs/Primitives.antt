@@ -7,6 +7,7 @@ use Rattle.sx_base.specs.declared.span.Span.{Span}
 use Rattle.sx_frames.specs.Scope.{Scope}
 use Rattle.sx_region.specs.declared.region.Place.{Place}
 use Rattle.sx_core.specs.Core.{PlainCore, quoted, none, cores}
+use Rattle.sx_value.specs.FromDatum.{pairs_stored}
 use Rattle.sx_value.specs.declared.value.Value.{Value}
 use Rattle.sx_value.specs.declared.value.Value.TheVariants as value
 use Rattle.sx_value.specs.declared.cell.Cell.{Cell}
@@ -22,7 +23,7 @@ use Rattle.sx_prims.specs.declared.made.Made.TheVariants as made
 use Rattle.sx_eval.specs.Meaning.{quoted_value}
 use Rattle.sx_eval.specs.Procedures.{has_text, truth_of}
 use Rattle.sx_eval.specs.Setting.{PlainSetting}
-use Rattle.sx_eval.specs.State.{State, done, with_cell}
+use Rattle.sx_eval.specs.State.{State, done, store, with_cell}
 use Rattle.sx_given_laws.specs.Calls.{Gives, Calls}
 use Rattle.sx_given_laws.specs.Codes.{prim, app, car, cdr, is_null, cons}
 use Rattle.sx_given_laws.proofs.Giving.{gives-done, gives-charged, Evaluates, evaluates-step, ExpressionEnds, primitive-is, operand-ends, operand-stops, call-ends, call-one, call-two}
@@ -124,6 +125,12 @@ module _ (w : PlainSetting) where
       → Calls w (value.Prim (record { 0 = 41 })) (x ∷ y ∷ []) s (next_pair s) (with_cell (cell.Pair z y) s)
   unfolding has_text
   append-called x y z s e = plain-called w (record { 0 = 41 }) (x ∷ y ∷ []) s (made.List (z ∷ []) y) refl refl refl (append-answer s.cells w.frames x y (z ∷ []) e)
+
+  -- and of any list
+  pub appended : (x y : Value) (xs : List Value) (s : State) → list_elements s.cells x ≡ Some xs
+      → Calls w (value.Prim (record { 0 = 41 })) (x ∷ y ∷ []) s (pairs_stored xs (y, s.cells)).0 (store (pairs_stored xs (y, s.cells)).1 s.names)
+  unfolding has_text
+  appended x y xs s e = plain-called w (record { 0 = 41 }) (x ∷ y ∷ []) s (made.List xs y) refl refl refl (append-answer s.cells w.frames x y xs e)
 
   -- Expressions that call them.
 

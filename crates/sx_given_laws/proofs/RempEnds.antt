@@ -1,5 +1,5 @@
 -- `remp`, where calls may fault.
-use Rattle.std.proofs.Common.{◌≡◌, List, [], ◌∷◌, Some, None, true, false, Ok, Err, refl, sym, subst, inl, inr}
+use Rattle.std.proofs.Common.{◌≡◌, List, [], ◌∷◌, Some, None, true, Ok, Err, refl, sym, subst, inl, inr}
 use Rattle.std.specs.Prelude.{◌⊎◌}
 use Rattle.sx_base.specs.declared.fault.Bare.{Bare}
 use Rattle.sx_region.specs.declared.region.Place.{Place}
@@ -21,12 +21,12 @@ use Rattle.sx_given_laws.specs.Calls.{End, call_of, CallEnds, Calls}
 use Rattle.sx_given_laws.specs.Codes.{label, code_no, var, prim, formals, one_case, lambda, app, text_code, remp_test, remp_body, remp_text}
 use Rattle.sx_given_laws.specs.Given.{Filters, Faults}
 use Rattle.sx_given_laws.specs.InTurn.{InTurn, Stops, stops_here, stops_behind, AfterValue, AllEnd, chosen, others}
-use Rattle.sx_given_laws.proofs.Giving.{ExpressionEnds, procedure-is, primitive-is, operand-stops, call-ends, call-one-ends, call-two-ends}
+use Rattle.sx_given_laws.proofs.Giving.{procedure-is, primitive-is, operand-stops, call-ends, call-one-ends, call-two-ends}
 use Rattle.sx_given_laws.proofs.Calling.{closure-ends, case-ends, text-ends}
 use Rattle.sx_given_laws.proofs.FilterEnds.{filter-ended}
 use Rattle.sx_given_laws.proofs.Inside.{Inside, Home, home-later, entered-inside, own, outer}
 use Rattle.sx_given_laws.proofs.Knows.{Knows}
-use Rattle.sx_given_laws.proofs.Later.{later-then, later-with, calls-later, list-later, in-turn-from, stops-from, all-end-later}
+use Rattle.sx_given_laws.proofs.Later.{later-then, later-with, list-later, in-turn-from, stops-from, all-end-later}
 use Rattle.sx_given_laws.proofs.Remp.{turned-called, far, turned-did}
 use Rattle.sx_given_laws.proofs.Unique.{ends-one-end, ends-one-state}
 
@@ -92,10 +92,11 @@ module _ (w : PlainSetting) (knows : Knows w.codes) (f l : Value) where
         absurd (cc)
 
     stops-back : (xs : List Value) (e : Bare) (s t : State) → Home s.cells p vars → AllEnd w f xs s → Stops w turned xs s e t → Stops w f xs s e t
-    stops-back xs e s t round give (stops_here {x = x} {xs = ys} {t = r} k c) =
+    stops-back [] e s t round give i = elim i [ ]
+    stops-back (x ∷ ys) e s t round give (stops_here {t = r} k c) =
         let made = give (tested x r) (later-then s r (tested x r) k (later-with r (cell.Scope ((label 74, Some x) ∷ []) (Some p)))) in
         stop-here x ys e s r t k (home-later s r k p vars round) c made.0 made.1 made.2
-    stops-back xs e s t round give (stops_behind {x = x} {y = z} {xs = ys} {t = r} {u = b} k c i) =
+    stops-back (x ∷ ys) e s t round give (stops_behind {y = z} {t = r} {u = b} k c i) =
         let made = give (tested x r) (later-then s r (tested x r) k (later-with r (cell.Scope ((label 74, Some x) ∷ []) (Some p)))) in
         stop-behind x z ys e s r b t k (home-later s r k p vars round) c i made.0 made.1 made.2 made.3 (λ v around a j. stops-back ys e v t around a j)
 
