@@ -21,20 +21,9 @@ use Rattle.sx_import.proofs.TurnLemmas.{cons_at, got}
 abbrev pub is_absent : Labelled → NameAt → Bool
 is_absent names id = not (has_name names id.name)
 
--- names and identifiers alone, as pairs with nothing
-abbrev pub alone : Labelled → List (List ℕ × Unit {0})
-alone names = map (λ e. (e.0, tt)) names
-
+-- identifiers alone, as pairs with nothing
 abbrev pub asked_for : List NameAt → List (List ℕ × Unit {0})
 asked_for ids = map (λ id. (id.name, tt)) ids
-
-has-alone : (name : List ℕ) (names : Labelled) → is_some (value_of name (alone names)) ≡ has_name names name
-has-alone name [] = refl
-has-alone name (e ∷ es) = by (same_text name e.0) (has-alone name es)
-  where
-    by : (b : Bool) → is_some (value_of name (alone es)) ≡ has_name es name → is_some (cond b (Some tt) (value_of name (alone es))) ≡ is_some (cond b (Some e.1) (value_of name es))
-    by true h = refl
-    by false h = h
 
 has-asked : (name : List ℕ) (ids : List NameAt) → is_some (value_of name (asked_for ids)) ≡ is_among ids name
 has-asked name [] = refl
@@ -44,8 +33,8 @@ has-asked name (id ∷ ids) = by (same_text name id.name) (has-asked name ids)
     by true h = refl
     by false h = h
 
-pub has-table : (names : Labelled) (table : List (List ℕ × Unit {0})) → table ≡ put_all [] (alone names) → (name : List ℕ) → is_some (value_of name table) ≡ has_name names name
-has-table names table is name = ap (λ t. is_some (value_of name t)) is ∙ ap is_some (value-put_all name (alone names)) ∙ has-alone name names
+pub has-table : (names table : Labelled) → table ≡ put_all [] names → (name : List ℕ) → has_name table name ≡ has_name names name
+has-table names table is name = ap (λ t. is_some (value_of name t)) is ∙ ap is_some (value-put_all name names)
 
 pub among-table : (ids : List NameAt) (table : List (List ℕ × Unit {0})) → table ≡ put_all [] (asked_for ids) → (name : List ℕ) → is_some (value_of name table) ≡ is_among ids name
 among-table ids table is name = ap (λ t. is_some (value_of name t)) is ∙ ap is_some (value-put_all name (asked_for ids)) ∙ has-asked name ids
@@ -86,6 +75,14 @@ need_stops {A} names ids x (stops.Fault f) h = by (find (is_absent names) ids) h
     by : (o : Option NameAt) → need_by o fine ≡ Err f → need_by o x ≡ Err f
     by None h = cc
     by (Some id) h = let e : missing_at id ≡ f = cc in ap Err e
+
+-- names that have the same as others need the same
+pub need_same : {A : Type 0} (others names : Labelled) (ids : List NameAt) (x : Result A Fault) → ((name : List ℕ) → has_name others name ≡ has_name names name) → need others ids x ≡ need names ids x
+need_same others names ids x h = ap (λ o. need_by o x) (same ids)
+  where
+    same : (ids : List NameAt) → find (is_absent others) ids ≡ find (is_absent names) ids
+    same [] = refl
+    same (id ∷ ids) = ap (λ b. cond (not b) (Some id) (find (is_absent others) ids)) (h id.name) ∙ ap (λ o. cond (not (has_name names id.name)) (Some id) o) (same ids)
 
 -- one more name, where it passes a test
 pub filter_on : (test : List ℕ × Label → Bool) (names : Labelled) (i : ℕ) (row : List ℕ × Label) (rows new whole : Labelled) → i < length names → row ≡ get_or names i row

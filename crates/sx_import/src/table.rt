@@ -2,8 +2,9 @@
 
 ghost use Rattle.std.specs.Map.{lookup};
 ghost use Rattle.std.specs.Option.{option_copied, option_map};
-ghost use Rattle.std.specs.Prelude.{◌≡◌, ℕ, List, [], ◌∷◌, ◌++◌, take, length, slice_get, None, Some, Ok, IfOk, OnOk, OnErr, if◌then◌else◌, is_some};
+ghost use Rattle.std.specs.Prelude.{◌≡◌, ◌≤◌, ℕ, List, [], ◌∷◌, ◌++◌, take, length, slice_get, None, Some, Ok, IfOk, OnOk, OnErr, if◌then◌else◌, is_some};
 ghost use Rattle.sx_import.specs.Table.{value_of, put_first, pair_now};
+ghost use Rattle.sx_import.specs.Shared.{place_of, IsOwn};
 
 use indexmap::IndexMap;
 use std::alloc::Global;
@@ -46,6 +47,21 @@ impl<V: Drop> Table<V> {
         ensures { option_copied result ≡ value_of name.now self.now }
     {
         self.rows.get(name)
+    }
+
+    /// The place of a name. It takes no memory.
+    pub fn place_of(&self, name: &Symbol) -> Option<usize>
+        ensures { result ≡ place_of name.now self.now }
+    {
+        self.rows.get_index_of(name)
+    }
+
+    /// How many of so many names can be here, for each stands once.
+    pub fn at_most(&self, count: usize) -> usize
+        ensures fits { result ≤ count }
+        ensures own { IsOwn self.now }
+    {
+        count.min(self.rows.len())
     }
 
     /// The name and value at a place.
