@@ -108,14 +108,6 @@ join_over span all row label r there given =
     by false (Err stops.Memory) h = tt
     by false (Err (stops.Fault f)) h = let e : conflict span row.0 ≡ f = cc in ap Err e
 
--- a table only grows
-pub put_front : (rows : Labelled) (row : List ℕ × Label) → (tail : Labelled) × (put_first rows row ≡ rows ++ tail)
-put_front rows row = by (is_some (value_of row.0 rows))
-  where
-    by : (b : Bool) → (tail : Labelled) × (cond b rows (rows ++ row ∷ []) ≡ rows ++ tail)
-    by true = ([], sym (append-nil rows))
-    by false = (row ∷ [], refl)
-
 -- one more name of a table
 pub row_on : (names : Labelled) (i : ℕ) (row : List ℕ × Label) (rows : Labelled) → slice_get names i ≡ Some row → rows ++ drop i names ≡ names → (rows ++ row ∷ []) ++ drop (i + 1) names ≡ names
 row_on names i row rows there so_far = append_assoc rows (row ∷ []) (drop (i + 1) names) ∙ sym (ap (λ r. rows ++ r) (got names i row there)) ∙ so_far

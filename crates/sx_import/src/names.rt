@@ -358,7 +358,7 @@ fn join_one(alloc: Global, all: &mut Names, row: &(Symbol, Label), span: &Span) 
     if let Some(label) = all.get(&row.0) {
         return join_again(alloc, label, row, span);
     }
-    all.put_first(row.0.share()?, row.1.share()?)?;
+    all.put_new(row.0.share()?, row.1.share()?)?;
     Ok(())
 }
 

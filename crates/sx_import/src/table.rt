@@ -85,6 +85,18 @@ impl<V: Drop> Table<V> {
         }
     }
 
+    /// Puts a value at the end under a name that has none. A refusal changes nothing.
+    pub fn put_new(&mut self, name: Symbol, value: V) -> Result<(), Memory>
+        requires { value_of name self.old ≡ None }
+        ensures ok { OnOk result (self.new ≡ self.old ++ (name, value) ∷ []) }
+        ensures err { OnErr result (self.new ≡ self.old) }
+    {
+        match self.rows.insert(name, value) {
+            Ok(_) => Ok(()),
+            Err(_) => Err(Memory),
+        }
+    }
+
     /// Leaves the first values alone.
     pub fn truncate(&mut self, size: usize)
         ensures { self.new ≡ take size self.old }

@@ -81,7 +81,7 @@ fn record_referred(alloc: Global, set: &ImportSet, one: Option<&LibRecord>) -> R
     }
 }
 
-#[tactic(auto, using(crate::proofs::SourceLemmas::no_names))]
+#[tactic(auto, using(crate::proofs::SourceLemmas::no_names, crate::proofs::SourceLemmas::none_enough))]
 fn import_all(
     alloc: Global,
     records: &Records,
