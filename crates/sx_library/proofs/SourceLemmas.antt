@@ -68,3 +68,7 @@ names_there library rows h = by (source_in library rows) h
     by : (o : Option Source) → is_some o ≡ true → is_some (option_map (λ (s : Source). s.exports) o) ≡ true
     by None h = h
     by (Some s) h = refl
+
+pub there_now : (name library : LibName) (names : Labelled) (rows new : List (LibName × Source)) → ((l : LibName) → names_in l new ≡ (if same_library name l then Some names else names_in l rows)) → name ≡ library
+    → is_some (names_in library new) ≡ true
+there_now name library names rows new is same = ap is_some (is library ∙ ap (λ b. cond b (Some names) (names_in library rows)) ((same_library_decides name library).1 same))
