@@ -66,7 +66,11 @@ fn row_at(names: &Names, place: usize) -> Result<Option<(Symbol, Label)>, Memory
 }
 
 // The names at these places.
-fn names_at(alloc: Global, names: &Names, places: &[usize]) -> Result<Items<(Symbol, Label)>, Memory>
+fn names_at(
+    alloc: Global,
+    names: &Names,
+    places: &[usize],
+) -> Result<Items<(Symbol, Label)>, Memory>
     ensures { IfOk result (λ rows. rows ≡ names_at names.now places.now) }
 {
     let mut rows = Items::new(alloc);

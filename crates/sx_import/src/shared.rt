@@ -12,7 +12,8 @@ ghost use Rattle.sx_import.specs.declared.set.Step.TheVariants as word;
 
 use crate::found::found;
 use crate::names::{
-    Names, join_names, joined, joined_table, kept, left, need_in, prefixed, renamed, rows, sources, taken,
+    Names, join_names, joined, joined_table, kept, left, need_in, prefixed, renamed, rows, sources,
+    taken,
 };
 use crate::set::{NameAt, Renaming, Step};
 use std::alloc::Global;
@@ -210,13 +211,7 @@ fn left_out<'a>(step: &'a Step, others: &[Step]) -> Option<&'a Items<NameAt>>
     ensures { IfSome result (λ ids. step.now ∷ others.now ≡ word.Except ids.now ∷ []) }
 {
     match step {
-        Step::Except(ids) => {
-            if others.is_empty() {
-                Some(ids)
-            } else {
-                None
-            }
-        }
+        Step::Except(ids) => { if others.is_empty() { Some(ids) } else { None } }
         Step::Only(_) | Step::Prefix(_) | Step::Rename(_) => None,
     }
 }

@@ -113,7 +113,14 @@ fn import_into(
     ensures listed { OnOk result (AreListed (needed_records records.now needs.now) sources.new.entries) }
     ensures enough { OnOk result (AreEnough names.new sources.new.entries) }
 {
-    list_source(alloc, records, needs, sources, &import.set.library, &import.span)?;
+    list_source(
+        alloc,
+        records,
+        needs,
+        sources,
+        &import.set.library,
+        &import.span,
+    )?;
     join_source(alloc, sources, names, &import.set, &import.span)
 }
 

@@ -9,7 +9,7 @@ use Rattle.sx_import.proofs.found.places.Goals as goal
 pub loop-id-preserved : goal.loop-id-preserved
 loop-id-preserved c =
     collect_on (λ (id : NameAt). place_of id.name c.args.names.now) c.args.ids.now c.loop-id.id-index c.id-item.result c.loop-id.places c.push_some.new.items _ c.loop-id-test.true c.id-item.is
-      (c.in_ok-push_some.ensures ∙ ap (λ o. c.loop-id.places ++ cons_option o []) c.place_of.ensures) c.loop-id.invariant
+    (c.in_ok-push_some.ensures ∙ ap (λ o. c.loop-id.places ++ cons_option o []) c.place_of.ensures) c.loop-id.invariant
 
 pub returns-clause-places : goal.returns-clause-places
 returns-clause-places c =

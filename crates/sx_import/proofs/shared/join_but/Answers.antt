@@ -24,4 +24,4 @@ returns-clause-front c = joined_front c.args.span.now c.as_slice.result.now c.ar
 pub returns-clause-fresh : goal.returns-clause-fresh
 returns-clause-fresh c =
     subst (λ f. IsEnough c.join_names.new.all c.args.exports.now f) (sym c.in_ok-rest.ensures)
-      (but_leaves c.args.all.now c.args.exports.now c.args.fresh.now c.requires c.args.span.now c.args.ids.now _ (sym (ap (joined c.args.span.now c.args.all.now) (c.as_slice.ensures ∙ c.in_ok-more.ensures)) ∙ c.in_ok-join_names.ensures.names))
+    (but_leaves c.args.all.now c.args.exports.now c.args.fresh.now c.requires c.args.span.now c.args.ids.now _ (sym (ap (joined c.args.span.now c.args.all.now) (c.as_slice.ensures ∙ c.in_ok-more.ensures)) ∙ c.in_ok-join_names.ensures.names))

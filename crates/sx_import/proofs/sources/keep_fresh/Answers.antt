@@ -9,4 +9,4 @@ returns-clause-names c =
 pub returns-clause-enough : goal.returns-clause-enough
 returns-clause-enough c = λ all h enough.
     kept_enough c.args.library.now c.in-Some.source.now c.args.fresh c.args.sources.now.entries _ (sym c.in-Some.ensures.value) (c.get_mut.follows.holds (record { exports = c.in-Some.source.now.exports; fresh = c.args.fresh })).0
-      all h (enough c.in-Some.source.now (sym c.in-Some.ensures.value))
+    all h (enough c.in-Some.source.now (sym c.in-Some.ensures.value))

@@ -13,7 +13,7 @@ returns-clause-listed c =
     let records = needed_records c.args.records.now c.args.needs.now in
     let span = c.args.span.now in
     listed_more records c.in_ok-name.name c.in_ok-exports-2.exports span c.args.sources.now.entries _ c.in_ok-add_source.ensures.names
-      (ap (λ l. joined span [] (exported records l)) c.in_ok-name.ensures ∙ sym (ap (joined span []) (c.as_slice.ensures ∙ c.in_ok-exports.ensures)) ∙ c.in_ok-exports-2.ensures) c.requires
+    (ap (λ l. joined span [] (exported records l)) c.in_ok-name.ensures ∙ sym (ap (joined span []) (c.as_slice.ensures ∙ c.in_ok-exports.ensures)) ∙ c.in_ok-exports-2.ensures) c.requires
 
 pub returns-clause-there : goal.returns-clause-there
 returns-clause-there c = there_now c.in_ok-name.name c.args.library.now c.in_ok-exports-2.exports c.args.sources.now.entries _ c.in_ok-add_source.ensures.names c.in_ok-name.ensures
