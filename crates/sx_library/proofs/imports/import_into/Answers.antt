@@ -3,6 +3,9 @@ use Rattle.sx_library.specs.Records.{needed_records}
 use Rattle.sx_library.proofs.SourceLemmas.{import_stops, import_gives, listed_same, on_ok}
 use Rattle.sx_library.proofs.imports.import_into.Goals as goal
 
+pub join_source-requires : goal.join_source-requires
+join_source-requires c = c.in_ok-list_source.ensures.enough c.args.names.now c.requires.enough
+
 pub returns-in_err-list_source-clause-names : goal.returns-in_err-list_source-clause-names
 returns-in_err-list_source-clause-names c =
     let p = err_from_is_err_and c.from_residual.result c.from_residual.ensures.1 in
