@@ -58,7 +58,7 @@ each_filter P keep (x ∷ xs) h = by (keep x) (each_filter P keep xs h.1)
     by true rest = (h.0, rest)
     by false rest = rest
 
-found_among : {A : Type 0} (p : A → Bool) (xs : List A) (x : A) → find p xs ≡ Some x → Among xs x
+pub found_among : {A : Type 0} (p : A → Bool) (xs : List A) (x : A) → find p xs ≡ Some x → Among xs x
 found_among p [] x h = absurd (cc)
 found_among {A} p (y ∷ ys) x h = by (p y) (found_among p ys x) h
   where
