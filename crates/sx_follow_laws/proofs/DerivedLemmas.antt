@@ -1,5 +1,6 @@
 -- The derived library: it imports what is given, each name once, and exports each name that the implementation leaves to it.
 use Rattle.std.proofs.Common.{◌≡◌, ℕ, zero, suc, ◌+◌, ◌<◌, ◌≤◌, Bool, true, false, List, [], ◌∷◌, ◌++◌, Result, Ok, Err, Option, Some, None, refl, sym, ap, subst, ◌∙◌, inl, inr, arith, if◌then◌else◌}
+use Rattle.std.specs.Cmp.{unsigned_Decides}
 use Rattle.std.specs.Prelude.{map, is_some}
 use Rattle.sx_base.specs.Gives.{◌>>=◌}
 use Rattle.sx_base.specs.Op.{name_count, op_text}
@@ -63,7 +64,7 @@ left_known (e ∷ es) h = (inr h.0, left_known es h.1)
 -- ---- what it exports
 
 number_is : (n m : ℕ) → is_number n (Some m) ≡ true → m ≡ n
-number_is n m h = omega (arith, h)
+number_is n m h = (unsigned_Decides m n).0 h
 
 defined_exported : (ds : List (Option ℕ)) (place n at : ℕ) → definition_from place n ds ≡ Some at → Among (map asked (exports_of ds)) (op_text n)
 unfolding exports_of

@@ -43,11 +43,11 @@ module _ {A : Type 0} (of : LibRecord → List A) (library : A → LibName) wher
 
   library_named : (rs : List LibRecord) → Each AreOwn rs → (x : A) → Among (flat_map of rs) x → Among (names_of rs) (library x)
   library_named [] own x a = elim a [ ]
-  library_named (r ∷ rs) own x a = by (among-parts (of r) (flat_map of rs) x a)
+  library_named (r ∷ rs) own x a = by (among-parts (of r) (flat_map of rs) x a) (library_named rs own.1 x)
     where
-      by : Among (of r) x ⊎ Among (flat_map of rs) x → Among (names_of (r ∷ rs)) (library x)
-      by (inl b) = inl (each-at (λ (y : A). library y ≡ r.name) (of r) x own.0 b)
-      by (inr b) = inr (library_named rs own.1 x b)
+      by : Among (of r) x ⊎ Among (flat_map of rs) x → (Among (flat_map of rs) x → Among (names_of rs) (library x)) → Among (names_of (r ∷ rs)) (library x)
+      by (inl b) rest = inl (each-at (λ (y : A). library y ≡ r.name) (of r) x own.0 b)
+      by (inr b) rest = inr (rest b)
 
   all_once : (rs : List LibRecord) → Once (names_of rs) → Each AreOwn rs → Each AreOnce rs → Once (flat_map of rs)
   all_once [] names own once = tt
@@ -55,13 +55,13 @@ module _ {A : Type 0} (of : LibRecord → List A) (library : A → LibName) wher
       once-append (of r) (flat_map of rs) once.0 (all_once rs names.1 own.1 once.1)
       (λ x a b. names.0 (subst (Among (names_of rs)) (each-at (λ (y : A). library y ≡ r.name) (of r) x own.0 a) (library_named rs own.1 x b)))
 
-label_library : Label → LibName
+abbrev label_library : Label → LibName
 label_library l = l.0.library
 
-code_library : CodeNo → LibName
+abbrev code_library : CodeNo → LibName
 code_library n = n.0.library
 
-key_library : Key → LibName
+abbrev key_library : Key → LibName
 key_library k = k.0.0.library
 
 keys_own : (r : LibRecord) (rows : List FrameRow) → Each (λ (f : FrameRow). f.frame.0.library ≡ r.name) rows → Each (λ (k : Key). key_library k ≡ r.name) (map key_of rows)

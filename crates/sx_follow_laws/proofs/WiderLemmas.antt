@@ -28,11 +28,11 @@ module _ {B : Type 0} (of : LibRecord → List B) where
   -- what one of some records has, more records have
   pub all_wider : (few many : List LibRecord) (x : B) → AreAmong few many → Among (flat_map of few) x → Among (flat_map of many) x
   all_wider [] many x w a = elim a [ ]
-  all_wider (q ∷ few) many x w a = by (among-parts (of q) (flat_map of few) x a)
+  all_wider (q ∷ few) many x w a = by (among-parts (of q) (flat_map of few) x a) (all_wider few many x (λ y c. w y (inr c)))
     where
-      by : Among (of q) x ⊎ Among (flat_map of few) x → Among (flat_map of many) x
-      by (inl b) = among_all many q x (w q (inl refl)) b
-      by (inr b) = all_wider few many x (λ y c. w y (inr c)) b
+      by : Among (of q) x ⊎ Among (flat_map of few) x → (Among (flat_map of few) x → Among (flat_map of many) x) → Among (flat_map of many) x
+      by (inl b) rest = among_all many q x (w q (inl refl)) b
+      by (inr b) rest = rest b
 
 pub names_wider : (few many : List LibRecord) (n : LibName) → AreAmong few many → Among (names_of few) n → Among (names_of many) n
 names_wider few many n w a = let x = named_among few n a in subst (Among (names_of many)) x.name (name_among many x.record_of (w x.record_of x.among))
