@@ -1,5 +1,5 @@
 -- The derived library: it imports what is given, each name once, and exports each name that the implementation leaves to it.
-use Rattle.std.proofs.Common.{◌≡◌, ℕ, zero, suc, ◌+◌, ◌<◌, ◌≤◌, Bool, true, false, List, [], ◌∷◌, ◌++◌, Result, Ok, Err, Option, Some, None, refl, sym, ap, subst, ◌∙◌, inl, inr, arith, if◌then◌else◌}
+use Rattle.std.proofs.Common.{◌≡◌, ℕ, zero, suc, ◌+◌, ◌<◌, ◌≤◌, Bool, true, false, List, [], ◌∷◌, Result, Ok, Err, Option, Some, None, refl, sym, ap, subst, inl, inr, arith, if◌then◌else◌}
 use Rattle.std.specs.Cmp.{unsigned_Decides}
 use Rattle.std.specs.Prelude.{map, is_some}
 use Rattle.sx_base.specs.Gives.{◌>>=◌}
@@ -14,7 +14,7 @@ use Rattle.sx_core_laws.specs.Follows.{export_names, Follows}
 use Rattle.sx_core_laws.specs.Words.{Each, Among, Once}
 use Rattle.sx_core_laws.proofs.Decisions.{once_decides, text_decides}
 use Rattle.sx_derived.specs.Derived.{forms_of, record_of, derived_record}
-use Rattle.sx_derived.specs.Names.{path, start, is_defined, name_at, names_from, names, export_at, exports_of}
+use Rattle.sx_derived.specs.Names.{path, start, is_defined, name_at, names_from, names, exports_of}
 use Rattle.sx_eval.specs.Codes.{Codes}
 use Rattle.sx_expand_laws.specs.Behind.{IsKnownBefore, IsFollower}
 use Rattle.sx_expand_laws.proofs.Behind.{asked, record-named, records-follow}

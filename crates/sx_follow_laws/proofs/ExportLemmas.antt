@@ -1,6 +1,6 @@
 -- A form that is read exports each name once: a library form each external name at its first place, and a program none.
 use Rattle.std.proofs.Common.{◌≡◌, ℕ, Bool, true, false, List, [], ◌∷◌, ◌++◌, Result, Ok, Err, Option, Some, None, refl, sym, ap, subst, cond, ◌∙◌, inl, inr}
-use Rattle.std.specs.Prelude.{map, codes, slice_get, if◌then◌else◌}
+use Rattle.std.specs.Prelude.{map, codes, if◌then◌else◌}
 use Rattle.sx_base.specs.Datum.{PlainDatum}
 use Rattle.sx_base.specs.Gives.{◌>>=◌}
 use Rattle.sx_base.specs.declared.fault.Fault.{Fault}

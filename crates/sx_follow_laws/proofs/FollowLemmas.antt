@@ -6,14 +6,13 @@ use Rattle.sx_base.specs.Gives.{◌>>=◌}
 use Rattle.sx_base.specs.declared.fault.Fault.{Fault}
 use Rattle.sx_base.specs.declared.library.LibName.{LibName}
 use Rattle.sx_base.specs.declared.library.LibName.TheVariants as library
-use Rattle.sx_base.specs.declared.name.Label.{Label}
 use Rattle.sx_core.specs.declared.record.LibRecord.{LibRecord}
 use Rattle.sx_core_laws.specs.Following.{AllFollow}
 use Rattle.sx_core_laws.specs.Follows.{names_of, Follows}
-use Rattle.sx_core_laws.specs.Words.{Each, Among, Once}
+use Rattle.sx_core_laws.specs.Words.{Among, Once}
 use Rattle.sx_eval.specs.Codes.{Codes}
 use Rattle.sx_expand.specs.Expanding.{ready, library_record}
-use Rattle.sx_expand_laws.specs.Behind.{IsKnownBefore, IsFollower}
+use Rattle.sx_expand_laws.specs.Behind.{IsFollower}
 use Rattle.sx_expand_laws.proofs.Behind.{records-follow}
 use Rattle.sx_expand_laws.proofs.Fresh.{among-parts, among-first, among-second}
 use Rattle.sx_forms.specs.Form.{library_body, program_body}

@@ -1,15 +1,14 @@
 -- What a form imports is known before it, where the records that it stands behind follow one another and that of the derived library is the
 -- first of them.
-use Rattle.std.proofs.Common.{◌≡◌, ℕ, zero, suc, ◌+◌, ◌-◌, ◌<◌, ◌≤◌, Bool, true, false, List, [], ◌∷◌, ◌++◌, Result, Ok, Option, Some, None, refl, sym, ap, subst, cond, ◌∙◌, inl, inr, arith, if◌then◌else◌}
+use Rattle.std.proofs.Common.{◌≡◌, ℕ, zero, suc, ◌+◌, ◌-◌, ◌<◌, ◌≤◌, Bool, true, false, List, [], ◌∷◌, ◌++◌, Ok, Option, Some, None, refl, sym, ap, subst, cond, inl, inr, arith, if◌then◌else◌}
 use Rattle.std.specs.Prelude.{◌⊎◌, map, option_map}
 use Rattle.std.specs.List.{flat_map}
-use Rattle.std.specs.Map.{lookup}
 use Rattle.sx_base.specs.Op.{name_count, op_text}
 use Rattle.sx_base.specs.Same.{same_library, same_library_decides}
 use Rattle.sx_base.specs.declared.library.LibName.{LibName}
 use Rattle.sx_base.specs.declared.library.LibName.TheVariants as library
 use Rattle.sx_base.specs.declared.name.Label.{Label}
-use Rattle.sx_builtin.specs.Exports.{derived_place, core_unless, export, library_exports, exports}
+use Rattle.sx_builtin.specs.Exports.{derived_place, core_unless, export, library_exports}
 use Rattle.sx_builtin.specs.Libraries.{in_a_row, run_numbers, library_runs, library_numbers, library_named}
 use Rattle.sx_builtin.specs.declared.library.Library.{Library}
 use Rattle.sx_builtin.specs.declared.library.Library.TheVariants as l
@@ -25,9 +24,9 @@ use Rattle.sx_forms.specs.declared.set.Import.{Import}
 use Rattle.sx_import.specs.Names.{Labelled}
 use Rattle.sx_import.specs.Table.{same_text, value_of}
 use Rattle.sx_library.specs.Imports.{named, record_exports, given_names, exported_by, exported, form_names}
-use Rattle.sx_run_laws.proofs.ImportLemmas.{LabelIs, LabelsAre, form_gives, found_among}
+use Rattle.sx_run_laws.proofs.ImportLemmas.{LabelsAre, form_gives, found_among}
 use Rattle.sx_follow_laws.proofs.DerivedLemmas.{ExportsTheDerived}
-use Rattle.sx_follow_laws.proofs.ExportLemmas.{names_in, has_value}
+use Rattle.sx_follow_laws.proofs.ExportLemmas.{has_value}
 use Rattle.sx_follow_laws.proofs.WiderLemmas.{AreAmong, among_all, all_wider}
 
 -- ---- records that follow one another export what is known

@@ -1,8 +1,6 @@
 -- Records that follow one another mention only what is known.
-use Rattle.std.proofs.Common.{◌≡◌, List, [], ◌∷◌, ◌++◌, refl, sym, subst, inl, inr}
-use Rattle.std.specs.Prelude.{◌⊎◌, map}
+use Rattle.std.proofs.Common.{List, [], ◌∷◌, ◌++◌, refl, inl, inr}
 use Rattle.std.specs.List.{flat_map}
-use Rattle.sx_core.specs.Core.{PlainCore}
 use Rattle.sx_core.specs.declared.record.LibRecord.{LibRecord}
 use Rattle.sx_core_laws.specs.Following.{AllFollow}
 use Rattle.sx_core_laws.specs.Follows.{names_of, export_labels, row_labels, keywords, IsKnown, Suits, Follows}
@@ -11,7 +9,7 @@ use Rattle.sx_core_laws.specs.Scope.{Closed}
 use Rattle.sx_core_laws.specs.Words.{Each, Among}
 use Rattle.sx_core_laws.proofs.FollowingLemmas.{closed_more, followers_closed}
 use Rattle.sx_expand_laws.specs.Behind.{IsKnownBefore}
-use Rattle.sx_expand_laws.proofs.Fresh.{each-map, each-at, each-of}
+use Rattle.sx_expand_laws.proofs.Fresh.{each-map, each-at}
 use Rattle.sx_follow_laws.specs.Known.{MentionsTheKnown}
 use Rattle.sx_follow_laws.specs.Run.{RunsMentionTheKnown}
 use Rattle.sx_follow_laws.proofs.FollowLemmas.{records_follow_in_runs}

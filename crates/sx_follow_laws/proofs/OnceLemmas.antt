@@ -1,5 +1,5 @@
 -- Records that follow one another name all that they make once.
-use Rattle.std.proofs.Common.{◌≡◌, List, [], ◌∷◌, ◌++◌, refl, sym, ap, subst, ◌∙◌, inl, inr}
+use Rattle.std.proofs.Common.{◌≡◌, List, [], ◌∷◌, ◌++◌, refl, subst, inl, inr}
 use Rattle.std.specs.Prelude.{◌⊎◌, map}
 use Rattle.std.specs.List.{flat_map}
 use Rattle.sx_base.specs.declared.library.LibName.{LibName}
@@ -7,7 +7,7 @@ use Rattle.sx_base.specs.declared.name.CodeNo.{CodeNo}
 use Rattle.sx_base.specs.declared.name.Label.{Label}
 use Rattle.sx_core.specs.declared.record.LibRecord.{LibRecord}
 use Rattle.sx_core_laws.specs.Following.{AllFollow}
-use Rattle.sx_core_laws.specs.Follows.{names_of, Key, key_of, export_names, bound_labels, all_binders, all_numbers, NamesItsOwn, Follows}
+use Rattle.sx_core_laws.specs.Follows.{names_of, Key, key_of, export_names, bound_labels, all_binders, all_numbers, Follows}
 use Rattle.sx_core_laws.specs.Words.{Each, Among, Once}
 use Rattle.sx_expand_laws.proofs.Fresh.{each-at, among-parts, once-append}
 use Rattle.sx_run_laws.proofs.NameLemmas.{names_first, names_second}

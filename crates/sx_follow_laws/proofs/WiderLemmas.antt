@@ -1,14 +1,14 @@
 -- A record that follows some records follows more of them, where its name is new among these, too.
-use Rattle.std.proofs.Common.{◌≡◌, List, [], ◌∷◌, ◌++◌, refl, sym, subst, inl, inr}
+use Rattle.std.proofs.Common.{List, [], ◌∷◌, ◌++◌, refl, subst, inl, inr}
 use Rattle.std.specs.Prelude.{◌⊎◌}
 use Rattle.std.specs.List.{flat_map}
 use Rattle.sx_base.specs.declared.library.LibName.{LibName}
 use Rattle.sx_base.specs.declared.name.Label.{Label}
 use Rattle.sx_core.specs.Core.{PlainCore}
 use Rattle.sx_core.specs.declared.record.LibRecord.{LibRecord}
-use Rattle.sx_core_laws.specs.Follows.{names_of, export_labels, row_labels, bound_labels, line_cores, keywords, IsGiven, IsKnown, Suits, Follows}
+use Rattle.sx_core_laws.specs.Follows.{names_of, export_labels, row_labels, bound_labels, line_cores, keywords, IsKnown, Suits, Follows}
 use Rattle.sx_core_laws.specs.Records.{defined}
-use Rattle.sx_core_laws.specs.Words.{Each, Among}
+use Rattle.sx_core_laws.specs.Words.{Among}
 use Rattle.sx_core_laws.proofs.FollowingLemmas.{closed_more}
 use Rattle.sx_expand_laws.proofs.Fresh.{each-map, among-parts, among-first, among-second}
 use Rattle.sx_run_laws.proofs.NameLemmas.{name_among, named_among}
