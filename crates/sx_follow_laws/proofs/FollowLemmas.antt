@@ -31,10 +31,11 @@ use Rattle.sx_load_laws.proofs.RowLemmas.{at_first, at_end}
 use Rattle.sx_memory_laws.proofs.Runs.{names-once}
 use Rattle.sx_outside.specs.Contents.{Paths}
 use Rattle.sx_run_laws.specs.Run.{IsRun, AllStand}
+use Rattle.sx_run_laws.proofs.ClosedLemmas.{get_among}
 use Rattle.sx_run_laws.proofs.MadeLemmas.{IsMade, all_made}
 use Rattle.sx_run_laws.proofs.NameLemmas.{named_among, name_among}
 use Rattle.sx_run_laws.proofs.PlaceLemmas.{marked_from, first_records, needed_behind, low_behind}
-use Rattle.sx_run_laws.proofs.RunLemmas.{same_place, all_records_stand}
+use Rattle.sx_run_laws.proofs.RunLemmas.{below_next, same_place, all_records_stand}
 use Rattle.sx_run_laws.proofs.UserLemmas.{IsUser, program_name, user_at}
 use Rattle.sx_standing.specs.Start.{or_skip, records_at}
 use Rattle.sx_tree.specs.Tree.{Tree}
@@ -46,11 +47,6 @@ use Rattle.sx_follow_laws.proofs.WiderLemmas.{AreAmong, follows_wider}
 
 -- ---- places
 
-get_among : (rs : List LibRecord) (i : ℕ) (r : LibRecord) → slice_get rs i ≡ Some r → Among rs r
-get_among [] i r h = absurd (cc)
-get_among (x ∷ rs) zero r h = let same : r ≡ x = cc in inl same
-get_among (x ∷ rs) (suc i) r h = inr (get_among rs i r h)
-
 first_among : (xs ys : List LibRecord) (i : ℕ) (r : LibRecord) → i < length xs → slice_get (xs ++ ys) i ≡ Some r → Among xs r
 first_among [] ys i r less h = absurd (omega (arith, less))
 first_among (x ∷ xs) ys zero r less h = let same : r ≡ x = cc in inl same
@@ -59,12 +55,6 @@ first_among (x ∷ xs) ys (suc i) r less h = inr (first_among xs ys i r (omega (
 get_behind : (xs : List LibRecord) (r : LibRecord) (ys : List LibRecord) → slice_get (xs ++ r ∷ ys) (length xs) ≡ Some r
 get_behind [] r ys = refl
 get_behind (x ∷ xs) r ys = get_behind xs r ys
-
-below_next : (p k : ℕ) → p < suc k → (p < k) ⊎ (p ≡ k)
-below_next zero zero h = inr refl
-below_next zero (suc k) h = inl (omega arith)
-below_next (suc p) zero h = absurd (omega (arith, h))
-below_next (suc p) (suc k) h = elim (below_next p k (omega (arith, h))) [ inl less ↦ inl (omega (arith, less)) | inr e ↦ inr (ap suc e) ]
 
 -- where names stand once, records of one name stand at one place
 same_name_place : (rs : List LibRecord) → Once (names_of rs) → (i j : ℕ) (a b : LibRecord) → slice_get rs i ≡ Some a → slice_get rs j ≡ Some b → a.name ≡ b.name → i ≡ j

@@ -24,7 +24,7 @@ use Rattle.sx_forms.specs.declared.set.Import.{Import}
 use Rattle.sx_import.specs.Names.{Labelled}
 use Rattle.sx_import.specs.Table.{same_text, value_of}
 use Rattle.sx_library.specs.Imports.{named, record_exports, given_names, exported_by, exported, form_names}
-use Rattle.sx_run_laws.proofs.ImportLemmas.{LabelsAre, form_gives, found_among}
+use Rattle.sx_run_laws.proofs.ImportLemmas.{LabelsAre, form_gives, found_among, each_label}
 use Rattle.sx_follow_laws.proofs.DerivedLemmas.{ExportsTheDerived}
 use Rattle.sx_follow_laws.proofs.ExportLemmas.{has_value}
 use Rattle.sx_follow_laws.proofs.WiderLemmas.{AreAmong, among_all, all_wider}
@@ -88,10 +88,6 @@ runs_fit l.RecordsProcedural = (omega arith, tt)
 runs_fit l.RecordsSyntactic = (omega arith, tt)
 
 -- ---- what libraries export
-
-each_label : (P : Label → Type 0) (es : Labelled) → Each P (map (λ (e : List ℕ × Label). e.1) es) → LabelsAre P es
-each_label P [] h = tt
-each_label P (e ∷ es) h = (h.0, each_label P es h.1)
 
 -- a name that stands there has the label of one of the rows
 looked_up : (P : Label → Type 0) (name : List ℕ) (rows : Labelled) (x : Label) → LabelsAre P rows → value_of name rows ≡ Some x → P x

@@ -1,9 +1,9 @@
 //! Laws of whole runs: the records of a run follow one another, name all that they make once, and mention only what is known.
 //!
 //! A record follows others where its name is new among theirs, all that it binds and makes is its own and stands once, and all that it
-//! mentions is its own, or theirs, or given with the implementation. A store of records can test this, so it is what a stored record has to
-//! pass before it is used. Expansion promises it of one library whose imports are known before it. Here it is told of all that a run
-//! makes, with no premise but that the program was loaded and expanded:
+//! mentions is its own, or theirs, or given with the implementation. A test tells whether it does (sx_core_laws), so that it can be asked of
+//! records that were kept. Expansion promises it of one library whose imports are known before it. Here it is told of all that a run makes,
+//! with no premise but that the program was loaded and expanded:
 //!
 //! ```text
 //! p.sps            (import (rnrs) (util all)) ..
