@@ -24,3 +24,10 @@ pub mod NameText
 pub mod Plain
 pub mod Table
 pub mod Written
+pub mod WiderLemmas
+pub mod ExportLemmas
+pub mod DerivedLemmas
+pub mod ImportsFollow
+pub mod FollowLemmas
+pub mod OnceLemmas
+pub mod KnownLemmas

@@ -60,7 +60,7 @@ module _ (records : List LibRecord) where
   each-any [] = tt
   each-any (x ∷ xs) = (tt, each-any xs)
 
-  names-once : (imports : List Import) (names : Labelled) → form_names records imports ≡ Ok names → IsOnce names
+  pub names-once : (imports : List Import) (names : Labelled) → form_names records imports ≡ Ok names → IsOnce names
   unfolding form_names
   names-once imports names h = by (turns (refer records) tt imports) h
     where

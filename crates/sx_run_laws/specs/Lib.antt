@@ -4,3 +4,6 @@ pub mod Expansion
 pub mod Fitting
 pub mod Names
 pub mod Written
+pub mod Once
+pub mod Known
+pub mod Following
