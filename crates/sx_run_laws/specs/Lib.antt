@@ -7,3 +7,4 @@ pub mod Written
 pub mod Once
 pub mod Known
 pub mod Following
+pub mod Stuck

@@ -34,7 +34,8 @@
 //! asks of the records.
 //!
 //! More stand in modules of their own: `by_name`, that the text is closed and bound once by the names in it; `follow`,
-//! that the records follow one another; and `memory`, that want of memory hides no other cause.
+//! that the records follow one another; `memory`, that want of memory hides no other cause; and `stuck`, that no run ends with the
+//! fault of cells that don't fit.
 //!
 //! Nothing is computed here: each function stands for the law that it ensures.
 #![tactic(auto)]
@@ -42,6 +43,7 @@
 pub mod by_name;
 pub mod follow;
 pub mod memory;
+pub mod stuck;
 
 ghost use Rattle.sx_run_laws.specs.Run.{RecordsStand, RunsAreClosedOnce};
 
