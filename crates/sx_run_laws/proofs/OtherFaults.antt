@@ -43,7 +43,12 @@ use Rattle.sx_stuck_laws.specs.Behind.{IsOfTexts, AllBehind}
 use Rattle.sx_stuck_laws.specs.Kinds.{NotStuck}
 use Rattle.sx_steady_laws.specs.Libraries.{AreTexts, IsNotStuck}
 use Rattle.sx_steady_laws.proofs.Libraries.{expansions_never_stuck}
-use Rattle.sx_run_laws.specs.Stuck.{IsOther, AreRead}
+use Rattle.sx_run_laws.specs.Stuck.{IsOther}
+
+-- the codes of the texts of the prelude make a whole world, or one of the texts is at fault in another way
+abbrev pub AreRead : Result Codes Fault → Type 0
+AreRead (Ok codes) = AreTexts codes
+AreRead (Err f) = IsOther f.kind
 
 -- ---- kinds
 

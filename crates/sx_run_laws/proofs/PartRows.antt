@@ -29,9 +29,9 @@ use Rattle.sx_run_laws.proofs.BehindLemmas.{IsNew, library_stands, derived_stand
 use Rattle.sx_kind_laws.specs.Kinds.{Tells}
 use Rattle.sx_stuck_laws.specs.Behind.{IsOfTexts, IsBehind, AllBehind}
 use Rattle.sx_steady_laws.proofs.Standing.{stands-behind}
-use Rattle.sx_run_laws.specs.Stuck.{IsOther, AreRead}
+use Rattle.sx_run_laws.specs.Stuck.{IsOther}
 use Rattle.sx_run_laws.proofs.NamedFiles.{IsUser, AllUsers}
-use Rattle.sx_run_laws.proofs.OtherFaults.{library-other, derived-other}
+use Rattle.sx_run_laws.proofs.OtherFaults.{AreRead, library-other, derived-other}
 use Rattle.sx_run_laws.proofs.PartBehind.{Behind, IsMadeBehind, AllMadeBehind, all-serve, all-behind, library-new, program-new}
 
 -- what a result gives, or it is at fault in another way

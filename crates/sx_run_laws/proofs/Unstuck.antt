@@ -27,10 +27,11 @@ use Rattle.sx_words.specs.declared.job.Job.{Job}
 use Rattle.sx_kind_laws.specs.Kinds.{IsOfLoading, Tells}
 use Rattle.sx_kind_laws.specs.Laws.{LoadTells}
 use Rattle.sx_kind_laws.proofs.Loading.{loading-tells}
-use Rattle.sx_run_laws.specs.Stuck.{IsOther, AreRead, TellsOther, RunsNeverStuck, WholeNeverStuck}
+use Rattle.sx_run_laws.specs.Stuck.{IsOther, TellsOther, RunsNeverStuck, WholeNeverStuck}
+use Rattle.sx_prelude_code_laws.proofs.Table.{table-is-written}
 use Rattle.sx_run_laws.proofs.PreludeWorld.{written-texts}
 use Rattle.sx_run_laws.proofs.NamedFiles.{AllUsers, users-all, users-until}
-use Rattle.sx_run_laws.proofs.OtherFaults.{other-loading}
+use Rattle.sx_run_laws.proofs.OtherFaults.{AreRead, other-loading}
 use Rattle.sx_run_laws.proofs.OtherText.{text-other}
 use Rattle.sx_run_laws.proofs.PartBehind.{program-new}
 use Rattle.sx_run_laws.proofs.PartRows.{Told, told-then, no-text-program, IsFirst, first-told, IsItsRecord, found-told, AreMade, rows-told}
@@ -101,8 +102,12 @@ module _ (prelude : Result Codes Fault) (read : AreRead prelude) where
         by (Ok l) h = ends l.0 l.1 h
         by (Err e) h = stops e.0 e.1 h
 
+-- the texts of the prelude come to the codes that are written out
+texts-read : AreRead prelude_table
+texts-read = subst AreRead (sym table-is-written) written-texts
+
 pub runs-never-stuck : RunsNeverStuck
-runs-never-stuck prelude files roots path read = tells (text_of prelude (load files roots path)) (any-run prelude read files roots path)
+runs-never-stuck files roots path = tells (text_of prelude_table (load files roots path)) (any-run prelude_table texts-read files roots path)
 
 -- ---- the whole
 
@@ -110,20 +115,17 @@ outcome-other : (report : Bool) (s : Loading) (r : Result (List ℕ) Fault) → 
 outcome-other report s (Ok text) h = tt
 outcome-other report s (Err f) h = record { told = f; source = source_of s.sources f.span.file; other = h; is = refl }
 
-job-other : AreRead prelude_table → (files : Paths) (job : Job) → TellsOther (of_job files job)
+job-other : (files : Paths) (job : Job) → TellsOther (of_job files job)
 unfolding of_job
-job-other read files job = by (load files job.roots job.program) (runs-never-stuck prelude_table files job.roots job.program read)
+job-other files job = by (load files job.roots job.program) (runs-never-stuck files job.roots job.program)
   where
     by : (x : Loads (Found × Loading)) → Tells IsOther (text_of prelude_table x) → TellsOther (of_loaded job.report x)
     by (Ok l) h = outcome-other job.report l.1 (text_of prelude_table (Ok l)) h
     by (Err e) h = outcome-other job.report e.0 (text_of prelude_table (Err e)) h
 
 pub whole-never-stuck : WholeNeverStuck
-whole-never-stuck written files words = by (job_asked words)
+whole-never-stuck files words = by (job_asked words)
   where
-    read : AreRead prelude_table
-    read = subst AreRead (sym written) written-texts
-
     by : (o : Option Job) → TellsOther (of_asked files o)
     by None = tt
-    by (Some job) = job-other read files job
+    by (Some job) = job-other files job

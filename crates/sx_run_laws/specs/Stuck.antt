@@ -1,10 +1,9 @@
 -- No run gets stuck.
-use Rattle.std.specs.Prelude.{◌≡◌, ℕ, List, Result, Ok, Err}
+use Rattle.std.specs.Prelude.{◌≡◌, ℕ, List}
 use Rattle.sx_base.specs.FaultLine.{fault_line}
 use Rattle.sx_base.specs.declared.fault.Fault.{Fault}
 use Rattle.sx_base.specs.declared.fault.FaultKind.{FaultKind}
 use Rattle.sx_base.specs.declared.fault.FaultKind.TheVariants as kind
-use Rattle.sx_eval.specs.Codes.{Codes}
 use Rattle.sx_given_laws.specs.Texts.{written_table}
 use Rattle.sx_kind_laws.specs.Kinds.{Tells}
 use Rattle.sx_library.specs.Loaded.{text_of}
@@ -18,11 +17,6 @@ use Rattle.sx_steady_laws.specs.Libraries.{AreTexts}
 abbrev pub IsOther : FaultKind → Type 0
 IsOther k = k ≡ kind.Stuck → ⊥
 
--- The codes of the texts of the prelude make a whole world, or one of the texts is at fault in another way.
-abbrev pub AreRead : Result Codes Fault → Type 0
-AreRead (Ok codes) = AreTexts codes
-AreRead (Err f) = IsOther f.kind
-
 -- the line of a fault of another kind
 pub record IsLineOfOther (line : List ℕ) : Type 0 where
   pub told : Fault
@@ -35,14 +29,14 @@ TellsOther usage = Unit {0}
 TellsOther (done text report) = Unit {0}
 TellsOther (fault line) = IsLineOfOther line
 
+-- The codes of the texts of the prelude, as they are written out, make a whole world.
+abbrev pub WrittenTextsAreTexts : Type 0
+WrittenTextsAreTexts = AreTexts written_table
+
 -- Whatever the files hold, a program has a core text, or is at fault in another way: where loading ends and where it stops.
 abbrev pub RunsNeverStuck : Type 0
-RunsNeverStuck = (prelude : Result Codes Fault) (files : Paths) (roots : List (List ℕ)) (path : List ℕ) → AreRead prelude → Tells IsOther (text_of prelude (load files roots path))
+RunsNeverStuck = (files : Paths) (roots : List (List ℕ)) (path : List ℕ) → Tells IsOther (text_of prelude_table (load files roots path))
 
--- So it is with the codes that are written out.
-abbrev pub WrittenTextsAreRead : Type 0
-WrittenTextsAreRead = AreTexts written_table
-
--- Where the texts of the prelude were read as they stand written, so it is whatever the files and the words.
+-- so whatever the files and the words
 abbrev pub WholeNeverStuck : Type 0
-WholeNeverStuck = prelude_table ≡ Ok written_table → (files : Paths) (words : List (List ℕ)) → TellsOther (whole files words)
+WholeNeverStuck = (files : Paths) (words : List (List ℕ)) → TellsOther (whole files words)

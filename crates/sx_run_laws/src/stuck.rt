@@ -13,18 +13,18 @@
 //!
 //! So there is a text, or one of the faults 1 to 47 of the table.
 //!
-//! Four things bring this about. What comes before expansion tells kinds of its own (sx_kind_laws). In a part of a
+//! Five things bring this about. What comes before expansion tells kinds of its own (sx_kind_laws). In a part of a
 //! run, as far as it came, the record of each library stands behind those that its library needs: so it is where a
 //! run goes on, and where it stops. Behind such records no expansion gets stuck (sx_steady_laws). And the text of
 //! core code is refused only for `syntax` in it.
 //!
-//! It is asked that the texts of the procedures that are given in Scheme, such as `map`, were read as they stand
-//! written: to the codes that sx_given_laws writes out. That these make a whole world is told here. Nothing else
-//! is asked.
+//! And the procedures that are given in Scheme, such as `map`, have the codes to which their texts expand
+//! (sx_prelude_code_laws): each is closed, well made and named once, and gives a procedure. Nothing is asked of the
+//! files and the words.
 //!
 //! Nothing is computed here: each function stands for the law that it ensures.
 
-ghost use Rattle.sx_run_laws.specs.Stuck.{RunsNeverStuck, WrittenTextsAreRead, WholeNeverStuck};
+ghost use Rattle.sx_run_laws.specs.Stuck.{RunsNeverStuck, WrittenTextsAreTexts, WholeNeverStuck};
 
 /// A program has a core text, or a fault other than that of cells that don't fit.
 pub fn no_run_gets_stuck()
@@ -34,7 +34,7 @@ pub fn no_run_gets_stuck()
 /// The codes of the texts of the prelude, as they are written out in sx_given_laws, are closed, well made and named once, and each
 /// gives a procedure: so a world that has them is whole.
 pub fn texts_make_a_whole_world()
-    ensures { WrittenTextsAreRead }
+    ensures { WrittenTextsAreTexts }
 {}
 
 /// For all files and words the whole gives the usage, a text, or the line of such a fault.
