@@ -13,12 +13,11 @@ use Rattle.sx_core_laws.specs.Words.{Each}
 use Rattle.sx_expand_laws.proofs.Fresh.{each-append}
 use Rattle.sx_file_names.specs.File.{file_of}
 use Rattle.sx_forms.specs.All.{given}
-use Rattle.sx_forms.specs.Export.{Exports, exported}
+use Rattle.sx_forms.specs.Export.{exported}
 use Rattle.sx_forms.specs.Form.{form_of, not_library, or_fault, import_specs, export_specs, library_with, library_of, library_parts, library_in, read_library}
 use Rattle.sx_forms.specs.Name.{leading, behind, version_in, named_by, named}
 use Rattle.sx_forms.specs.Set.{place_of}
 use Rattle.sx_forms.specs.Version.{version_fits}
-use Rattle.sx_forms.specs.declared.export.Export.{Export}
 use Rattle.sx_forms.specs.declared.form.LibraryForm.{LibraryForm}
 use Rattle.sx_forms.specs.declared.name.VersionedName.{VersionedName}
 use Rattle.sx_forms.specs.declared.set.Import.{Import}

@@ -1,5 +1,5 @@
 -- The text of core code is refused only for `syntax` in it.
-use Rattle.std.proofs.Common.{◌≡◌, ℕ, List, [], ◌∷◌, Option, Some, None, Ok, Err}
+use Rattle.std.proofs.Common.{ℕ, List, [], ◌∷◌, Option, Some, None, Ok}
 use Rattle.std.specs.Prelude.{slice_get}
 use Rattle.sx_base.specs.Gives.{◌>>=◌}
 use Rattle.sx_core.specs.Core as core

@@ -1,5 +1,5 @@
 -- In a part of a run, as far as it came, the records that a library needs stand behind one another.
-use Rattle.std.proofs.Common.{◌≡◌, ℕ, zero, suc, ◌+◌, ◌<◌, Bool, true, false, List, [], ◌∷◌, ◌++◌, length, Option, Some, None, refl, sym, ap, subst, ◌∙◌, inl, inr, arith}
+use Rattle.std.proofs.Common.{◌≡◌, ℕ, zero, suc, ◌+◌, ◌<◌, Bool, true, false, List, [], ◌∷◌, ◌++◌, Option, Some, None, refl, sym, ap, subst, ◌∙◌, inl, inr, arith}
 use Rattle.std.specs.Prelude.{◌⊎◌, slice_get}
 use Rattle.sx_base.specs.declared.library.LibName.{LibName}
 use Rattle.sx_base.specs.declared.library.LibName.TheVariants as library
@@ -17,7 +17,7 @@ use Rattle.sx_load_laws.proofs.ReferLemmas.{IsSound}
 use Rattle.sx_load_laws.proofs.RowLemmas.{at_first}
 use Rattle.sx_standing.specs.Start.{or_skip, records_at}
 use Rattle.sx_run_laws.specs.Run.{Stands}
-use Rattle.sx_run_laws.proofs.NameLemmas.{names_first, names_second, name_among, named_among}
+use Rattle.sx_run_laws.proofs.NameLemmas.{name_among, named_among}
 use Rattle.sx_run_laws.proofs.PlaceLemmas.{marked_from}
 use Rattle.sx_run_laws.proofs.BehindLemmas.{IsNew}
 use Rattle.sx_stuck_laws.specs.Behind.{IsBehind, AllBehind}

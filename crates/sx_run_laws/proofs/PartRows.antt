@@ -1,5 +1,5 @@
 -- The libraries of a run are expanded one after another, and none gets stuck.
-use Rattle.std.proofs.Common.{◌≡◌, ℕ, zero, suc, ◌+◌, ◌<◌, Bool, true, false, List, [], ◌∷◌, ◌++◌, length, Option, Some, None, Result, Ok, Err, refl, sym, ap, subst, ◌∙◌, inl, inr, arith, append_assoc}
+use Rattle.std.proofs.Common.{◌≡◌, ℕ, zero, suc, ◌+◌, List, [], ◌∷◌, ◌++◌, length, Some, Result, Ok, Err, refl, sym, ap, subst, ◌∙◌, inl, inr, arith, append_assoc}
 use Rattle.std.specs.Prelude.{◌⊎◌, slice_get}
 use Rattle.sx_base.specs.Datum.{PlainDatum}
 use Rattle.sx_base.specs.Gives.{◌>>=◌}
@@ -11,13 +11,11 @@ use Rattle.sx_core_laws.specs.Follows.{names_of}
 use Rattle.sx_core_laws.specs.Words.{Among}
 use Rattle.sx_derived.specs.Derived.{derived_record}
 use Rattle.sx_eval.specs.Codes.{Codes}
-use Rattle.sx_expand_laws.specs.Ready.{IsReady}
 use Rattle.sx_expand_laws.specs.Serves.{AllServe}
 use Rattle.sx_forms.specs.Form.{library_body}
 use Rattle.sx_import.specs.Turns.{turns}
 use Rattle.sx_library.specs.Library.{expand_library}
-use Rattle.sx_library.specs.Loaded.{expand_found, expand_next, all_records}
-use Rattle.sx_library.specs.Records.{needed_records}
+use Rattle.sx_library.specs.Loaded.{expand_found, expand_next}
 use Rattle.sx_load.specs.declared.found.Found.{Found}
 use Rattle.sx_load.specs.declared.found.Loading.{Loading}
 use Rattle.sx_load_laws.specs.Laws.{IsAt, NeedsAreClosed}
@@ -32,7 +30,7 @@ use Rattle.sx_steady_laws.proofs.Standing.{stands-behind}
 use Rattle.sx_run_laws.specs.Stuck.{IsOther}
 use Rattle.sx_run_laws.proofs.NamedFiles.{IsUser, AllUsers}
 use Rattle.sx_run_laws.proofs.OtherFaults.{AreRead, library-other, derived-other}
-use Rattle.sx_run_laws.proofs.PartBehind.{Behind, IsMadeBehind, AllMadeBehind, all-serve, all-behind, library-new, program-new}
+use Rattle.sx_run_laws.proofs.PartBehind.{Behind, IsMadeBehind, AllMadeBehind, all-serve, all-behind, library-new}
 
 -- what a result gives, or it is at fault in another way
 abbrev pub Told : {A : Type 0} → (A → Type 0) → Result A Fault → Type 0
@@ -146,8 +144,8 @@ module _ (prelude : Result Codes Fault) (read : AreRead prelude) (s : Loading) (
       (no-text-user row.1.opened.form.name (users (length others) row.0 row.1 here)) body)
       (λ r g. record { last = r; parts = refl; gives = g }))
       (λ more n.
-          subst (λ (rs : List LibRecord). Told AreMade (turns (expand_next prelude) rs rows)) (sym n.parts)
-          (rows-told rows (others ++ n.last ∷ []) (left-on n.last) (made-more others made row.0 row.1 here n.last n.gives)))
+      subst (λ (rs : List LibRecord). Told AreMade (turns (expand_next prelude) rs rows)) (sym n.parts)
+      (rows-told rows (others ++ n.last ∷ []) (left-on n.last) (made-more others made row.0 row.1 here n.last n.gives)))
     where
       body : List PlainDatum
       body = library_body row.1.opened.«data»

@@ -1,5 +1,5 @@
 -- A world with the codes of the texts, as they are written out, is whole.
-use Rattle.std.proofs.Common.{◌≡◌, ◌==◌, ℕ, Bool, true, false, List, [], ◌∷◌, Option, None, Some, cond, map, refl, sym, subst, inl, inr}
+use Rattle.std.proofs.Common.{◌≡◌, ◌==◌, ℕ, Bool, true, false, List, [], ◌∷◌, Option, Some, cond, map, refl, sym, subst, inl, inr}
 use Rattle.std.specs.Prelude.{IsTrue, is_some, ◌||◌}
 use Rattle.std.specs.Bool.{Decides}
 use Rattle.std.specs.List.{flat_map}
@@ -8,7 +8,7 @@ use Rattle.std.specs.Cmp.{unsigned_Decides}
 use Rattle.sx_base.specs.Same.{same_library, same_library_decides}
 use Rattle.sx_base.specs.declared.library.LibName.TheVariants as library
 use Rattle.sx_base.specs.declared.name.CodeNo.{CodeNo}
-use Rattle.sx_core.specs.Core.{PlainCore, PlainCode, procedure}
+use Rattle.sx_core.specs.Core.{PlainCore, PlainCode}
 use Rattle.sx_core_laws.specs.Words.{Each, Among}
 use Rattle.sx_core_laws.specs.Parts.{code_numbers}
 use Rattle.sx_core_laws.specs.Scope.{Closed, closed}

@@ -1,9 +1,8 @@
 -- No run gets stuck, where loading ends and where it stops.
-use Rattle.std.proofs.Common.{◌≡◌, ℕ, zero, ◌+◌, Bool, List, [], ◌∷◌, length, Option, Some, None, Result, Ok, Err, refl, sym, ap, subst, arith}
+use Rattle.std.proofs.Common.{◌≡◌, ℕ, zero, ◌+◌, Bool, List, [], ◌∷◌, Option, Some, None, Result, Ok, Err, refl, sym, ap, subst, arith}
 use Rattle.std.specs.Prelude.{slice_get}
 use Rattle.sx_base.specs.Gives.{◌>>=◌}
 use Rattle.sx_base.specs.declared.fault.Fault.{Fault}
-use Rattle.sx_base.specs.declared.library.LibName.TheVariants as library
 use Rattle.sx_core.specs.declared.record.LibRecord.{LibRecord}
 use Rattle.sx_derived.specs.Derived.{derived_record}
 use Rattle.sx_eval.specs.Codes.{Codes}
@@ -13,14 +12,13 @@ use Rattle.sx_library.specs.Loaded.{expand_found, expand_next, all_records, plan
 use Rattle.sx_load.specs.Load.{Loads, load}
 use Rattle.sx_load.specs.declared.found.Found.{Found}
 use Rattle.sx_load.specs.declared.found.Loading.{Loading}
-use Rattle.sx_load.specs.declared.found.Source.{Source}
 use Rattle.sx_load_laws.specs.Laws.{NeedsAreClosed}
 use Rattle.sx_load_laws.proofs.LoadLemmas.{loads_all, loads_until}
 use Rattle.sx_load_laws.proofs.ReferLemmas.{IsSound}
 use Rattle.sx_outside.specs.Contents.{Paths}
 use Rattle.sx_plan.specs.Planned.{plan_of}
 use Rattle.sx_prelude.specs.Prelude.{prelude_table}
-use Rattle.sx_run.specs.Whole.{Outcome, source_of, outcome_of, of_loaded, of_job, of_asked, whole}
+use Rattle.sx_run.specs.Whole.{source_of, outcome_of, of_loaded, of_job, of_asked}
 use Rattle.sx_run.specs.Words.{job_asked}
 use Rattle.sx_run_laws.proofs.UserLemmas.{program_name}
 use Rattle.sx_words.specs.declared.job.Job.{Job}
