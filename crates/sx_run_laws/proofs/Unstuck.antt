@@ -18,7 +18,7 @@ use Rattle.sx_load_laws.proofs.ReferLemmas.{IsSound}
 use Rattle.sx_outside.specs.Contents.{Paths}
 use Rattle.sx_plan.specs.Planned.{plan_of}
 use Rattle.sx_prelude.specs.Prelude.{prelude_table}
-use Rattle.sx_run.specs.Whole.{source_of, outcome_of, of_loaded, of_job, of_asked}
+use Rattle.sx_run.specs.Whole.{source_of, loading_of, outcome_of, of_job, of_asked}
 use Rattle.sx_run.specs.Words.{job_asked}
 use Rattle.sx_run_laws.proofs.UserLemmas.{program_name}
 use Rattle.sx_words.specs.declared.job.Job.{Job}
@@ -109,21 +109,20 @@ runs-never-stuck files roots path = tells (text_of prelude_table (load files roo
 
 -- ---- the whole
 
-outcome-other : (report : Bool) (s : Loading) (r : Result (List ℕ) Fault) → Tells IsOther r → TellsOther (outcome_of report s r)
-outcome-other report s (Ok text) h = tt
-outcome-other report s (Err f) h = record { told = f; source = source_of s.sources f.span.file; other = h; is = refl }
+module _ (files : Paths) (words : List (List ℕ)) (job : Job) (asked : job_asked words ≡ Some job) where
+  outcome-other : (s : Loading) (r : Result (List ℕ) Fault) → text_of prelude_table (load files job.roots job.program) ≡ r → Tells IsOther r → TellsOther files words (outcome_of job.report s r)
+  outcome-other s (Ok text) e h = tt
+  outcome-other s (Err f) e h = record { job = job; asked = asked; told = f; gives = e; other = h; source = source_of s.sources f.span.file; is = refl }
 
-job-other : (files : Paths) (job : Job) → TellsOther (of_job files job)
-unfolding of_job
-job-other files job = by (load files job.roots job.program) (runs-never-stuck files job.roots job.program)
-  where
-    by : (x : Loads (Found × Loading)) → Tells IsOther (text_of prelude_table x) → TellsOther (of_loaded job.report x)
-    by (Ok l) h = outcome-other job.report l.1 (text_of prelude_table (Ok l)) h
-    by (Err e) h = outcome-other job.report e.0 (text_of prelude_table (Err e)) h
+  job-other : TellsOther files words (of_job files job)
+  unfolding of_job
+  job-other =
+      let loaded = load files job.roots job.program in
+      outcome-other (loading_of loaded) (text_of prelude_table loaded) refl (runs-never-stuck files job.roots job.program)
 
 pub whole-never-stuck : WholeNeverStuck
-whole-never-stuck files words = by (job_asked words)
+whole-never-stuck files words = by (job_asked words) refl
   where
-    by : (o : Option Job) → TellsOther (of_asked files o)
-    by None = tt
-    by (Some job) = job-other files job
+    by : (o : Option Job) → job_asked words ≡ o → TellsOther files words (of_asked files o)
+    by None e = tt
+    by (Some job) e = job-other files words job e

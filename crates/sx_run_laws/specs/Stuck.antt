@@ -1,5 +1,5 @@
 -- No run gets stuck.
-use Rattle.std.specs.Prelude.{◌≡◌, ℕ, List}
+use Rattle.std.specs.Prelude.{◌≡◌, ℕ, List, Some, Err}
 use Rattle.sx_base.specs.FaultLine.{fault_line}
 use Rattle.sx_base.specs.declared.fault.Fault.{Fault}
 use Rattle.sx_base.specs.declared.fault.FaultKind.{FaultKind}
@@ -11,23 +11,28 @@ use Rattle.sx_load.specs.Load.{load}
 use Rattle.sx_outside.specs.Contents.{Paths}
 use Rattle.sx_prelude.specs.Prelude.{prelude_table}
 use Rattle.sx_run.specs.Whole.{Outcome, usage, done, fault, whole}
+use Rattle.sx_run.specs.Words.{job_asked}
 use Rattle.sx_steady_laws.specs.Libraries.{AreTexts}
+use Rattle.sx_words.specs.declared.job.Job.{Job}
 
 -- any kind but that of cells that don't fit
 abbrev pub IsOther : FaultKind → Type 0
 IsOther k = k ≡ kind.Stuck → ⊥
 
--- the line of a fault of another kind
-pub record IsLineOfOther (line : List ℕ) : Type 0 where
+-- The line of the fault of the job that the words ask for, which is of another kind.
+pub record IsLineOfOther (files : Paths) (words : List (List ℕ)) (line : List ℕ) : Type 0 where
+  pub job : Job
+  pub asked : job_asked words ≡ Some job
   pub told : Fault
-  pub source : List ℕ
+  pub gives : text_of prelude_table (load files job.roots job.program) ≡ Err told
   pub other : IsOther told.kind
+  pub source : List ℕ
   pub is : line ≡ fault_line told source
 
-abbrev pub TellsOther : Outcome → Type 0
-TellsOther usage = Unit {0}
-TellsOther (done text report) = Unit {0}
-TellsOther (fault line) = IsLineOfOther line
+abbrev pub TellsOther : Paths → List (List ℕ) → Outcome → Type 0
+TellsOther files words usage = Unit {0}
+TellsOther files words (done text report) = Unit {0}
+TellsOther files words (fault line) = IsLineOfOther files words line
 
 -- The codes of the texts of the prelude, as they are written out, make a whole world.
 abbrev pub WrittenTextsAreTexts : Type 0
@@ -39,4 +44,4 @@ RunsNeverStuck = (files : Paths) (roots : List (List ℕ)) (path : List ℕ) →
 
 -- so whatever the files and the words
 abbrev pub WholeNeverStuck : Type 0
-WholeNeverStuck = (files : Paths) (words : List (List ℕ)) → TellsOther (whole files words)
+WholeNeverStuck = (files : Paths) (words : List (List ℕ)) → TellsOther files words (whole files words)
