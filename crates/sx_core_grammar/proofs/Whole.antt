@@ -10,7 +10,7 @@ use Rattle.sx_core.specs.declared.record.Line.{Line}
 use Rattle.sx_core_laws.specs.Words.{Each}
 use Rattle.sx_core_text.specs.CoreText.{Names, line_text, lines_text}
 use Rattle.sx_core_text.specs.Syntax.{Checked, written, line_checked, lines_checked}
-use Rattle.sx_core_text.specs.Whole.{record_checked, plan_checked, record_text, plan_text, all_names, all_text}
+use Rattle.sx_core_text.specs.Whole.{record_checked, plan_checked, record_text, plan_text, all_names, all_text, core_text}
 use Rattle.sx_grammar.specs.Reads.{Reads, SpellingsAre}
 use Rattle.sx_printer.specs.DatumText.{datum_text}
 use Rattle.sx_printer.specs.Symbols.{symbol_text}

@@ -1,5 +1,5 @@
 -- What generated names are made of, whatever their libraries, symbols and numbers are: each byte stands for itself in an identifier.
-use Rattle.std.proofs.Common.{◌≡◌, ℕ, zero, suc, ◌<◌, ◌/◌, ◌%◌, ◌^◌, Bool, true, false, List, [], ◌∷◌, ◌++◌, drop, arith, refl, sym, ap, ◌∙◌, if◌then◌else◌}
+use Rattle.std.proofs.Common.{◌≡◌, ℕ, zero, suc, ◌+◌, ◌<◌, ◌/◌, ◌%◌, ◌^◌, Bool, true, false, List, [], ◌∷◌, ◌++◌, drop, arith, refl, sym, ap, ◌∙◌, if◌then◌else◌}
 use Rattle.std.specs.Prelude.{◌==◌, decimal, nat_lt}
 use Rattle.std.specs.Fmt.{digit_glyph, digits_onto, digits}
 use Rattle.std.specs.List.{flat_map, list_all}
@@ -15,7 +15,7 @@ use Rattle.sx_names.specs.Generated.{is_plain, name_char, name_part, further_par
 use Rattle.sx_printer.specs.Symbols.{is_subsequent}
 use Rattle.sx_round.proofs.Chars.{branch}
 use Rattle.sx_name_laws.specs.Variable.{IsNamed}
-use Rattle.sx_name_laws.proofs.Reading.{path_subsequent, word_subsequent}
+use Rattle.sx_name_laws.proofs.Reading.{word_subsequent}
 use Rattle.sx_name_laws.proofs.Telling.{is_word, is_path, plain_word, library_path, library_same, name_is}
 use Rattle.sx_name_laws.proofs.Words.{cut, all_append, all_weaker}
 
