@@ -1,0 +1,3 @@
+pub mod Readable
+pub mod Outcome
+pub mod Laws

@@ -1,0 +1,2 @@
+//! What transformers make can be written and read back.
+#![tactic(auto)]
