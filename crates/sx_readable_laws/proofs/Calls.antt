@@ -2,12 +2,12 @@
 use Rattle.std.specs.Char.{IsScalar}
 use Rattle.std.specs.Str.{IsUtf8}
 use Rattle.std.proofs.lemmas.Str.{IsUtf8-nil}
+use Rattle.std.specs.Prelude.{cond, nat_lt}
 use Rattle.std.proofs.Common.{◌≡◌, refl, arith, ◌+◌, ◌-◌, ◌/◌, ◌%◌, ◌==◌, ◌||◌, ◌&&◌, ℕ, zero, suc, ℤ, pos, negsuc, List, [], ◌∷◌, ◌++◌, Option, Some, None, Bool, true, false, Result, Ok, Err, length, map, chars, nat_le, unsigned_abs, slice_get, if◌then◌else◌}
 use Rattle.sx_base.specs.Gives.{◌>>=◌}
 use Rattle.sx_base.specs.declared.atom.Atom.TheVariants as a
 use Rattle.sx_base.specs.declared.fault.Bare.{Bare}
 use Rattle.sx_tree.specs.Measures.{within}
-use Rattle.sx_tree.specs.Tree as tree
 use Rattle.sx_tree.specs.Tree.{Tree, list_of, vector_of}
 use Rattle.sx_frames.specs.Scope.{Scope}
 use Rattle.sx_value.specs.Cells.{Each, vector_at, string_at}
@@ -69,7 +69,11 @@ AnswerOr (Err f) = Unit {0}
 
 -- what is tested of a character is that it is a scalar value
 same_scalar : (n : ℕ) → characters.is_scalar n ≡ true → IsScalar n
-same_scalar n e = e
+same_scalar n e = by (nat_lt n 55296) (nat_le 57344 n && nat_lt n 1114112) e
+  where
+    by : (b c : Bool) → (b || c) ≡ true → cond b true c ≡ true
+    by true c h = refl
+    by false c h = h
 
 module _ (cells : List Cell) (cells_hold : ReadableCells cells) where
   -- Ways to make.

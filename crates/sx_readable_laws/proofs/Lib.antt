@@ -7,3 +7,6 @@ pub mod Storing
 pub mod Matches
 pub mod Variables
 pub mod Instances
+pub mod Meaning
+pub mod Data
+pub mod Families

@@ -1,5 +1,5 @@
 -- Texts in UTF-8: their characters, and those that numbers have.
-use Rattle.std.proofs.Common.{◌≡◌, ℕ, zero, suc, ◌+◌, ◌-◌, ◌<◌, ◌≤◌, ◌/◌, ◌%◌, Bool, true, false, ℤ, pos, negsuc, List, [], ◌∷◌, ◌++◌, take, drop, length, arith, refl, if◌then◌else◌}
+use Rattle.std.proofs.Common.{◌≡◌, ℕ, zero, suc, ◌+◌, ◌-◌, ◌<◌, ◌≤◌, ◌/◌, ◌%◌, Bool, true, false, ℤ, pos, negsuc, List, [], ◌∷◌, ◌++◌, take, drop, arith, refl, if◌then◌else◌}
 use Rattle.std.specs.Prelude.{◌==◌, IsTrue, decimal, encode_utf8_all, nat_lt}
 use Rattle.std.specs.Char.{IsScalar}
 use Rattle.std.specs.Fmt.{digit_glyph, digits_onto, digits, signed_decimal}
@@ -9,7 +9,7 @@ use lib.Utf8.{scalar}
 use Rattle.std.proofs.Math.Nat.{mod-lt}
 use Rattle.std.proofs.lemmas.Bool.{and_from, and_parts}
 use Rattle.std.proofs.lemmas.Bool.Decides.{nat_tests}
-use Rattle.std.proofs.lemmas.Str.{IsUtf8-append, IsUtf8-from_ascii, IsUtf8-nil, scalars-chars}
+use Rattle.std.proofs.lemmas.Str.{IsUtf8-append, IsUtf8-from_ascii, scalars-chars}
 use Rattle.sx_spelling.specs.Numbers.{is_digit, is_number_sign, is_exponent_mark, is_spelt}
 use Rattle.sx_spelling.proofs.SpeltLemmas.{spelt_all}
 use Rattle.sx_prims.specs.Strings.{joined}

@@ -1,5 +1,5 @@
 -- Trees that are put together can be read where their parts can.
-use Rattle.std.proofs.Common.{List, [], ◌∷◌, Option, None, Some, Bool, true, false, Result, Ok, Err, if◌then◌else◌}
+use Rattle.std.proofs.Common.{List, [], ◌∷◌, Option, None, Some, Bool, true, false, Ok, Err, if◌then◌else◌}
 use Rattle.sx_base.specs.declared.span.Span.{Span}
 use Rattle.sx_tree.specs.Leaves.{strip}
 use Rattle.sx_tree.specs.Measures.{fits, too_deep, within}

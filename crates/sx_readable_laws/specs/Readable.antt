@@ -1,6 +1,6 @@
 -- What of a tree, a value, a cell and core code can be written and read back, but for the size of integers: texts are UTF-8, characters are
 -- scalar values, bytes are bytes, symbols have one character or more, and a vector has its elements as a list.
-use Rattle.std.specs.Prelude.{ℕ, List, Option, None, Some}
+use Rattle.std.specs.Prelude.{List, Option, None, Some}
 use Rattle.std.specs.Str.{IsUtf8}
 use Rattle.sx_base.specs.Datum as datum
 use Rattle.sx_base.specs.Datum.{PlainDatum}
