@@ -10,3 +10,5 @@ pub mod Instances
 pub mod Meaning
 pub mod Data
 pub mod Families
+pub mod Codes
+pub mod Stages
