@@ -34,10 +34,14 @@ module _ (w : PlainSetting) where
       → Gives (procedure_called w (eval_of w) number parent args s) v t → Calls w (value.Closure number parent) args s v t
   closure-called number parent args s v t h = closure-ends number parent args s (Ok v) t h
 
+  pub closure-ends-back : (number : CodeNo) (parent : Place) (args : List Value) (s : State) (r : End) (t : State)
+      → CallEnds w (value.Closure number parent) args s r t → Ends (procedure_called w (eval_of w) number parent args s) r t
+  unfolding applied spread first_called
+  closure-ends-back number parent args s r t h = ends-same (call_of w (value.Closure number parent) args s) (procedure_called w (eval_of w) number parent args s) r t (λ n. refl) h
+
   pub closure-back : (number : CodeNo) (parent : Place) (args : List Value) (s : State) (v : Value) (t : State)
       → Calls w (value.Closure number parent) args s v t → Gives (procedure_called w (eval_of w) number parent args s) v t
-  unfolding applied spread first_called
-  closure-back number parent args s v t h = gives-same (call_of w (value.Closure number parent) args s) (procedure_called w (eval_of w) number parent args s) v t (λ n. refl) h
+  closure-back number parent args s v t h = closure-ends-back number parent args s (Ok v) t h
 
   -- the body of the case that takes the arguments, in a new cell with these variables
   pub case-ends : (number : CodeNo) (parent : Place) (args : List Value) (s : State) (code : PlainCode) (f : Formals) (body : PlainCore) (r : End) (t : State)

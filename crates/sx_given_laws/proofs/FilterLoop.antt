@@ -36,10 +36,10 @@ module _ (w : PlainSetting) (known : code_at w.codes (code_no 61) ≡ Some (proc
   abbrev Filtered : List Value → Value → State → Type 0
   Filtered xs l s = Filters w g (f ∷ l ∷ []) f chosen xs s
 
-  names : Names 60 63 64 home g
+  abbrev names : Names 60 63 64 home g
   names = record { procedure = λ f l. refl; list = λ f l. refl; no_loop = λ f l. refl; loop = refl }
 
-  nothing : (s : State) → Home s.cells p home → Filtered [] nil s
+  pub nothing : (s : State) → Home s.cells p home → Filtered [] nil s
   nothing s round = record {
     value = nil;
     state = s1;
@@ -57,7 +57,7 @@ module _ (w : PlainSetting) (known : code_at w.codes (code_no 61) ≡ Some (proc
     abbrev s1 : State
     s1 = loop.entered w 61 60 63 64 filter_loop known p home names f l s round
 
-    some : (y : Value) (u : State) → Calls w f (x ∷ []) s1 y u → Filtered xs d u → Filtered (x ∷ xs) l s
+    pub some : (y : Value) (u : State) → Calls w f (x ∷ []) s1 y u → Filtered xs d u → Filtered (x ∷ xs) l s
     some y u called rest = by (truth_of y) refl
       where
         q : Place

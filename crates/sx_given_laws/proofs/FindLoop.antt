@@ -40,10 +40,10 @@ module _ (w : PlainSetting) (known : code_at w.codes (code_no 78) ≡ Some (proc
   abbrev Found : List Value → Value → State → Type 0
   Found xs l s = Finds w g (f ∷ l ∷ []) f xs s
 
-  names : Names 77 80 81 home g
+  abbrev names : Names 77 80 81 home g
   names = record { procedure = λ f l. refl; list = λ f l. refl; no_loop = λ f l. refl; loop = refl }
 
-  nothing : (s : State) → Home s.cells p home → Found [] nil s
+  pub nothing : (s : State) → Home s.cells p home → Found [] nil s
   nothing s round = record {
     state = s1;
     rest = [];
@@ -69,7 +69,7 @@ module _ (w : PlainSetting) (known : code_at w.codes (code_no 78) ≡ Some (proc
         (if-false w _ _ _ (next_place s) s1 s1 t (truth false) v (loop.not-null w 78 77 80 81 find_loop known p home names f l s round s1 (later-refl s1) x d pair) refl
         (h (loop.first-called w 78 77 80 81 find_loop known p home names f l s round s1 (later-refl s1) x d pair y u called)))
 
-    found : (y : Value) (u : State) → Calls w f (x ∷ []) s1 y u → truth_of y ≡ true → Found (x ∷ xs) l s
+    pub found : (y : Value) (u : State) → Calls w f (x ∷ []) s1 y u → truth_of y ≡ true → Found (x ∷ xs) l s
     found y u called e = record {
       state = u;
       rest = x ∷ xs;
@@ -78,7 +78,7 @@ module _ (w : PlainSetting) (known : code_at w.codes (code_no 78) ≡ Some (proc
           (λ test. if-true w _ _ _ (next_place s) s1 u u y x test e (loop.first-read w 78 77 80 81 find_loop known p home names f l s round u (calls-later w f (x ∷ []) s1 y u called) x d pair));
     }
 
-    missed : (y : Value) (u : State) → Calls w f (x ∷ []) s1 y u → truth_of y ≡ false → Found xs d u → Found (x ∷ xs) l s
+    pub missed : (y : Value) (u : State) → Calls w f (x ∷ []) s1 y u → truth_of y ≡ false → Found xs d u → Found (x ∷ xs) l s
     missed y u called e rest = record {
       state = rest.state;
       rest = rest.rest;

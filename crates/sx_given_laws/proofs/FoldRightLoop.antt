@@ -43,7 +43,7 @@ chain-of n cells [] x r h = ap (λ y. chain_to n cells y) (list-none r) ∙ chai
 chain-of zero cells (y ∷ ys) x r h = absurd (omega (arith, h))
 chain-of (suc n) cells (y ∷ ys) x r h = let c = list-some r in ap (chain_on (chain_to n cells) x) c.1 ∙ ap (linked y) (chain-of n cells ys c.0 c.2 (omega (arith, h)))
 
-short-elements : (cells : List Cell) (xs : List Value) (x : Value) → IsList cells xs x → length xs ≤ length cells → list_elements cells x ≡ Some xs
+pub short-elements : (cells : List Cell) (xs : List Value) (x : Value) → IsList cells xs x → length xs ≤ length cells → list_elements cells x ≡ Some xs
 unfolding chain
 short-elements cells xs x r h = ap (λ (c : Chain). if is_nil c.end then Some c.elements else None) (chain-of (length cells) cells xs x r h)
 

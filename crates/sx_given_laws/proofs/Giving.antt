@@ -101,6 +101,10 @@ module _ (w : PlainSetting) where
       by false k n = refl
       by true k n = absurd (cc)
 
+  -- a test that faults
+  pub test-stops : (c d e : PlainCore) (scope : Place) (s t : State) (f : Bare) → ExpressionEnds c scope s (Err f) t → ExpressionEnds (two_armed c d e) scope s (Err f) t
+  test-stops c d e scope s t f h = ends-step (two_armed c d e) scope s (Err f) t (ends-stopped (eval_of w c scope s) (two_arms w (eval_of w) d e scope) f t h)
+
   pub if-false : (c d e : PlainCore) (scope : Place) (s t u : State) (x v : Value) → Evaluates c scope s x t → truth_of x ≡ false → Evaluates e scope t v u → Evaluates (two_armed c d e) scope s v u
   if-false c d e scope s t u x v test is h = false-ends c d e scope s t u x (Ok v) test is h
 
@@ -154,12 +158,17 @@ module _ (w : PlainSetting) where
       → Evaluates (call c (more d (more e none))) scope s v r
   call-two c d e scope s t u q r f x y v g h j k = call-two-ends c d e scope s t u q r f x y (Ok v) g h j k
 
+  pub call-three-ends : (c d e a : PlainCore) (scope : Place) (s t u q p o : State) (f x y z : Value) (r : End)
+      → Evaluates c scope s f t → Evaluates d scope t x u → Evaluates e scope u y q → Evaluates a scope q z p → CallEnds w f (x ∷ y ∷ z ∷ []) p r o
+      → ExpressionEnds (call c (more d (more e (more a none)))) scope s r o
+  call-three-ends c d e a scope s t u q p o f x y z r g h j i k =
+      call-ends c (more d (more e (more a none))) scope s t o f r g
+      (operand-ends d (more e (more a none)) scope (f ∷ []) t u o x r h (operand-ends e (more a none) scope (f ∷ x ∷ []) u q o y r j (operand-ends a none scope (f ∷ x ∷ y ∷ []) q p o z r i k)))
+
   pub call-three : (c d e a : PlainCore) (scope : Place) (s t u q p r : State) (f x y z v : Value)
       → Evaluates c scope s f t → Evaluates d scope t x u → Evaluates e scope u y q → Evaluates a scope q z p → Calls w f (x ∷ y ∷ z ∷ []) p v r
       → Evaluates (call c (more d (more e (more a none)))) scope s v r
-  call-three c d e a scope s t u q p r f x y z v g h j i k =
-      call-is c (more d (more e (more a none))) scope s t r f v g
-      (operand d (more e (more a none)) scope (f ∷ []) t u r x v h (operand e (more a none) scope (f ∷ x ∷ []) u q r y v j (operand a none scope (f ∷ x ∷ y ∷ []) q p r z v i k)))
+  call-three c d e a scope s t u q p r f x y z v g h j i k = call-three-ends c d e a scope s t u q p r f x y z (Ok v) g h j i k
 
   pub call-four-ends : (c d e a b : PlainCore) (scope : Place) (s t u q p o l : State) (f x y z k : Value) (r : End)
       → Evaluates c scope s f t → Evaluates d scope t x u → Evaluates e scope u y q → Evaluates a scope q z p → Evaluates b scope p k o → CallEnds w f (x ∷ y ∷ z ∷ k ∷ []) o r l

@@ -19,6 +19,7 @@ HasCase cs n formals rest body = code_at cs (code_no n) ≡ Some (procedure_code
 pub record Knows (cs : Codes) : Type 0 where
   pub map_text : HasText cs 133 c.map_text
   pub map_one : HasCase cs 4 (6 ∷ 7 ∷ []) None c.map_one
+  pub map_many : HasCase cs 9 (11 ∷ 12 ∷ []) None c.map_many
   pub map_body : HasCase cs 15 (17 ∷ 18 ∷ []) (Some 19) c.map_body
   pub for_each_text : HasText cs 110 c.for_each_text
   pub for_each_body : HasCase cs 21 (23 ∷ 24 ∷ []) (Some 25) c.for_each_body
@@ -49,6 +50,7 @@ pub knows : (w : PlainSetting) → HasTexts w → Knows w.codes
 knows w has = record {
   map_text = has (text_number 133) _ refl;
   map_one = has (code_no 4) _ refl;
+  map_many = has (code_no 9) _ refl;
   map_body = has (code_no 15) _ refl;
   for_each_text = has (text_number 110) _ refl;
   for_each_body = has (code_no 21) _ refl;

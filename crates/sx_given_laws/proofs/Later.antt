@@ -12,7 +12,7 @@ use Rattle.sx_eval_laws.proofs.Keeping.{keeps-call}
 use Rattle.sx_list_laws.specs.Runs.{IsList}
 use Rattle.sx_list_laws.proofs.RunLemmas.{runs_still}
 use Rattle.sx_given_laws.specs.Calls.{End, Ends, call_of, CallEnds, Calls}
-use Rattle.sx_given_laws.specs.InTurn.{InTurn, no_call, one_call, Stops, stops_here, stops_behind, AllGive, AllEnd, Search, not_there, passed, there, SearchGives, FoldLeft, left_end, left_step, FoldLeftGives, FoldRight, right_end, right_step, FoldRightGives, ForAll, all_none, all_last, all_but, all_so_far, ForAllGives, Exists, some_none, some_last, some_here, some_behind}
+use Rattle.sx_given_laws.specs.InTurn.{InTurn, no_call, one_call, Stops, stops_here, stops_behind, AllGive, AllEnd, Search, not_there, passed, there, SearchGives, SearchStops, search_stops, search_goes_on, SearchEnds, FoldLeft, left_end, left_step, FoldLeftGives, FoldRight, right_end, right_step, FoldRightGives, ForAll, all_none, all_last, all_but, all_so_far, ForAllGives, Exists, some_none, some_last, some_here, some_behind}
 use Rattle.sx_given_laws.proofs.Looking.{later-stay}
 
 pub later-refl : (s : State) → Later s s
@@ -97,6 +97,14 @@ module _ (w : PlainSetting) (f : Value) where
   pub stops-from : (xs : List Value) (e : Bare) (r s t : State) → Later r s → Stops w f xs s e t → Stops w f xs r e t
   stops-from xs e r s t k (stops_here {t = u} h c) = stops_here (later-then r s u k h) c
   stops-from xs e r s t k (stops_behind {t = u} h c i) = stops_behind (later-then r s u k h) c i
+
+  pub search-stops-from : (xs : List Value) (e : Bare) (r s t : State) → Later r s → SearchStops w f xs s e t → SearchStops w f xs r e t
+  search-stops-from xs e r s t k (search_stops {t = u} h c) = search_stops (later-then r s u k h) c
+  search-stops-from xs e r s t k (search_goes_on {t = u} h c e' i) = search_goes_on (later-then r s u k h) c e' i
+
+  pub search-ends-later : (xs : List Value) (s t : State) → Later s t → SearchEnds w f xs s → SearchEnds w f xs t
+  search-ends-later [] s t k g = tt
+  search-ends-later (x ∷ xs) s t k g = λ u h. g u (later-then s t u k h)
 
   pub all-end-later : (xs : List Value) (s t : State) → Later s t → AllEnd w f xs s → AllEnd w f xs t
   all-end-later [] s t k g = tt

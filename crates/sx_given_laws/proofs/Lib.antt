@@ -31,3 +31,7 @@ pub mod LoopBack
 pub mod FilterBack
 pub mod FindBack
 pub mod MempBack
+pub mod FilterEnds
+pub mod RempEnds
+pub mod FindEnds
+pub mod MempEnds

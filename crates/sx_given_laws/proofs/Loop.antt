@@ -1,5 +1,5 @@
 -- A loop of a text along one list: a procedure of a procedure and a list that calls itself on the rest of the list.
-use Rattle.std.proofs.Common.{◌≡◌, ℕ, [], ◌∷◌, Some, None, true, false, refl, ap}
+use Rattle.std.proofs.Common.{◌≡◌, ℕ, [], ◌∷◌, Some, None, true, false, Ok, refl, ap}
 use Rattle.std.specs.Map.{lookup}
 use Rattle.sx_region.specs.declared.region.Place.{Place}
 use Rattle.sx_core.specs.Core.{PlainCore}
@@ -16,11 +16,11 @@ use Rattle.sx_eval.specs.State.{State, next_place, with_cell}
 use Rattle.sx_eval.specs.Variables.{Entries}
 use Rattle.sx_eval_laws.specs.Kept.{Later}
 use Rattle.sx_list_laws.proofs.RunLemmas.{pair_still}
-use Rattle.sx_given_laws.specs.Calls.{Calls}
+use Rattle.sx_given_laws.specs.Calls.{End, CallEnds, Calls}
 use Rattle.sx_given_laws.specs.Codes.{label, code_no, var, formals, one_case, app, car, cdr, is_null}
-use Rattle.sx_given_laws.proofs.Giving.{Evaluates, call-one, call-two}
+use Rattle.sx_given_laws.proofs.Giving.{Evaluates, ExpressionEnds, call-one-ends, call-two-ends}
 use Rattle.sx_given_laws.proofs.Looking.{later-stay}
-use Rattle.sx_given_laws.proofs.Calling.{closure-called, case-called}
+use Rattle.sx_given_laws.proofs.Calling.{closure-ends, case-ends}
 use Rattle.sx_given_laws.proofs.Inside.{Inside, Home, inside-later, entered-inside, own, outer}
 use Rattle.sx_given_laws.proofs.Later.{later-with}
 use Rattle.sx_given_laws.proofs.Primitives.{pair-not-nil, null-is, car-is, cdr-is}
@@ -49,10 +49,13 @@ module _ (w : PlainSetting) (code go m n : ℕ) (body : PlainCore) (known : code
   abbrev q : Place
   q = next_place s
 
+  pub loop-ends : (r : End) (t : State) → ExpressionEnds w body q entered r t → CallEnds w g (f ∷ l ∷ []) s r t
+  loop-ends r t h =
+      closure-ends w (code_no code) p (f ∷ l ∷ []) s r t
+      (case-ends w (code_no code) p (f ∷ l ∷ []) s (procedure_code (code_no code) (one_case (m ∷ n ∷ []) None body) true) (formals (m ∷ n ∷ []) None) body r t known refl h)
+
   pub loop-called : (v : Value) (t : State) → Evaluates w body q entered v t → Calls w g (f ∷ l ∷ []) s v t
-  loop-called v t h =
-      closure-called w (code_no code) p (f ∷ l ∷ []) s v t
-      (case-called w (code_no code) p (f ∷ l ∷ []) s (procedure_code (code_no code) (one_case (m ∷ n ∷ []) None body) true) (formals (m ∷ n ∷ []) None) body v t known refl h)
+  loop-called v t h = loop-ends (Ok v) t h
 
   pub entered-later : Later s entered
   entered-later = later-with s (cell.Scope (two_vars m n f l) (Some p))
@@ -84,11 +87,17 @@ module _ (w : PlainSetting) (code go m n : ℕ) (body : PlainCore) (known : code
       rest-read = cdr-is w (var n) q u u l list-read x d pair-then
 
       -- the call on the first element
+      pub first-ends : (r : End) (t : State) → CallEnds w f (x ∷ []) u r t → ExpressionEnds w (app (var m) (car (var n) ∷ [])) q u r t
+      first-ends r t h = call-one-ends w (var m) (car (var n)) q u u u t f x r procedure-read first-read h
+
       pub first-called : (y : Value) (t : State) → Calls w f (x ∷ []) u y t → Evaluates w (app (var m) (car (var n) ∷ [])) q u y t
-      first-called y t h = call-one w (var m) (car (var n)) q u u u t f x y procedure-read first-read h
+      first-called y t h = first-ends (Ok y) t h
 
       -- the loop along the rest
-      pub loop-again : (v : Value) (t : State) → Calls w g (f ∷ d ∷ []) u v t → Evaluates w (app (var go) (var m ∷ cdr (var n) ∷ [])) q u v t
-      loop-again v t h =
-          call-two w (var go) (var m) (cdr (var n)) q u u u u t g f d v
+      pub again-ends : (r : End) (t : State) → CallEnds w g (f ∷ d ∷ []) u r t → ExpressionEnds w (app (var go) (var m ∷ cdr (var n) ∷ [])) q u r t
+      again-ends r t h =
+          call-two-ends w (var go) (var m) (cdr (var n)) q u u u u t g f d r
           (outer w u q (two_vars m n f l) p home inside (label go) g (names.no_loop f l) names.loop) procedure-read rest-read h
+
+      pub loop-again : (v : Value) (t : State) → Calls w g (f ∷ d ∷ []) u v t → Evaluates w (app (var go) (var m ∷ cdr (var n) ∷ [])) q u v t
+      loop-again v t h = again-ends (Ok v) t h

@@ -1,5 +1,5 @@
 -- A text that is a `letrec` of one procedure.
-use Rattle.std.proofs.Common.{◌≡◌, ℕ, List, [], Some, None, true, false, refl, nat_eq, arith}
+use Rattle.std.proofs.Common.{◌≡◌, ℕ, List, [], Some, None, true, false, Ok, refl, nat_eq, arith}
 use Rattle.std.specs.Map.{lookup}
 use Rattle.sx_region.specs.declared.region.Place.{Place}
 use Rattle.sx_region.proofs.Laws.{slice_get-added}
@@ -15,11 +15,11 @@ use Rattle.sx_eval.specs.Setting.{PlainSetting}
 use Rattle.sx_eval.specs.State.{State, next_place, with_cell}
 use Rattle.sx_eval.specs.declared.spread.TheConstants.{APPLY}
 use Rattle.sx_eval_laws.specs.Kept.{Later}
-use Rattle.sx_given_laws.specs.Calls.{Gives, Calls}
+use Rattle.sx_given_laws.specs.Calls.{End, Ends, Gives, CallEnds, Calls}
 use Rattle.sx_given_laws.specs.Codes.{label, code_no, var, lambda, one_case, text_code}
 use Rattle.sx_given_laws.proofs.Giving.{Evaluates}
 use Rattle.sx_given_laws.proofs.Looking.{in_cell, variable-is}
-use Rattle.sx_given_laws.proofs.Calling.{text-called, closure-back}
+use Rattle.sx_given_laws.proofs.Calling.{text-ends, closure-ends-back}
 use Rattle.sx_given_laws.proofs.Inside.{Home, one_home, letrec-is}
 use Rattle.sx_given_laws.proofs.Later.{later-then, later-with}
 
@@ -44,22 +44,36 @@ module _ (w : PlainSetting) (s : State) (go code : ℕ) where
 
   module _ (op : ℕ) (formals : List ℕ) (loop : PlainCore) (self : same_label (label go) (label go) ≡ true) (other : nat_eq op APPLY ≡ false) (yes : has_text op ≡ true) where
     -- the text gives a procedure, which is called
+    pub text-by-ends : (body : PlainCore) (number : ℕ) (args : List Value) (r : End) (t : State)
+        → code_at w.codes (text_number op) ≡ Some (text_code op (loop_text go code formals loop body))
+        → Evaluates w body home_place ready (value.Closure (code_no number) home_place) ready
+        → Ends (procedure_called w (eval_of w) (code_no number) home_place args ready) r t
+        → CallEnds w (value.Prim (record { 0 = op })) args s r t
+    text-by-ends body number args r t known is h =
+        text-ends w (record { 0 = op }) args s ready t (text_code op (loop_text go code formals loop body)) (loop_text go code formals loop body) (code_no number) home_place r other yes known refl
+        (letrec-is w (label go) self (code_no code) (one_case formals None loop) true body (next_place s) outside (value.Closure (code_no number) home_place) ready is) h
+
     pub text-by : (body : PlainCore) (number : ℕ) (args : List Value) (v : Value) (t : State)
         → code_at w.codes (text_number op) ≡ Some (text_code op (loop_text go code formals loop body))
         → Evaluates w body home_place ready (value.Closure (code_no number) home_place) ready
         → Gives (procedure_called w (eval_of w) (code_no number) home_place args ready) v t
         → Calls w (value.Prim (record { 0 = op })) args s v t
-    text-by body number args v t known is h =
-        text-called w (record { 0 = op }) args s ready t (text_code op (loop_text go code formals loop body)) (loop_text go code formals loop body) (code_no number) home_place v other yes known refl
-        (letrec-is w (label go) self (code_no code) (one_case formals None loop) true body (next_place s) outside (value.Closure (code_no number) home_place) ready is) h
+    text-by body number args v t known is h = text-by-ends body number args (Ok v) t known is h
 
     -- the procedure of the `letrec` itself
+    pub loop-by-ends : (args : List Value) (r : End) (t : State)
+        → code_at w.codes (text_number op) ≡ Some (text_code op (loop_text go code formals loop (var go)))
+        → lookup (same_label (label go)) (one_home (label go) (code_no code) home_place) ≡ Some (Some (value.Closure (code_no code) home_place))
+        → CallEnds w (value.Closure (code_no code) home_place) args ready r t
+        → CallEnds w (value.Prim (record { 0 = op })) args s r t
+    loop-by-ends args r t known found h =
+        text-by-ends (var go) code args r t known
+        (variable-is w (label go) home_place ready (value.Closure (code_no code) home_place) 1 (in_cell ready-home.is found) (omega arith))
+        (closure-ends-back w (code_no code) home_place args ready r t h)
+
     pub loop-by : (args : List Value) (v : Value) (t : State)
         → code_at w.codes (text_number op) ≡ Some (text_code op (loop_text go code formals loop (var go)))
         → lookup (same_label (label go)) (one_home (label go) (code_no code) home_place) ≡ Some (Some (value.Closure (code_no code) home_place))
         → Calls w (value.Closure (code_no code) home_place) args ready v t
         → Calls w (value.Prim (record { 0 = op })) args s v t
-    loop-by args v t known found h =
-        text-by (var go) code args v t known
-        (variable-is w (label go) home_place ready (value.Closure (code_no code) home_place) 1 (in_cell ready-home.is found) (omega arith))
-        (closure-back w (code_no code) home_place args ready v t h)
+    loop-by args v t known found h = loop-by-ends args (Ok v) t known found h

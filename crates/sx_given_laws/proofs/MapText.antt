@@ -51,7 +51,7 @@ module _ (w : PlainSetting) (s : State) where
   abbrev unset_cell : Cell
   unset_cell = cell.Scope ((label 2, None) ∷ (label 3, None) ∷ []) (Some (next_place s))
 
-  text-is : Evaluates w map_text (next_place s) outside (value.Closure (code_no 15) home_place) ready
+  pub text-is : Evaluates w map_text (next_place s) outside (value.Closure (code_no 15) home_place) ready
   text-is =
       evaluates-step w map_text (next_place s) outside v ready
       (gives-then (eval_of w (lambda 4 (6 ∷ 7 ∷ []) None map_one) p begun) (λ x. at_once w (eval_of w) late inits body p (x ∷ [])) x begun v ready

@@ -41,10 +41,10 @@ module _ (w : PlainSetting) (known : code_at w.codes (code_no 86) ≡ Some (proc
   abbrev Found : List Value → Value → State → Type 0
   Found xs l s = FindsTail w g (f ∷ l ∷ []) f l xs s
 
-  names : Names 85 88 89 home g
+  abbrev names : Names 85 88 89 home g
   names = record { procedure = λ f l. refl; list = λ f l. refl; no_loop = λ f l. refl; loop = refl }
 
-  nothing : (s : State) → Home s.cells p home → Found [] nil s
+  pub nothing : (s : State) → Home s.cells p home → Found [] nil s
   nothing s round = record {
     value = truth false;
     state = s1;
@@ -77,7 +77,7 @@ module _ (w : PlainSetting) (known : code_at w.codes (code_no 86) ≡ Some (proc
         (if-false w _ _ _ (next_place s) s1 s1 t (truth false) v (loop.not-null w 86 85 88 89 memp_loop known p home names f l s round s1 (later-refl s1) x d pair) refl
         (h (loop.first-called w 86 85 88 89 memp_loop known p home names f l s round s1 (later-refl s1) x d pair y u called)))
 
-    found : IsList s.cells (x ∷ xs) l → (y : Value) (u : State) → Calls w f (x ∷ []) s1 y u → truth_of y ≡ true → Found (x ∷ xs) l s
+    pub found : IsList s.cells (x ∷ xs) l → (y : Value) (u : State) → Calls w f (x ∷ []) s1 y u → truth_of y ≡ true → Found (x ∷ xs) l s
     found r y u called e = record {
       value = l;
       state = u;
@@ -90,7 +90,7 @@ module _ (w : PlainSetting) (known : code_at w.codes (code_no 86) ≡ Some (proc
         behind : Later s1 u
         behind = calls-later w f (x ∷ []) s1 y u called
 
-    missed : (y : Value) (u : State) → Calls w f (x ∷ []) s1 y u → truth_of y ≡ false → Found xs d u → Found (x ∷ xs) l s
+    pub missed : (y : Value) (u : State) → Calls w f (x ∷ []) s1 y u → truth_of y ≡ false → Found xs d u → Found (x ∷ xs) l s
     missed y u called e rest = record {
       value = rest.value;
       state = rest.state;

@@ -1,11 +1,13 @@
 -- What the primitives give of which the texts are made.
-use Rattle.std.proofs.Common.{◌≡◌, ℕ, List, [], ◌∷◌, Option, Some, Bool, false, not, Ok, length, refl, ap, subst}
+use Rattle.std.proofs.Common.{◌≡◌, ℕ, List, [], ◌∷◌, Option, Some, Bool, false, not, Ok, Err, length, refl, ap, subst}
 use Rattle.sx_base.specs.declared.atom.Atom.TheVariants as a
 use Rattle.sx_base.specs.Datum as datum
+use Rattle.sx_base.specs.declared.fault.Bare.{Bare}
 use Rattle.sx_base.specs.declared.span.Span.{Span}
 use Rattle.sx_frames.specs.Scope.{Scope}
 use Rattle.sx_region.specs.declared.region.Place.{Place}
-use Rattle.sx_core.specs.Core.{PlainCore, quoted}
+use Rattle.sx_core.specs.Core.{PlainCore, quoted, none, cores}
+use Rattle.sx_value.specs.FromDatum.{pairs_stored}
 use Rattle.sx_value.specs.declared.value.Value.{Value}
 use Rattle.sx_value.specs.declared.value.Value.TheVariants as value
 use Rattle.sx_value.specs.declared.cell.Cell.{Cell}
@@ -21,10 +23,10 @@ use Rattle.sx_prims.specs.declared.made.Made.TheVariants as made
 use Rattle.sx_eval.specs.Meaning.{quoted_value}
 use Rattle.sx_eval.specs.Procedures.{has_text, truth_of}
 use Rattle.sx_eval.specs.Setting.{PlainSetting}
-use Rattle.sx_eval.specs.State.{State, done, with_cell}
+use Rattle.sx_eval.specs.State.{State, done, store, with_cell}
 use Rattle.sx_given_laws.specs.Calls.{Gives, Calls}
 use Rattle.sx_given_laws.specs.Codes.{prim, app, car, cdr, is_null, cons}
-use Rattle.sx_given_laws.proofs.Giving.{gives-done, gives-charged, Evaluates, evaluates-step, primitive-is, call-one, call-two}
+use Rattle.sx_given_laws.proofs.Giving.{gives-done, gives-charged, Evaluates, evaluates-step, ExpressionEnds, primitive-is, operand-ends, operand-stops, call-ends, call-one, call-two}
 use Rattle.sx_given_laws.proofs.Calling.{plain-called}
 
 -- a pair is not the empty list
@@ -124,6 +126,12 @@ module _ (w : PlainSetting) where
   unfolding has_text
   append-called x y z s e = plain-called w (record { 0 = 41 }) (x ∷ y ∷ []) s (made.List (z ∷ []) y) refl refl refl (append-answer s.cells w.frames x y (z ∷ []) e)
 
+  -- and of any list
+  pub appended : (x y : Value) (xs : List Value) (s : State) → list_elements s.cells x ≡ Some xs
+      → Calls w (value.Prim (record { 0 = 41 })) (x ∷ y ∷ []) s (pairs_stored xs (y, s.cells)).0 (store (pairs_stored xs (y, s.cells)).1 s.names)
+  unfolding has_text
+  appended x y xs s e = plain-called w (record { 0 = 41 }) (x ∷ y ∷ []) s (made.List xs y) refl refl refl (append-answer s.cells w.frames x y xs e)
+
   -- Expressions that call them.
 
   module _ (c : PlainCore) (scope : Place) (s t : State) (x : Value) (h : Evaluates w c scope s x t) where
@@ -148,6 +156,13 @@ module _ (w : PlainSetting) where
     pub cons-is : (d : PlainCore) (y : Value) (u : State) → Evaluates w d scope t y u → Evaluates w (cons c d) scope s (next_pair u) (with_cell (cell.Pair x y) u)
     cons-is d y u k =
         call-two w (prim 90) c d scope s s t u (with_cell (cell.Pair x y) u) (value.Prim (record { 0 = 90 })) x y (next_pair u) (primitive-is w (record { 0 = 90 }) scope s) h k (cons-called x y u)
+
+  -- a pair whose second part faults
+  pub cons-stops : (c d : PlainCore) (scope : Place) (s t u : State) (x : Value) (e : Bare) → Evaluates w c scope s x t → ExpressionEnds w d scope t (Err e) u → ExpressionEnds w (cons c d) scope s (Err e) u
+  cons-stops c d scope s t u x e h k =
+      call-ends w (prim 90) (cores (c ∷ d ∷ [])) scope s s u (value.Prim (record { 0 = 90 })) (Err e) (primitive-is w (record { 0 = 90 }) scope s)
+      (operand-ends w c (cores (d ∷ [])) scope (value.Prim (record { 0 = 90 }) ∷ []) s t u x (Err e) h
+      (operand-stops w d none scope (value.Prim (record { 0 = 90 }) ∷ x ∷ []) t u e k))
 
   -- Constants.
 

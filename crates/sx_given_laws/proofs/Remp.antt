@@ -46,7 +46,7 @@ module _ (w : PlainSetting) (knows : Knows w.codes) (f l : Value) where
     abbrev tested : Value → State → State
     tested x s = with_cell (cell.Scope ((label 74, Some x) ∷ []) (Some p)) s
 
-    turned-called : (x : Value) (s : State) → Home s.cells p vars → (y : Value) (t : State) → Calls w f (x ∷ []) (tested x s) y t → Calls w turned (x ∷ []) s (truth (is_false y)) t
+    pub turned-called : (x : Value) (s : State) → Home s.cells p vars → (y : Value) (t : State) → Calls w f (x ∷ []) (tested x s) y t → Calls w turned (x ∷ []) s (truth (is_false y)) t
     turned-called x s round y t h =
         closure-called w (code_no 72) p (x ∷ []) s (truth (is_false y)) t
         (case-called w (code_no 72) p (x ∷ []) s (procedure_code (code_no 72) (one_case (74 ∷ []) None remp_test) true) (formals (74 ∷ []) None) remp_test (truth (is_false y)) t knows.remp_test refl
@@ -58,7 +58,7 @@ module _ (w : PlainSetting) (knows : Knows w.codes) (f l : Value) where
         inside : Inside (tested x s).cells (next_place s) ((label 74, Some x) ∷ []) p vars
         inside = entered-inside s ((label 74, Some x) ∷ []) p vars round
 
-    far : (x : Value) (s : State) (y : Value) (t : State) → Calls w f (x ∷ []) (tested x s) y t → Later s t
+    pub far : (x : Value) (s : State) (y : Value) (t : State) → Calls w f (x ∷ []) (tested x s) y t → Later s t
     far x s y t h = later-then s (tested x s) t (later-with s (cell.Scope ((label 74, Some x) ∷ []) (Some p))) (calls-later w f (x ∷ []) (tested x s) y t h)
 
     turned-gives : (xs : List Value) (s : State) → Home s.cells p vars → AllGive w f xs s → AllGive w turned xs s
@@ -90,7 +90,7 @@ module _ (w : PlainSetting) (knows : Knows w.codes) (f l : Value) where
         )
 
     -- what calls of that did that gave values
-    turned-did : (xs zs : List Value) (s t : State) → Home s.cells p vars → InTurn w turned xs s zs t → Behind xs zs s t
+    pub turned-did : (xs zs : List Value) (s t : State) → Home s.cells p vars → InTurn w turned xs s zs t → Behind xs zs s t
     turned-did xs zs s t round (no_call k) = ([], no_call k, refl)
     turned-did xs zs s t round (one_call {x = x} {y = z} {xs = xs'} {ys = zs'} {t = r} {u = u} k c i) =
         let around = home-later s r k p vars round in

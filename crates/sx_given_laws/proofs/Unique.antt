@@ -1,11 +1,11 @@
 -- A call gives one value and leaves one state.
-use Rattle.std.proofs.Common.{◌≡◌, ◌+◌, List, [], ◌∷◌, map, refl, ap, ap₂, sym, ◌∙◌, arith}
+use Rattle.std.proofs.Common.{◌≡◌, ◌+◌, ℕ, Ok, Err, List, [], ◌∷◌, map, refl, ap, ap₂, sym, ◌∙◌, arith}
 use Rattle.sx_value.specs.declared.value.Value.{Value}
 use Rattle.sx_eval.specs.Setting.{PlainSetting}
 use Rattle.sx_eval.specs.State.{State, Outcome, done, faulted, unfit}
 use Rattle.sx_eval_laws.specs.Kept.{Later}
 use Rattle.sx_eval_laws.specs.Runs.{ByFuel}
-use Rattle.sx_given_laws.specs.Calls.{Gives, call_of}
+use Rattle.sx_given_laws.specs.Calls.{End, ended, Ends, Gives, call_of}
 use Rattle.sx_given_laws.specs.InTurn.{InTurn, no_call, one_call, AllGive, AllGiveBy}
 use Rattle.sx_given_laws.proofs.Later.{later-then, calls-later}
 
@@ -27,6 +27,35 @@ gives-one-value run v x t u g h = ap (value_or v) (gives-one run v x t u g h)
 
 pub gives-one-state : (run : ByFuel) (v x : Value) (t u : State) → Gives run v t → Gives run x u → t ≡ u
 gives-one-state run v x t u g h = ap (state_or t) (gives-one run v x t u g h)
+
+-- likewise of each end
+
+abbrev end_or : End → Outcome → End
+end_or d (done v s n) = Ok v
+end_or d (faulted f s n) = Err f
+end_or d unfit = d
+
+abbrev left_state : State → Outcome → State
+left_state d (done v s n) = s
+left_state d (faulted f s n) = s
+left_state d unfit = d
+
+end-of : (r d : End) (t : State) (n : ℕ) → end_or d (ended r t n) ≡ r
+end-of (Ok v) d t n = refl
+end-of (Err f) d t n = refl
+
+state-of : (r : End) (d t : State) (n : ℕ) → left_state d (ended r t n) ≡ t
+state-of (Ok v) d t n = refl
+state-of (Err f) d t n = refl
+
+ends-one : (run : ByFuel) (r q : End) (t u : State) (g : Ends run r t) (h : Ends run q u) → ended r t h.0 ≡ ended q u g.0
+ends-one run r q t u g h = let same : h.0 + g.0 ≡ g.0 + h.0 = omega arith in sym (g.1 h.0) ∙ ap run same ∙ h.1 g.0
+
+pub ends-one-end : (run : ByFuel) (r q : End) (t u : State) → Ends run r t → Ends run q u → r ≡ q
+ends-one-end run r q t u g h = sym (end-of r r t h.0) ∙ ap (end_or r) (ends-one run r q t u g h) ∙ end-of q r u g.0
+
+pub ends-one-state : (run : ByFuel) (r q : End) (t u : State) → Ends run r t → Ends run q u → t ≡ u
+ends-one-state run r q t u g h = sym (state-of r t t h.0) ∙ ap (left_state t) (ends-one run r q t u g h) ∙ state-of q t u g.0
 
 module _ (w : PlainSetting) (f : Value) (g : Value → Value) where
   pub by-later : (xs : List Value) (s t : State) → Later s t → AllGiveBy w f g xs s → AllGiveBy w f g xs t

@@ -10,7 +10,7 @@ use Rattle.sx_eval.specs.Setting.{PlainSetting}
 use Rattle.sx_eval.specs.State.{State}
 use Rattle.sx_list_laws.specs.Runs.{Runs, IsList}
 use Rattle.sx_given_laws.specs.Calls.{CallEnds, Calls}
-use Rattle.sx_given_laws.specs.InTurn.{InTurn, Stops, Search, FoldLeft, FoldRight, ForAll, Exists}
+use Rattle.sx_given_laws.specs.InTurn.{InTurn, Stops, Search, SearchStops, FoldLeft, FoldRight, ForAll, Exists}
 
 -- a procedure that is given, by its number
 abbrev pub built_in : ℕ → Value
@@ -113,12 +113,19 @@ pub record FoldsRight (w : PlainSetting) (g : Value) (args : List Value) (f z : 
   pub called : Calls w g args s value state
   pub fold : FoldRight w f z xs s value state
 
--- `map` and `for-each` where a call faults: it is the last that is made, and its fault is given.
+-- `map`, `for-each`, `filter` and `remp` where a call faults: it is the last that is made, and its fault is given.
 pub record Faults (w : PlainSetting) (g : Value) (args : List Value) (f : Value) (xs : List Value) (s : State) : Type 0 where
   pub fault : Bare
   pub state : State
   pub called : CallEnds w g args s (Err fault) state
   pub stops : Stops w f xs s fault state
+
+-- `find` and `memp` where a call faults: none before it answered true, and its fault is given.
+pub record SearchFaults (w : PlainSetting) (g : Value) (args : List Value) (f : Value) (xs : List Value) (s : State) : Type 0 where
+  pub fault : Bare
+  pub state : State
+  pub called : CallEnds w g args s (Err fault) state
+  pub stops : SearchStops w f xs s fault state
 
 -- What calls that gave a value did.
 

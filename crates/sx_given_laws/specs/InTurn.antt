@@ -30,6 +30,21 @@ abbrev pub SearchGives : PlainSetting → Value → List Value → State → Typ
 SearchGives w f [] s = Unit {0}
 SearchGives w f (x ∷ xs) s = (t : State) → Later s t → (y : Value) × (u : State) × Calls w f (x ∷ []) t y u × (truth_of y ≡ false → SearchGives w f xs u)
 
+-- A search that a call stops: none before it answered true, and it ends at a fault.
+pub data SearchStops (w : PlainSetting) (f : Value) : List Value → State → Bare → State → Type 0 where
+  search_stops : {x : Value} {xs : List Value} {e : Bare} {s t u : State} → Later s t → CallEnds w f (x ∷ []) t (Err e) u → SearchStops w f (x ∷ xs) s e u
+  search_goes_on : {x y : Value} {xs : List Value} {e : Bare} {s t u v : State} → Later s t → Calls w f (x ∷ []) t y u → truth_of y ≡ false → SearchStops w f xs u e v → SearchStops w f (x ∷ xs) s e v
+
+-- where a call answered `#f`
+abbrev pub AfterFalse : End → Type 0 → Type 0
+AfterFalse (Ok y) P = truth_of y ≡ false → P
+AfterFalse (Err e) P = Unit {0}
+
+-- Each call until one answers true ends, with a value or at a fault, whatever cells were added before it.
+abbrev pub SearchEnds : PlainSetting → Value → List Value → State → Type 0
+SearchEnds w f [] s = Unit {0}
+SearchEnds w f (x ∷ xs) s = (t : State) → Later s t → (r : End) × (u : State) × CallEnds w f (x ∷ []) t r u × AfterFalse r (SearchEnds w f xs u)
+
 -- A fold from the left: each call is on what the one before it gave and the next value.
 pub data FoldLeft (w : PlainSetting) (f : Value) : Value → List Value → State → Value → State → Type 0 where
   left_end : {z : Value} {s t : State} → Later s t → FoldLeft w f z [] s z t

@@ -10,8 +10,8 @@ ghost use Rattle.sx_list_laws.specs.Runs.{IsList};
 ghost use Rattle.sx_value.specs.declared.value.Value.{Value};
 ghost use Rattle.sx_value.specs.declared.value.Value.TheVariants as value;
 ghost use Rattle.sx_given_laws.specs.Calls.{call_of, Calls};
-ghost use Rattle.sx_given_laws.specs.Given.{built_in, Maps, MapsBy, Mapped, Visits, Visited, Faults, Filters, Filtered, Finds, Found, FindsTail, TailFound, ForAlls, Existences, FoldsLeft, FoldsRight};
-ghost use Rattle.sx_given_laws.specs.InTurn.{FoldLeft, AllGive, AllEnd, AllGiveBy, SearchGives, ForAllGives, FoldLeftGives, FoldRightGives, chosen, others};
+ghost use Rattle.sx_given_laws.specs.Given.{built_in, Maps, MapsBy, Mapped, Visits, Visited, Faults, Filters, Filtered, Finds, Found, FindsTail, TailFound, SearchFaults, ForAlls, Existences, FoldsLeft, FoldsRight};
+ghost use Rattle.sx_given_laws.specs.InTurn.{FoldLeft, AllGive, AllEnd, AllGiveBy, SearchGives, SearchEnds, ForAllGives, FoldLeftGives, FoldRightGives, chosen, others};
 ghost use Rattle.sx_given_laws.specs.Texts.{HasTexts, Includes, written_table};
 
 /// The numbers of the procedures of which the laws speak, by their report names.
@@ -57,22 +57,30 @@ pub fn for_each_calls_in_order()
 
 /// `filter` gives the list of the elements whose answer is not `#f`, and `remp` of those whose answer is `#f`, in their
 /// order; each is asked once, from the first to the last (R6RS libraries 3). And whenever one gives a value it
-/// has done so.
+/// has done so. Where a call faults, it is the last that is made, and its fault is given.
 pub fn filter_keeps_and_remp_leaves_out()
     ensures filter { (w : PlainSetting) (f l : Value) (xs : List Value) (s : State) → HasTexts w → IsList s.cells xs l → AllGive w f xs s → Filters w (built_in 194) (f ∷ l ∷ []) f chosen xs s }
     ensures filter_only { (w : PlainSetting) (f l : Value) (xs : List Value) (s t : State) (v : Value) → HasTexts w → IsList s.cells xs l → Calls w (built_in 194) (f ∷ l ∷ []) s v t → Filtered w f chosen xs s v t }
+    ensures filter_faults { (w : PlainSetting) (f l : Value) (xs : List Value) (s : State) → HasTexts w → IsList s.cells xs l → AllEnd w f xs s →
+        Filters w (built_in 194) (f ∷ l ∷ []) f chosen xs s ⊎ Faults w (built_in 194) (f ∷ l ∷ []) f xs s }
     ensures remp { (w : PlainSetting) (f l : Value) (xs : List Value) (s : State) → HasTexts w → IsList s.cells xs l → AllGive w f xs s → Filters w (built_in 198) (f ∷ l ∷ []) f others xs s }
     ensures remp_only { (w : PlainSetting) (f l : Value) (xs : List Value) (s t : State) (v : Value) → HasTexts w → IsList s.cells xs l → Calls w (built_in 198) (f ∷ l ∷ []) s v t → Filtered w f others xs s v t }
+    ensures remp_faults { (w : PlainSetting) (f l : Value) (xs : List Value) (s : State) → HasTexts w → IsList s.cells xs l → AllEnd w f xs s →
+        Filters w (built_in 198) (f ∷ l ∷ []) f others xs s ⊎ Faults w (built_in 198) (f ∷ l ∷ []) f xs s }
 {}
 
 /// `find` gives the first element whose answer is not `#f`, and `memp` what is left of the list itself from there on; both
 /// give `#f` where there is none, and ask no element behind the first (R6RS libraries 3). And whenever one gives a value it
-/// has done so.
+/// has done so. Where a call faults before an answer isn't `#f`, it is the last that is made, and its fault is given.
 pub fn find_and_memp_stop_at_the_first()
     ensures find { (w : PlainSetting) (f l : Value) (xs : List Value) (s : State) → HasTexts w → IsList s.cells xs l → SearchGives w f xs s → Finds w (built_in 191) (f ∷ l ∷ []) f xs s }
     ensures memp { (w : PlainSetting) (f l : Value) (xs : List Value) (s : State) → HasTexts w → IsList s.cells xs l → SearchGives w f xs s → FindsTail w (built_in 202) (f ∷ l ∷ []) f l xs s }
     ensures find_only { (w : PlainSetting) (f l : Value) (xs : List Value) (s t : State) (v : Value) → HasTexts w → IsList s.cells xs l → Calls w (built_in 191) (f ∷ l ∷ []) s v t → Found w f xs s v t }
     ensures memp_only { (w : PlainSetting) (f l : Value) (xs : List Value) (s t : State) (v : Value) → HasTexts w → IsList s.cells xs l → Calls w (built_in 202) (f ∷ l ∷ []) s v t → TailFound w f l xs s v t }
+    ensures find_faults { (w : PlainSetting) (f l : Value) (xs : List Value) (s : State) → HasTexts w → IsList s.cells xs l → SearchEnds w f xs s →
+        Finds w (built_in 191) (f ∷ l ∷ []) f xs s ⊎ SearchFaults w (built_in 191) (f ∷ l ∷ []) f xs s }
+    ensures memp_faults { (w : PlainSetting) (f l : Value) (xs : List Value) (s : State) → HasTexts w → IsList s.cells xs l → SearchEnds w f xs s →
+        FindsTail w (built_in 202) (f ∷ l ∷ []) f l xs s ⊎ SearchFaults w (built_in 202) (f ∷ l ∷ []) f xs s }
 {}
 
 /// `for-all` gives `#f` at the first answer that is `#f`, else the last answer, and `#t` of the empty list; `exists` gives

@@ -1,4 +1,6 @@
 use Rattle.sx_given_laws.proofs.FilterBack.{filter-only}
+use Rattle.sx_given_laws.proofs.FilterEnds.{filter-ended}
+use Rattle.sx_given_laws.proofs.RempEnds.{remp-ended}
 use Rattle.sx_given_laws.proofs.Knows.{knows}
 use Rattle.sx_given_laws.proofs.Remp.{remp-given, remp-only}
 use Rattle.sx_given_laws.proofs.ListTexts.{filter-given}
@@ -8,6 +10,8 @@ pub returns : goal.returns
 returns c = record {
   filter = λ w f l xs s has r give. filter-given w (knows w has) f l xs s r give;
   filter_only = λ w f l xs s t v has r called. filter-only w (knows w has) f l xs s v t r called;
+  filter_faults = λ w f l xs s has r give. filter-ended w (knows w has) f l xs s r give;
   remp = λ w f l xs s has r give. remp-given w (knows w has) f l s xs r give;
   remp_only = λ w f l xs s t v has r called. remp-only w (knows w has) f l s xs v t r called;
+  remp_faults = λ w f l xs s has r give. remp-ended w (knows w has) f l s xs r give;
 }

@@ -1,5 +1,7 @@
 use Rattle.sx_given_laws.proofs.FindBack.{find-only}
 use Rattle.sx_given_laws.proofs.MempBack.{memp-only}
+use Rattle.sx_given_laws.proofs.FindEnds.{find-ended}
+use Rattle.sx_given_laws.proofs.MempEnds.{memp-ended}
 use Rattle.sx_given_laws.proofs.Knows.{knows}
 use Rattle.sx_given_laws.proofs.ListTexts.{find-given, memp-given}
 use Rattle.sx_given_laws.proofs.laws.find_and_memp_stop_at_the_first.Goals as goal
@@ -10,4 +12,6 @@ returns c = record {
   memp = λ w f l xs s has r give. memp-given w (knows w has) f l xs s r give;
   find_only = λ w f l xs s t v has r called. find-only w (knows w has) f l xs s v t r called;
   memp_only = λ w f l xs s t v has r called. memp-only w (knows w has) f l xs s v t r called;
+  find_faults = λ w f l xs s has r give. find-ended w (knows w has) f l xs s r give;
+  memp_faults = λ w f l xs s has r give. memp-ended w (knows w has) f l xs s r give;
 }

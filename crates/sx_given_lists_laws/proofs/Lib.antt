@@ -1,0 +1,14 @@
+pub mod Splitting
+pub mod Steps
+pub mod Elements
+pub mod RowLemmas
+pub mod Moving
+pub mod RowParts
+pub mod RowLoop
+pub mod FoldText
+pub mod ForAllRows
+pub mod ExistsRows
+pub mod FoldLeftRows
+pub mod FoldRightRows
+pub mod MapRows
+pub mod VisitRows

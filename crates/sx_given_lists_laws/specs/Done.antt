@@ -1,0 +1,19 @@
+-- What a call of `map` or `for-each` on several lists did, by how it ended (R6RS 11.9).
+use Rattle.std.specs.Prelude.{◌≡◌, List, Ok, Err}
+use Rattle.sx_value.specs.declared.value.Value.{Value}
+use Rattle.sx_value.specs.declared.value.Value.TheVariants as value
+use Rattle.sx_eval.specs.Setting.{PlainSetting}
+use Rattle.sx_eval.specs.State.{State}
+use Rattle.sx_list_laws.specs.Runs.{IsList}
+use Rattle.sx_given_laws.specs.Calls.{End}
+use Rattle.sx_given_lists_laws.specs.RowCalls.{InTurn, Stops}
+
+-- It gave the list of the answers; or a call faulted, and that is its fault.
+abbrev pub MapDid : PlainSetting → Value → List (List Value) → State → End → State → Type 0
+MapDid w f rows s (Ok v) t = (answers : List Value) × InTurn w f rows s answers t × IsList t.cells answers v
+MapDid w f rows s (Err e) t = Stops w f rows s e t
+
+-- It gave nothing of the answers.
+abbrev pub VisitDid : PlainSetting → Value → List (List Value) → State → End → State → Type 0
+VisitDid w f rows s (Ok v) t = (answers : List Value) × InTurn w f rows s answers t × (v ≡ value.Unspecified)
+VisitDid w f rows s (Err e) t = Stops w f rows s e t
