@@ -1,4 +1,4 @@
--- Expressions keep that all in the state of an expansion may be met, given that what is done inside them does.
+-- Expressions keep that all in the state of an expansion can be read, given that what is done inside them does.
 use Rattle.std.proofs.Common.{◌≤◌, ◌+◌, ℕ, Bool, true, false, List, [], ◌∷◌, map, Option, None, Some, arith}
 use Rattle.sx_base.specs.Act.{after, give}
 use Rattle.sx_base.specs.declared.name.FrameNo.{FrameNo}
@@ -6,6 +6,7 @@ use Rattle.sx_base.specs.declared.name.Label.{Label}
 use Rattle.sx_base.specs.declared.span.Span.{Span}
 use Rattle.sx_tree.specs.Changes.{stamp}
 use Rattle.sx_tree.specs.Tree.{Tree}
+use Rattle.sx_tree.specs.declared.change.Change.TheVariants as change
 use Rattle.sx_core.specs.Core.{PlainCore, two_armed, assignment, procedure, letrec, call, matching, cores}
 use Rattle.sx_core.specs.CoreView.{inits, cases, clauses}
 use Rattle.sx_core.specs.declared.code.Clause.{Clause}
@@ -36,27 +37,25 @@ use Rattle.sx_expand.specs.Expression.{in_order, case_in, lambda_case, lambda, o
 use Rattle.sx_expand.specs.Inside.{Inside}
 use Rattle.sx_expand.specs.Keywords.{keyword, seen_in, keyword_in, all_keywords, keywords, with_keywords}
 use Rattle.sx_value.specs.Cells.{Each}
-use Rattle.sx_readable_laws.specs.Readable.{ReadableCores, ReadableInits, ReadableCases, ReadableClauses, PatternHolds, ReadableLine}
+use Rattle.sx_readable_laws.specs.Readable.{ReadableCores, ReadableInits, ReadableCases, ReadableClauses, ReadableLine}
+use Rattle.sx_readable_laws.specs.Stages.{ReadableRecords}
+use Rattle.sx_readable_laws.proofs.Stages.{changed-holds}
 use Rattle.sx_fresh_laws.specs.Leaves.{OptionHolds}
-use Rattle.sx_fresh_laws.proofs.Eachs.{each_mapped}
-use Rattle.sx_readable_expansion_laws.specs.States.{ReadableRecords}
-use Rattle.sx_fresh_laws.proofs.Wider.{pattern_wider}
-use Rattle.sx_readable_expansion_laws.proofs.Changing.{stamp-holds, stamps-hold}
 use Rattle.sx_readable_expansion_laws.proofs.Items.{WaitsAt, WaitingAt, TakenAt}
 use Rattle.sx_readable_expansion_laws.proofs.Shapes.{FormalsHold, LambdaHolds, PatternCaseHolds}
-use Rattle.sx_readable_expansion_laws.proofs.Standing.{F, T, Ts, C, Gave, gave-after, gave-if, gave-each, gave-gather, gave-within, gave-apart, counted-holds, SpecAt, BoundHolds, CompiledHolds, bind-formals-holds, bind-specs-holds, bind-keywords-holds, finish-keyword-holds, pattern-holds, literals-hold, bind-pattern-holds}
+use Rattle.sx_readable_expansion_laws.proofs.Standing.{F, T, Ts, C, Gave, gave-after, gave-if, gave-each, gave-gather, gave-within, gave-apart, counted-holds, SpecAt, BoundHolds, bind-formals-holds, bind-specs-holds, bind-keywords-holds, finish-keyword-holds, pattern-holds, literals-hold, bind-pattern-holds}
 
 abbrev pub CaseAt : Lambda → Type 0
 CaseAt c = C c.body
 
--- What is done inside forms keeps that all may be met, and gives no leaf that may not be met.
+-- What is done inside forms keeps that all can be read, and gives what can.
 pub record Keeps (go : Inside) : Type 0 where
   pub records : ReadableRecords go.earlier
   pub form : (place : Span) (level depth : ℕ) (t : Tree) (s : State) → F s → T t → Gave C (go.form place level depth t s)
   pub procedure : (place : Span) (level depth : ℕ) (t : Tree) (ids : FormalIds) (forms : List Tree) (s : State) → F s → FormalsHold ids → Ts forms → Gave CaseAt (go.procedure place level depth t ids forms s)
   pub item : (at : BodyAt) (depth : ℕ) (d : Taken) (t : Tree) (s : State) → F s → TakenAt d → T t → Gave TakenAt (go.item at depth d t s)
 
-abbrev Any : {A : Type 0} → ℕ → A → Type 0
+abbrev Any : {A : Type 0} → A → Type 0
 Any x = Unit {0}
 
 -- Core code of parts.
@@ -85,15 +84,15 @@ inits-hold [] h = tt
 inits-hold (i ∷ is) h = (h.0, inits-hold is h.1)
 
 abbrev ClauseAt : Clause → Type 0
-ClauseAt c = PatternHolds c.pattern × (OptionHolds C c.fender × C c.output)
+ClauseAt c = OptionHolds C c.fender × C c.output
 
 clauses-hold : (cs : List Clause) → Each ClauseAt cs → ReadableClauses (clauses cs)
 clauses-hold [] h = tt
-clauses-hold (c ∷ cs) h = by c.fender h.0.1.0 (clauses-hold cs h.1)
+clauses-hold (c ∷ cs) h = by c.fender h.0.0 (clauses-hold cs h.1)
   where
     by : (o : Option PlainCore) → OptionHolds C o → ReadableClauses (clauses cs) → ReadableClauses (clauses (record c { fender = o } ∷ cs))
-    by None k j = (h.0.0, (h.0.1.1, j))
-    by (Some f) k j = (h.0.0, (k, (h.0.1.1, j)))
+    by None k j = (h.0.1, j)
+    by (Some f) k j = (k, (h.0.1, j))
 
 abbrev pub LineAt : Line → Type 0
 LineAt x = ReadableLine x
@@ -119,19 +118,16 @@ body-core-holds xs h = with-inits-holds (inits_in xs) (sequence_of (values_in xs
 abbrev pub counted : State → State
 counted s = record s { names = record { library = s.names.library; number = s.names.number + 1 } }
 
--- trees, and a frame that is stamped on them
-abbrev InFrame : FrameNo → Tree → Type 0
-InFrame f t = T t × J n f
-
-abbrev BoundIn : FrameNo → BoundSpec → Type 0
-BoundIn f b = BoundHolds b × J n f
+pub stamps-hold : (f : FrameNo) (ts : List Tree) → Ts ts → Ts (map (stamp f) ts)
+stamps-hold f [] h = tt
+stamps-hold f (t ∷ ts) h = (changed-holds (change.Stamp f ∷ []) t h.0, stamps-hold f ts h.1)
 
 module _ (go : Inside) (keeps : Keeps go) where
   -- Bodies.
 
   pub splice-holds : (at : BodyAt) (depth : ℕ) (d : Taken) (forms : List Tree) (s : State) → F s → TakenAt d → Ts forms → Gave TakenAt (splice go at depth d forms s)
   splice-holds at depth d forms s h k g =
-      gave-gather (InFrame at.frame) TakenAt (go.item at depth) (λ e x t i j y. keeps.item at depth e x t i j y.0 y.1) d forms s h k (all-in-frame at.frame s.names.number forms g q)
+      gave-gather T TakenAt (go.item at depth) (λ e x t i j y. keeps.item at depth e x t i j y) d forms s h k g
 
   value-holds : (place : Span) (level depth : ℕ) (o : Option Tree) (s : State) → F s → OptionHolds T o → Gave C (value_of go place level depth o s)
   value-holds place level depth None s h k = (h, (tt, tt))
@@ -152,7 +148,7 @@ module _ (go : Inside) (keeps : Keeps go) where
 
   pub lines-hold : (level : ℕ) (ws : List Waiting) (s : State) → F s → Each WaitingAt ws → Gave (λ xs. Each LineAt xs) (finish_all go level ws s)
   lines-hold level ws s h k =
-      gave-each WaitingAt LineAt h tt k
+      gave-each WaitingAt LineAt (finish_one go level) (λ w t i j. line-holds level w.place w.depth w.what t i j) [] ws s h tt k
 
   finish-holds : (place : Span) (level : ℕ) (t : Tree) (d : Taken) (s : State) → F s → TakenAt d → Gave C (finish go place level t d s)
   unfolding finish
@@ -168,7 +164,7 @@ module _ (go : Inside) (keeps : Keeps go) where
       let i = counted-holds s h in
       gave-within C (λ v. after (fresh_frame v) (body_in go place level depth t forms)) s
       (gave-after TakenAt C (splice go (lambda_at f place level) depth begun (map (stamp f) forms) u) (finish go place level t)
-      (splice-holds (lambda_at f place level) depth begun (map (stamp f) forms) u i tt (stamps-hold (s.names.number + 1) f forms (frame-made s h) k))
+      (splice-holds (lambda_at f place level) depth begun (map (stamp f) forms) u i tt (stamps-hold f forms k))
       (λ d v j y. finish-holds place level t d v j y))
 
   -- Procedures.
@@ -177,7 +173,7 @@ module _ (go : Inside) (keeps : Keeps go) where
   case-in-holds place level depth t ids forms f s h k g =
       gave-after (Any) CaseAt (bind_formals f place level ids s) _ (bind-formals-holds f place level ids s h k)
       (λ formals u i y. gave-after C CaseAt (body go place level depth t (map (stamp f) forms) u) (λ c. give (record { formals = formals; body = c }))
-      (body-holds place level depth t (map (stamp f) forms) u i (stamps-hold u.names.number f forms (lives.frames s.names.number u.names.number f i.stage.up q) g))
+      (body-holds place level depth t (map (stamp f) forms) u i (stamps-hold f forms g))
       (λ c v j z. (j, z)))
 
   pub case-holds : (place : Span) (level depth : ℕ) (t : Tree) (ids : FormalIds) (forms : List Tree) (s : State) → F s → FormalsHold ids → Ts forms → Gave CaseAt (lambda_case go place level depth t ids forms s)
@@ -207,16 +203,15 @@ module _ (go : Inside) (keeps : Keeps go) where
       let u = counted s in
       let i = counted-holds s h in
       (gave-after (λ xs. Each CaseAt xs) C (all_cases go place level depth t cs u) (λ xs. give (procedure (record { 0 = s.names }) (cases xs) false))
-      (gave-each LambdaAt CaseAt i tt
-      (each_mapped LambdaAt LambdaAt (lambda-up s.names.number (s.names.number + 1) (one-more s)) cs k))
+      (gave-each LambdaAt CaseAt (one_case go place level depth t) (λ c v j y. case-holds place level depth t c.formals c.body v j y.0 y.1) [] cs u i tt k)
       (λ xs v j y. (j, cases-hold xs y)))
 
   -- `letrec` and `letrec*`.
 
-  init-holds : (place : Span) (level depth : ℕ) (f : FrameNo) (b : BoundSpec) (s : State) → F s → BoundIn f b → Gave InitAt (one_init go place level depth f b s)
+  init-holds : (place : Span) (level depth : ℕ) (f : FrameNo) (b : BoundSpec) (s : State) → F s → BoundHolds b → Gave InitAt (one_init go place level depth f b s)
   unfolding one_init
   init-holds place level depth f b s h k =
-      gave-after C InitAt (go.form place level depth (stamp f b.init) s) (λ c. give (record { label = b.label; value = c })) (keeps.form place level depth (stamp f b.init) s h (stamp-holds s.names.number f b.init k.1 k.0))
+      gave-after C InitAt (go.form place level depth (stamp f b.init) s) (λ c. give (record { label = b.label; value = c })) (keeps.form place level depth (stamp f b.init) s h (changed-holds (change.Stamp f ∷ []) b.init k))
       (λ c u i y. (i, y))
 
   letrec-in-holds : (place : Span) (level depth : ℕ) (t : Tree) (star : Bool) (bs : List BindingSpec) (forms : List Tree) (f : FrameNo) (s : State) → F s → Each SpecAt bs → Ts forms
@@ -225,12 +220,11 @@ module _ (go : Inside) (keeps : Keeps go) where
       gave-after (λ xs. Each BoundHolds xs) C (bind_specs f place level bs s) _ (bind-specs-holds f place level bs s h k)
       (λ ls u i y. let hu = i in
       gave-after (λ is. Each InitAt is) C (all_inits go place level depth f ls u) _
-      (gave-each (BoundIn f) InitAt (one_init go place level depth f) (λ b v j z. init-holds place level depth f b v j z) [] ls u hu tt
-      (all-bound-in f u.names.number ls y (lives.frames s.names.number u.names.number f i.stage.up q)))
+      (gave-each BoundHolds InitAt (one_init go place level depth f) (λ b v j z. init-holds place level depth f b v j z) [] ls u hu tt y)
       (λ is v j z. let hv = j in
       gave-after C C (body go place level depth t (map (stamp f) forms) v) (λ c. give (letrec star (inits is) c))
-      (body-holds place level depth t (map (stamp f) forms) v hv (stamps-hold v.names.number f forms (lives.frames s.names.number v.names.number f (omega (arith, i.stage.up, j.stage.up)) q) g))
-      (λ c w x q. (x, (inits-hold is (each_mapped InitAt InitAt (λ e z. z) is z), q)))))
+      (body-holds place level depth t (map (stamp f) forms) v hv (stamps-hold f forms g))
+      (λ c w x q. (x, (inits-hold is z, q)))))
 
   pub letrec-holds : (place : Span) (level depth : ℕ) (t : Tree) (star : Bool) (bs : List BindingSpec) (forms : List Tree) (s : State) → F s → Each SpecAt bs → Ts forms
       → Gave C (letrec_form go place level depth t star bs forms s)
@@ -240,13 +234,14 @@ module _ (go : Inside) (keeps : Keeps go) where
       let u = counted s in
       let i = counted-holds s h in
       gave-within C (λ v. after (fresh_frame v) (letrec_in go place level depth t star bs forms)) s
-      (letrec-in-holds place level depth t star bs forms f u i (each_mapped SpecAt SpecAt (spec-up s.names.number (s.names.number + 1) (one-more s)) bs k)
-      g)
+      (letrec-in-holds place level depth t star bs forms f u i k g)
 
   -- Calls, branches, assignments, sequences.
 
   order-holds : (place : Span) (level depth : ℕ) (forms : List Tree) (s : State) → F s → Ts forms → Gave Cs (in_order go place level depth forms s)
-  order-holds place level depth forms s h k = gave-each T C : (place : Span) (level depth : ℕ) (operator : Tree) (operands : List Tree) (s : State) → F s → T operator → Ts operands → Gave C (application go place level depth operator operands s)
+  order-holds place level depth forms s h k = gave-each T C (go.form place level depth) (λ t u i j. keeps.form place level depth t u i j) [] forms s h tt k
+
+  pub application-holds : (place : Span) (level depth : ℕ) (operator : Tree) (operands : List Tree) (s : State) → F s → T operator → Ts operands → Gave C (application go place level depth operator operands s)
   unfolding application
   application-holds place level depth operator operands s h k g =
       gave-after C C (go.form place level depth operator s) _ (keeps.form place level depth operator s h k)
@@ -282,22 +277,19 @@ module _ (go : Inside) (keeps : Keeps go) where
   fender-holds : (place : Span) (level depth : ℕ) (f : FrameNo) (o : Option Tree) (s : State) → F s → OptionHolds T o → Gave (λ x. OptionHolds C x) (fender go place level depth f o s)
   fender-holds place level depth f None s h k = (h, tt)
   fender-holds place level depth f (Some t) s h k =
-      gave-after C (λ x. OptionHolds C x) (go.form place level depth (stamp f t) s) (λ c. give (Some c)) (keeps.form place level depth (stamp f t) s h (stamp-holds s.names.number f t q k)) (λ c u i y. (i, y))
+      gave-after C (λ x. OptionHolds C x) (go.form place level depth (stamp f t) s) (λ c. give (Some c)) (keeps.form place level depth (stamp f t) s h (changed-holds (change.Stamp f ∷ []) t k)) (λ c u i y. (i, y))
 
   clause-in-holds : (place : Span) (level depth : ℕ) (literals : List Tree) (c : PatternCase) (f : FrameNo) (s : State) → F s → PatternCaseHolds c → Gave ClauseAt (clause_in go place level depth literals c f s)
   clause-in-holds place level depth literals c f s h k =
-      gave-after CompiledHolds ClauseAt (pattern_of literals place c.pattern s) _ (pattern-holds literals place c.pattern s h k.0)
+      gave-after Any ClauseAt (pattern_of literals place c.pattern s) _ (pattern-holds literals place c.pattern s h)
       (λ p t i y. let ht = i in
-      gave-after Any ClauseAt (bind_pattern f place level p.variables t) _ (bind-pattern-holds f place level p.variables t ht y.1)
+      gave-after Any ClauseAt (bind_pattern f place level p.variables t) _ (bind-pattern-holds f place level p.variables t ht)
       (λ x u j z. let hu = j in
       gave-after (λ o. OptionHolds C o) ClauseAt (fender go place level depth f c.fender u) _ (fender-holds place level depth f c.fender u hu k.1.0)
       (λ e v q a. let hv = q in
       gave-after C ClauseAt (go.form place level depth (stamp f c.output) v) (λ o. give (record { pattern = p.pattern; fender = e; output = o }))
-      (keeps.form place level depth (stamp f c.output) v hv (stamp-holds v.names.number f c.output (lives.frames s.names.number v.names.number f (omega (arith, i.stage.up, j.stage.up, q.stage.up)) r) k.1.1))
-      (λ o w b d. (
-        b,
-        (pattern_wider (up t.names.number w.names.number (omega (arith, j.stage.up, q.stage.up, b.stage.up))) p.pattern y.0, (core-option-up v.names.number w.names.number b.stage.up e a, d)),
-      )))))
+      (keeps.form place level depth (stamp f c.output) v hv (changed-holds (change.Stamp f ∷ []) c.output k.1.1))
+      (λ o w b d. (b, (a, d))))))
 
   abbrev PatternCaseAt : PatternCase → Type 0
   PatternCaseAt c = PatternCaseHolds c
@@ -320,8 +312,7 @@ module _ (go : Inside) (keeps : Keeps go) where
       gave-after Any C (check_literals place literals t) _ (literals-hold literals place t ht)
       (λ x u j z. let hu = j in
       gave-after (λ xs. Each ClauseAt xs) C (all_clauses go place level depth literals cs u) (λ xs. give (matching c (clauses xs) span))
-      (gave-each PatternCaseAt ClauseAt hu tt
-      (each_mapped PatternCaseAt PatternCaseAt (pattern-case-up s.names.number u.names.number (omega (arith, i.stage.up, j.stage.up))) cs g))
+      (gave-each PatternCaseAt ClauseAt (pattern_clause go place level depth literals) (λ k v q b. clause-holds place level depth literals k v q b) [] cs u hu tt g)
       (λ xs v q a. (q, (y, clauses-hold xs a)))))
 
   -- Keywords.
@@ -334,16 +325,15 @@ module _ (go : Inside) (keeps : Keeps go) where
       (gave-apart C (go.form place (level + 1) depth b.init) s (keeps.form place (level + 1) depth b.init z (record { stage = h.stage; bindings = h.bindings }) k))
       (λ c u i y. finish-keyword-holds go.earlier keeps.records (place_of b.init place) b.label c u i y)
 
-  seen-holds : (recursive : Bool) (f : FrameNo) (b : BoundSpec) → BoundIn f b → BoundHolds (seen_in recursive f b)
-  seen-holds true f b h = stamp-holds n f b.init h.1 h.0
-  seen-holds false f b h = h.0
+  seen-holds : (recursive : Bool) (f : FrameNo) (b : BoundSpec) → BoundHolds b → BoundHolds (seen_in recursive f b)
+  seen-holds true f b h = changed-holds (change.Stamp f ∷ []) b.init h
+  seen-holds false f b h = h
 
   keywords-hold : (place : Span) (level depth : ℕ) (recursive : Bool) (bs : List BindingSpec) (f : FrameNo) (s : State) → F s → Each SpecAt bs → Gave Any (keywords go place level depth recursive bs f s)
   unfolding keywords
   keywords-hold place level depth recursive bs f s h k =
       gave-after (λ xs. Each BoundHolds xs) Any (bind_keywords f place level bs s) (all_keywords go place level depth recursive f) (bind-keywords-holds f place level bs s h k)
-      (λ xs u i y. gave-gather (BoundIn f) (Any) (keyword_in go place level depth recursive f) (λ d b t j w z. keyword-holds place level depth (seen_in recursive f b) t j (seen-holds recursive f b z)) tt xs u i tt
-      (all-bound-in f u.names.number xs y (lives.frames s.names.number u.names.number f i.stage.up q)))
+      (λ xs u i y. gave-gather BoundHolds Any (keyword_in go place level depth recursive f) (λ d b t j w z. keyword-holds place level depth (seen_in recursive f b) t j (seen-holds recursive f b z)) tt xs u i tt y)
 
   pub with-keywords-holds : (place : Span) (level depth : ℕ) (recursive : Bool) (bs : List BindingSpec) (forms : List Tree) (s : State) → F s → Each SpecAt bs → Ts forms
       → Gave Ts (with_keywords go place level depth recursive bs forms s)
@@ -353,8 +343,8 @@ module _ (go : Inside) (keeps : Keeps go) where
       let u = counted s in
       let i = counted-holds s h in
       (gave-after Any Ts (keywords go place level depth recursive bs f u) (λ _. give (map (stamp f) forms))
-      (keywords-hold place level depth recursive bs f u i (each_mapped SpecAt SpecAt (spec-up s.names.number (s.names.number + 1) (one-more s)) bs k))
-      (λ x v j y. (j, stamps-hold v.names.number f forms (lives.frames (s.names.number + 1) v.names.number f j.stage.up (frame-made s h)) g)))
+      (keywords-hold place level depth recursive bs f u i k)
+      (λ x v j y. (j, stamps-hold f forms g)))
 
   pub keywords-form-holds : (place : Span) (level depth : ℕ) (recursive : Bool) (bs : List BindingSpec) (forms : List Tree) (s : State) → F s → Each SpecAt bs → Ts forms
       → Gave C (keywords_form go place level depth recursive bs forms s)

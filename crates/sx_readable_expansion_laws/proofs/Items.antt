@@ -31,14 +31,14 @@ use Rattle.sx_heads.specs.declared.taken.Waiting.{Waiting}
 use Rattle.sx_heads.specs.declared.taken.Waits.{Waits}
 use Rattle.sx_heads.specs.declared.taken.Waits.TheVariants as waits
 use Rattle.sx_value.specs.Cells.{Each}
-use Rattle.sx_fresh_laws.proofs.Eachs.{each_and, each_mapped}
-use Rattle.sx_readable_laws.proofs.Trees.{OkHolds}
-use Rattle.sx_readable_expansion_laws.specs.Forms.{WaitsHold}
+use Rattle.sx_fresh_laws.proofs.Eachs.{each_and}
+use Rattle.sx_fresh_laws.proofs.Trees.{OkHolds}
+use Rattle.sx_readable_expansion_laws.specs.Forms.{ReadableWaits}
 use Rattle.sx_readable_expansion_laws.proofs.Shapes.{FormalsHold, ShapeHolds, shape-holds}
 use Rattle.sx_readable_expansion_laws.proofs.Standing.{F, T, Ts, Gave, gave-after, gave-if, SpecAt, BoundHolds, variable-holds, bind-keyword-holds}
 
 abbrev pub WaitsAt : Waits → Type 0
-WaitsAt w = WaitsHold w
+WaitsAt w = ReadableWaits w
 
 abbrev pub WaitingAt : Waiting → Type 0
 WaitingAt w = WaitsAt w.what
@@ -110,7 +110,7 @@ module _ (at : BodyAt) (depth : ℕ) where
   unfolding keyword_in_time
   keyword-in-time d id b s h k = by (d.moved || any_changed true s (heads_like d id))
     where
-      by : (c : Bool) → Gave {A = BoundSpec} s (after {A = Unit {0}} (if c then fault_word kind.LateDefinition id id at.place s else Ok (tt, s)) (λ _. give b))
+      by : (c : Bool) → Gave {A = BoundSpec} BoundHolds (after {A = Unit {0}} (if c then fault_word kind.LateDefinition id id at.place s else Ok (tt, s)) (λ _. give b))
       by true = tt
       by false = (h, k)
 

@@ -32,10 +32,11 @@ use Rattle.sx_heads.specs.declared.plan.Plan.{Plan}
 use Rattle.sx_heads.specs.declared.plan.Plan.TheVariants as plans
 use Rattle.sx_value.specs.Cells.{Each}
 use Rattle.sx_readable_laws.specs.Readable.{ReadableTemplate}
+use Rattle.sx_readable_laws.proofs.Trees.{strip_holds}
 use Rattle.sx_fresh_laws.specs.Leaves.{OptionHolds}
-use Rattle.sx_readable_laws.proofs.Trees.{OkHolds}
+use Rattle.sx_fresh_laws.proofs.Trees.{OkHolds}
 use Rattle.sx_readable_expansion_laws.proofs.Shapes.{FormalsHold, LambdaHolds, PatternCaseHolds, ShapeHolds, proper-holds, shape-holds}
-use Rattle.sx_readable_expansion_laws.proofs.Standing.{F, From, T, Ts, C, Gave, gave-after, gave-if, SpecAt, template-holds}
+use Rattle.sx_readable_expansion_laws.proofs.Standing.{F, T, Ts, C, Gave, gave-after, gave-if, SpecAt, template-holds}
 
 abbrev pub PlanAt : Plan → Type 0
 PlanAt (plans.Done c) = C c
@@ -59,7 +60,7 @@ module _ (place : Span) (level : ℕ) (s : State) (h : F s) where
   planned-if : (b : Bool) (r q : Result (Plan × State) Fault) → Planned r → Planned q → Planned (if b then r else q)
   planned-if b r q x y = gave-if PlanAt b r q x y
 
-  as-it-is : From s s
+  as-it-is : F s
   as-it-is = h
 
   variable-at-holds : (id : Tree) (v : Variable) → Planned (variable_at place level id v s)
@@ -80,9 +81,9 @@ module _ (place : Span) (level : ℕ) (s : State) (h : F s) where
   unfolding reference
   reference-holds id = refer-holds id (standing_of s id)
 
-  constant-holds : (t : Tree) (b : Bool) → Planned (constant place t b s)
-  constant-holds t true = tt
-  constant-holds t false = (as-it-is, tt)
+  constant-holds : (t : Tree) (b : Bool) → T t → Planned (constant place t b s)
+  constant-holds t true k = tt
+  constant-holds t false k = (as-it-is, strip_holds t k)
 
   -- an assignment is noted
   abbrev Targets : Result (Label × State) Fault → Type 0
@@ -112,10 +113,7 @@ module _ (place : Span) (level : ℕ) (s : State) (h : F s) where
   assigned-holds : (t id value : Tree) (st : Standing) → T value → Planned (after (target_by place level t id st s) (assign_to value))
   assigned-holds t id value st k =
       gave-after (λ l. Unit {0}) PlanAt (target_by place level t id st s) (assign_to value) (target-holds t id st)
-      (λ l u i y. (i, tree-later u i value k))
-    where
-      tree-later : (u : State) → F u → (v : Tree) → T v → T v
-      tree-later u i v g = g
+      (λ l u i y. (i, k))
 
   assign-by-holds : (t id value : Tree) (st : Standing) → T value → Planned (assign_by place level t id value st s)
   assign-by-holds t id value (standing.Keyword l) k = (as-it-is, tt)
@@ -154,7 +152,7 @@ module _ (place : Span) (level : ℕ) (s : State) (h : F s) where
 
   shape-plan-holds : (t : Tree) (f : CoreForm) (x : Shape) → ShapeHolds x → Planned (shape_plan place level t f x s)
   unfolding shape_plan
-  shape-plan-holds t f (shapes.Quote datum) k = (as-it-is, tt)
+  shape-plan-holds t f (shapes.Quote datum) k = (as-it-is, strip_holds datum k)
   shape-plan-holds t f (shapes.Lambda ids body) k = (as-it-is, k)
   shape-plan-holds t f (shapes.CaseLambda cs) k = (as-it-is, k)
   shape-plan-holds t f (shapes.If test consequent other) k = (as-it-is, k)
@@ -202,7 +200,7 @@ module _ (place : Span) (level : ℕ) (s : State) (h : F s) where
   list-plan-holds t head rest k i j = planned-if (is_leaf head) _ _ (by-head-holds t head rest (standing_of s head) k i j) (application-holds t head rest i j)
 
   pub plan-holds : (t : Tree) → T t → Planned (plan_of place level t s)
-  plan-holds (atom r a) k = constant-holds (atom r a) (is_nil_atom a)
+  plan-holds (atom r a) k = constant-holds (atom r a) (is_nil_atom a) k
   plan-holds (leaf r x c) k = reference-holds (leaf r x c)
   plan-holds (pair r a d) k = list-plan-holds (pair r a d) a d k k.0 k.1
   plan-holds (vector r d) k = tt

@@ -1,4 +1,4 @@
--- What a `quasiquote` form comes to has the leaves of the form.
+-- What a `quasiquote` form comes to can be read, where the form can.
 use Rattle.std.proofs.Common.{ℕ, zero, suc, ◌-◌, Bool, true, false, List, [], ◌∷◌, ◌++◌, length, take, drop, Option, None, Some, Result, Ok, Err, if◌then◌else◌}
 use Rattle.std.specs.Prelude.{◌&&◌}
 use Rattle.sx_base.specs.declared.fault.Bare.{Bare}
@@ -23,7 +23,7 @@ use Rattle.sx_value.specs.Cells.{Each}
 use Rattle.sx_readable_laws.specs.Readable.{ReadableTree}
 use Rattle.sx_fresh_laws.specs.Leaves.{OptionHolds}
 use Rattle.sx_fresh_laws.proofs.Eachs.{each_and, each_both, each_taken, each_dropped}
-use Rattle.sx_readable_laws.proofs.Trees.{OkHolds}
+use Rattle.sx_fresh_laws.proofs.Trees.{OkHolds}
 use Rattle.sx_readable_expansion_laws.proofs.Shapes.{then-holds, ok-if, some-holds, proper-holds}
 
 -- What elements of a list or vector give, and its only operand.
@@ -67,7 +67,7 @@ operand-holds false ts h = tt
 
 abbrev mutual
   pub QuasiHolds : PlainQuasi → Type 0
-  QuasiHolds (constant t) = Unit {0}
+  QuasiHolds (constant t) = ReadableTree t
   QuasiHolds (expression t) = ReadableTree t
   QuasiHolds (call m qs) = QuasisHold qs
 
@@ -117,12 +117,12 @@ made-holds [] run tail g h k = without-holds run tail h k
 made-holds (q ∷ qs) run tail g h k =
     quasis-hold ((q ∷ qs) ++ (closed run ++ tail ∷ [])) (each_both QuasiHolds (q ∷ qs) (closed run ++ tail ∷ []) g (each_and QuasiHolds (closed run) tail (closed-hold run h) k))
 
-list-joined-holds : (t : Tree) (p : Pieces) (tail : PlainQuasi) → PiecesHold p → QuasiHolds tail → QuasiHolds (list_joined t p tail)
-list-joined-holds t p tail h k = quasi-if (p.fixed && is_constant tail) (constant t) (made_of p.parts p.run tail) tt (made-holds p.parts p.run tail h.0 h.1 k)
+list-joined-holds : (t : Tree) (p : Pieces) (tail : PlainQuasi) → ReadableTree t → PiecesHold p → QuasiHolds tail → QuasiHolds (list_joined t p tail)
+list-joined-holds t p tail g h k = quasi-if (p.fixed && is_constant tail) (constant t) (made_of p.parts p.run tail) g (made-holds p.parts p.run tail h.0 h.1 k)
 
-vector-joined-holds : (t : Tree) (p : Pieces) → PiecesHold p → QuasiHolds (vector_joined t p)
-vector-joined-holds t p h =
-    quasi-if p.fixed (constant t) (call maker.ListToVector (quasis (made_of p.parts p.run (constant nil) ∷ []))) tt (quasis-hold (made_of p.parts p.run (constant nil) ∷ []) (made-holds p.parts p.run (constant nil) h.0 h.1 tt, tt))
+vector-joined-holds : (t : Tree) (p : Pieces) → ReadableTree t → PiecesHold p → QuasiHolds (vector_joined t p)
+vector-joined-holds t p g h =
+    quasi-if p.fixed (constant t) (call maker.ListToVector (quasis (made_of p.parts p.run (constant nil) ∷ []))) g (quasis-hold (made_of p.parts p.run (constant nil) ∷ []) (made-holds p.parts p.run (constant nil) h.0 h.1 tt, tt))
 
 -- Forms.
 
@@ -165,31 +165,38 @@ begins-hold w xs ends n all =
 abbrev IsTail : Tail → Type 0
 IsTail x = (n : ℕ) → OkHolds QuasiHolds (x.made n)
 
-finished-holds : (t : Tree) (x : Tail) (n : ℕ) (b : Begun) → IsTail x → BegunHolds b → OkHolds QuasiHolds (finished t x n b)
-finished-holds t x n (begun.Whole e) tail h = h
-finished-holds t x n (begun.Parts p) tail h = then-holds QuasiHolds QuasiHolds (x.made n) (λ q. Ok (list_joined t p q)) (tail n) (λ q k. list-joined-holds t p q h k)
+finished-holds : (t : Tree) (x : Tail) (n : ℕ) (b : Begun) → ReadableTree t → IsTail x → BegunHolds b → OkHolds QuasiHolds (finished t x n b)
+finished-holds t x n (begun.Whole e) g tail h = h
+finished-holds t x n (begun.Parts p) g tail h = then-holds QuasiHolds QuasiHolds (x.made n) (λ q. Ok (list_joined t p q)) (tail n) (λ q k. list-joined-holds t p q g h k)
 
-flat-holds : (w : Words) (t : Tree) (xs : List Element) (x : Tail) (n : ℕ) → Each IsElement xs → IsTail x → OkHolds QuasiHolds (flat w t xs x n)
-flat-holds w t xs x n all tail = then-holds BegunHolds QuasiHolds (begins w xs x.ends n) (finished t x n) (begins-hold w xs x.ends n all) (λ b h. finished-holds t x n b tail h)
+rest-holds : (n : ℕ) (t : Tree) → ReadableTree t → ReadableTree (rest_at n t)
+rest-holds zero t h = h
+rest-holds (suc n) (atom s a) h = h
+rest-holds (suc n) (leaf s x c) h = h
+rest-holds (suc n) (pair s a d) h = rest-holds n d h.1
+rest-holds (suc n) (vector s d) h = h
 
-list-made-holds : (w : Words) (t : Tree) (xs : List Element) (x : Tail) (n : ℕ) → Each IsElement xs → IsTail x → OkHolds QuasiHolds (list_made w t xs x n)
-list-made-holds w t xs x n all tail =
+flat-holds : (w : Words) (t : Tree) (xs : List Element) (x : Tail) (n : ℕ) → ReadableTree t → Each IsElement xs → IsTail x → OkHolds QuasiHolds (flat w t xs x n)
+flat-holds w t xs x n g all tail = then-holds BegunHolds QuasiHolds (begins w xs x.ends n) (finished t x n) (begins-hold w xs x.ends n all) (λ b h. finished-holds t x n b g tail h)
+
+list-made-holds : (w : Words) (t : Tree) (xs : List Element) (x : Tail) (n : ℕ) → ReadableTree t → Each IsElement xs → IsTail x → OkHolds QuasiHolds (list_made w t xs x n)
+list-made-holds w t xs x n g all tail =
     ok-if QuasiHolds (splits w x.ends (forms xs)) (flat w t (take (length xs - 2) xs) (split_tail w t xs x) n) (flat w t xs x n)
-    (flat-holds w t (take (length xs - 2) xs) (split_tail w t xs x) n (each_taken IsElement (length xs - 2) xs all) (λ m. flat-holds w (rest_at (length xs - 2) t) (drop (length xs - 2) xs) x m (each_dropped IsElement (length xs - 2) xs all) tail))
-    (flat-holds w t xs x n all tail)
+    (flat-holds w t (take (length xs - 2) xs) (split_tail w t xs x) n g (each_taken IsElement (length xs - 2) xs all) (λ m. flat-holds w (rest_at (length xs - 2) t) (drop (length xs - 2) xs) x m (rest-holds (length xs - 2) t g) (each_dropped IsElement (length xs - 2) xs all) tail))
+    (flat-holds w t xs x n g all tail)
 
-vector-made-holds : (w : Words) (t : Tree) (xs : List Element) (n : ℕ) → Each IsElement xs → OkHolds QuasiHolds (vector_made w t xs n)
-vector-made-holds w t xs n all = then-holds PiecesHold QuasiHolds (walked w n no_pieces xs) (λ p. Ok (vector_joined t p)) (walked-holds w n no_pieces xs (tt, tt) all) (λ p h. vector-joined-holds t p h)
+vector-made-holds : (w : Words) (t : Tree) (xs : List Element) (n : ℕ) → ReadableTree t → Each IsElement xs → OkHolds QuasiHolds (vector_made w t xs n)
+vector-made-holds w t xs n g all = then-holds PiecesHold QuasiHolds (walked w n no_pieces xs) (λ p. Ok (vector_joined t p)) (walked-holds w n no_pieces xs (tt, tt) all) (λ p h. vector-joined-holds t p g h)
 
 module _ (w : Words) where
   mutual
     quasi-at-holds : (t : Tree) → ReadableTree t → (n : ℕ) → OkHolds QuasiHolds (quasi_at w t n)
-    quasi-at-holds (atom s a) g n = tt
-    quasi-at-holds (leaf s x c) g n = tt
+    quasi-at-holds (atom s a) g n = g
+    quasi-at-holds (leaf s x c) g n = g
     quasi-at-holds (pair s a d) g n =
-        list-made-holds w (pair s a d) ((a, quasi_at w a) ∷ elements_made w d) (record { ends = is_nil (tail_of d); made = tail_made w d }) n
+        list-made-holds w (pair s a d) ((a, quasi_at w a) ∷ elements_made w d) (record { ends = is_nil (tail_of d); made = tail_made w d }) n g
         (record { form = g.0; made = λ m. quasi-at-holds a g.0 m }, elements-hold d g.1) (λ m. tail-holds d g.1 m)
-    quasi-at-holds (vector s d) g n = vector-made-holds w (vector s d) (elements_made w d) n (elements-hold d g)
+    quasi-at-holds (vector s d) g n = vector-made-holds w (vector s d) (elements_made w d) n g (elements-hold d g.0)
 
     elements-hold : (t : Tree) → ReadableTree t → Each IsElement (elements_made w t)
     elements-hold (atom s a) g = tt
@@ -198,10 +205,10 @@ module _ (w : Words) where
     elements-hold (vector s d) g = tt
 
     tail-holds : (t : Tree) → ReadableTree t → (n : ℕ) → OkHolds QuasiHolds (tail_made w t n)
-    tail-holds (atom s a) g n = tt
-    tail-holds (leaf s x c) g n = tt
+    tail-holds (atom s a) g n = g
+    tail-holds (leaf s x c) g n = g
     tail-holds (pair s a d) g n = tail-holds d g.1 n
-    tail-holds (vector s d) g n = vector-made-holds w (vector s d) (elements_made w d) n (elements-hold d g)
+    tail-holds (vector s d) g n = vector-made-holds w (vector s d) (elements_made w d) n g (elements-hold d g.0)
 
   pub quasi-holds : (t form : Tree) (place : Span) → ReadableTree t → OkHolds QuasiHolds (quasi w t form place)
   quasi-holds t form place g = by (quasi_at w t 0) (quasi-at-holds t g 0)

@@ -1,4 +1,4 @@
--- Forms are settled, and all forms keep that all in the state of an expansion may be met.
+-- Forms are settled, and all forms keep that all in the state of an expansion can be read.
 use Rattle.std.proofs.Common.{ℕ, zero, suc, Bool, true, false, List, Option, None, Some, arith}
 use Rattle.std.specs.Prelude.{nat_lt}
 use Rattle.sx_base.specs.Act.{after, give}
@@ -37,21 +37,21 @@ use Rattle.sx_expand.specs.declared.settle.Step.{Step}
 use Rattle.sx_expand.specs.declared.settle.Step.TheVariants as steps
 use Rattle.sx_fresh_laws.specs.Leaves.{OptionHolds}
 use Rattle.sx_fresh_laws.proofs.Eachs.{each_and}
-use Rattle.sx_readable_expansion_laws.specs.States.{ReadableRecords}
+use Rattle.sx_readable_laws.specs.Stages.{ReadableRecords}
 use Rattle.sx_readable_expansion_laws.proofs.Forms.{Keeps, splice-holds, case-holds, lambda-holds, case-lambda-holds, letrec-holds, application-holds, conditional-holds, set-holds, in-sequence-holds, syntax-case-holds, keyword-holds, with-keywords-holds, keywords-form-holds}
 use Rattle.sx_readable_expansion_laws.proofs.Inserts.{quasi-form-holds}
 use Rattle.sx_readable_expansion_laws.proofs.Items.{WaitingAt, TakenAt, ItemAt, BothAt, define-keyword-holds, item-plan-holds}
 use Rattle.sx_readable_expansion_laws.proofs.Plans.{PlanAt, plan-holds}
-use Rattle.sx_readable_expansion_laws.proofs.Standing.{F, From, T, Ts, C, Gave, gave-after, gave-if, SpecAt, BoundHolds, asks-variable-holds, use-keyword-holds, use-record-holds}
+use Rattle.sx_readable_expansion_laws.proofs.Standing.{F, T, Ts, C, Gave, gave-after, gave-if, SpecAt, BoundHolds, asks-variable-holds, use-keyword-holds, use-record-holds}
 
-abbrev Any : {A : Type 0} → ℕ → A → Type 0
+abbrev Any : {A : Type 0} → A → Type 0
 Any x = Unit {0}
 
 module _ (rs : List LibRecord) (records : ReadableRecords rs) where
   -- Uses.
 
   used-form-holds : (place : Span) (t : Tree) (k : KeywordUse) (frame : Option FrameNo) (s : State) → F s → T t → Gave T (used_form rs place t k frame s)
-  used-form-holds place t (keyword_use.Macro l) frame s h g = use-keyword-holds rs records place t l frame s g q
+  used-form-holds place t (keyword_use.Macro l) frame s h g = use-keyword-holds rs records place t l frame s h g
   used-form-holds place t (keyword_use.Record f) frame s h g = use-record-holds place t f frame s h g
 
   pub next-form-holds : (left : ℕ) (place : Span) (t : Tree) (k : KeywordUse) (frame : Option FrameNo) (s : State) → F s → T t → Gave T (next_form rs left place t k frame s)
@@ -139,27 +139,27 @@ module _ (rs : List LibRecord) (records : ReadableRecords rs) where
       (λ p u i y. item-step-of-holds at depth t p.0 p.1 u i y.0 g y.1)
 
   abbrev pub SettledItemAt : Taken × SettledItem → Type 0
-  SettledItemAt p = TakenAt p.0 × (T p.1.form × (ItemAt p.1.item × J n p.1.at.frame))
+  SettledItemAt p = TakenAt p.0 × (T p.1.form × ItemAt p.1.item)
 
   settle-item-to-holds : (left : ℕ) (at : BodyAt) (depth : ℕ) (d : Taken) (t : Tree) (s : State) → F s → TakenAt d → T t → Gave SettledItemAt (settle_item_to rs left at depth d t s)
   unfolding settle_item_to
   settle-item-to-holds zero at depth d t s h k g = gave-after ItemStepAt SettledItemAt (item_step rs at depth d t s) (item_by (λ done k. too_many t at.place) at t) (item-step-holds at depth d t s h k g) by
     where
       by : (p : Taken × ItemStep) (u : State) → F u → ItemStepAt p → Gave SettledItemAt (item_by (λ done k. too_many t at.place) at t p u)
-      by (e, item_steps.Item i) u j y = (j, (y.0, (g, (y.1, lives.frames s.names.number u.names.number at.frame j.stage.up q))))
+      by (e, item_steps.Item i) u j y = (j, (y.0, (g, y.1)))
       by (e, item_steps.Use l) u j y = tt
   settle-item-to-holds (suc left) at depth d t s h k g =
       gave-after ItemStepAt SettledItemAt (item_step rs at depth d t s) (item_by (λ taken l s'. after (next_form rs left at.place t l (Some at.frame) s') (settle_item_to rs left (at_use at t) depth taken)) at t) (item-step-holds at depth d t s h k g)
-      (λ p u i y. by p u i y (λ e v w j x z r. settle-item-to-holds left (at_use at t) depth e v w j x z))
+      (λ p u i y. by p u i y (λ e v w j x z. settle-item-to-holds left (at_use at t) depth e v w j x z))
     where
       by : (p : Taken × ItemStep) (u : State) → F u → ItemStepAt p
-          → ((e : Taken) (v : Tree) (w : State) → F w → TakenAt e → T v → J w.names.number at.frame → Gave SettledItemAt (settle_item_to rs left (at_use at t) depth e v w))
+          → ((e : Taken) (v : Tree) (w : State) → F w → TakenAt e → T v → Gave SettledItemAt (settle_item_to rs left (at_use at t) depth e v w))
           → Gave SettledItemAt (item_by (λ taken l s'. after (next_form rs left at.place t l (Some at.frame) s') (settle_item_to rs left (at_use at t) depth taken)) at t p u)
-      by (e, item_steps.Item i) u j y again = (j, (y.0, (g, (y.1, lives.frames s.names.number u.names.number at.frame j.stage.up q))))
+      by (e, item_steps.Item i) u j y again = (j, (y.0, (g, y.1)))
       by (e, item_steps.Use l) u j y again =
           let hu = j in
           gave-after T SettledItemAt (next_form rs left at.place t l (Some at.frame) u) (settle_item_to rs left (at_use at t) depth e) (next-form-holds left at.place t l (Some at.frame) u hu g)
-          (λ v w x z. again e v w x y z (lives.frames s.names.number w.names.number at.frame (omega (arith, j.stage.up, x.stage.up)) q))
+          (λ v w x z. again e v w x y z)
 
 -- What is done with a form.
 
@@ -197,11 +197,11 @@ module _ (go : Inside) (keeps : Keeps go) where
   perform-item-holds : (at : BodyAt) (depth : ℕ) (d : Taken) (t : Tree) (i : Item) (s : State) → F s → TakenAt d → T t → ItemAt i → Gave TakenAt (perform_item go at depth d t i s)
   unfolding perform_item
   perform-item-holds at depth d t items.Nothing s h k g y = (h, k)
-  perform-item-holds at depth d t (items.Forms forms) s h k g y = splice-holds go keeps at (deeper depth) d forms s h y q
+  perform-item-holds at depth d t (items.Forms forms) s h k g y = splice-holds go keeps at (deeper depth) d forms s h k y
   perform-item-holds at depth d t (items.Keyword b) s h k g y = keyword-item-holds at (deeper depth) d t b s h k y
   perform-item-holds at depth d t (items.Keywords recursive bs forms) s h k g y =
       gave-after Ts TakenAt (with_keywords go at.place at.level (deeper depth) recursive bs forms s) (splice go at (deeper depth) d) (with-keywords-holds go keeps at.place at.level (deeper depth) recursive bs forms s h y.0 y.1)
-      (λ xs u i z. splice-holds go keeps at (deeper depth) d xs u i z (lives.frames s.names.number u.names.number at.frame i.stage.up q))
+      (λ xs u i z. splice-holds go keeps at (deeper depth) d xs u i k z)
   perform-item-holds at depth d t (items.Use l) s h k g y = tt
   perform-item-holds at depth d t (items.SetUse l) s h k g y = tt
 
@@ -209,8 +209,8 @@ module _ (go : Inside) (keeps : Keeps go) where
   unfolding item
   item-holds at depth d t s h k g =
       gave-if TakenAt (nat_lt 600 depth) _ (after (settle_item go.earlier at depth d t s) (expand_body.perform_settled go depth)) tt
-      (gave-after (SettledItemAt go.earlier keeps.records) TakenAt (settle_item go.earlier at depth d t s) (expand_body.perform_settled go depth) (settle-item-to-holds go.earlier keeps.records s.uses_left at depth d t s h g q)
-      (λ p u i y. perform-item-holds p.1.at depth p.0 p.1.form p.1.item u i y.0 y.1.0 y.1.1.0))
+      (gave-after (SettledItemAt go.earlier keeps.records) TakenAt (settle_item go.earlier at depth d t s) (expand_body.perform_settled go depth) (settle-item-to-holds go.earlier keeps.records s.uses_left at depth d t s h k g)
+      (λ p u i y. perform-item-holds p.1.at depth p.0 p.1.form p.1.item u i y.0 y.1.0 y.1.1))
 
 -- So it is inside forms, however deep they nest.
 pub inside-keeps : (rs : List LibRecord) (room : ℕ) → ReadableRecords rs → Keeps (inside rs room)
@@ -219,7 +219,7 @@ inside-keeps rs zero r = record {
   records = r;
   form = λ place level depth t s h g. tt;
   procedure = λ place level depth t ids forms s h k g. tt;
-  item = λ at depth d t s h k g q. tt;
+  item = λ at depth d t s h k g. tt;
 }
 inside-keeps rs (suc room) r =
     let keeps = inside-keeps rs room r in
@@ -227,5 +227,5 @@ inside-keeps rs (suc room) r =
       records = r;
       form = λ place level depth t s h g. form-at-holds (inside rs room) keeps place level depth t s h g;
       procedure = λ place level depth t ids forms s h k g. case-holds (inside rs room) keeps place level depth t ids forms s h k g;
-      item = λ at depth d t s h k g q. item-holds (inside rs room) keeps at depth d t s h g q;
+      item = λ at depth d t s h k g. item-holds (inside rs room) keeps at depth d t s h k g;
     }

@@ -43,10 +43,10 @@ use Rattle.sx_standing.specs.Uses.{macro_expression, use_keyword, asks_variable,
 use Rattle.sx_standing.specs.declared.binders.BoundSpec.{BoundSpec}
 use Rattle.sx_template.specs.Compile as templates
 use Rattle.sx_value.specs.Cells.{Each}
-use Rattle.sx_readable_laws.specs.Readable.{ReadableTree, ReadableCore, ReadableTemplate, PatternHolds}
+use Rattle.sx_readable_laws.specs.Readable.{ReadableTree, ReadableCore, ReadableTemplate}
 use Rattle.sx_fresh_laws.specs.Leaves.{OptionHolds}
 use Rattle.sx_fresh_laws.proofs.Eachs.{each_and, each_mapped}
-use Rattle.sx_readable_laws.proofs.Trees.{OkHolds}
+use Rattle.sx_fresh_laws.proofs.Trees.{OkHolds}
 use Rattle.sx_readable_laws.proofs.Variables.{looked_up}
 use Rattle.sx_readable_expansion_laws.specs.States.{ReadableBinding, ReadableIn}
 use Rattle.sx_readable_expansion_laws.proofs.Records.{record-holds, uid-name}
