@@ -24,6 +24,8 @@ pub mod NameText
 pub mod Plain
 pub mod Table
 pub mod Written
+pub mod SpelledLines
+pub mod Spelled
 pub mod WiderLemmas
 pub mod ExportLemmas
 pub mod DerivedLemmas

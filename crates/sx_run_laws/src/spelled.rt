@@ -16,12 +16,11 @@
 //! give one text have the same lines, but for what a text doesn't tell.
 //!
 //! Expansion gives each variable of a line an index, and with it a name; it gives lines that are well made, and names no keyword as a
-//! primitive (sx_expand_laws). What a line mentions, it binds itself or the text defines (sx_run_laws).
+//! primitive (sx_expand_laws). What a line mentions, it binds itself or the text defines (as is told beside this).
 //!
 //! Here are no calls to make: each function stands for the law that it ensures.
-#![tactic(auto)]
 
-ghost use Rattle.sx_spelled_laws.specs.Run.{RunsAreSpelled, RunsAreReadBack, RunsTellTheirLines};
+ghost use Rattle.sx_run_laws.specs.Spelled.{RunsAreSpelled, RunsAreReadBack, RunsTellTheirLines};
 
 use sx_core_grammar::{core_text_is_read_back, core_text_tells_its_lines};
 

@@ -33,8 +33,8 @@ use Rattle.sx_run_laws.specs.Run.{AllStand}
 use Rattle.sx_run_laws.proofs.ClosedLemmas.{each_place, all_standing, runs_are_closed_once}
 use Rattle.sx_run_laws.proofs.RunLemmas.{same_place, all_records_stand}
 use Rattle.sx_run_laws.proofs.UserLemmas.{user_at}
-use Rattle.sx_spelled_laws.specs.Run.{run_names, run_lines, GivesText, IsSpelled, CanAllBeRead, RunsAreSpelled, RunsAreReadBack, RunsTellTheirLines}
-use Rattle.sx_spelled_laws.proofs.Lines.{text-lines}
+use Rattle.sx_run_laws.specs.Spelled.{run_names, run_lines, GivesText, IsSpelled, CanAllBeRead, RunsAreSpelled, RunsAreReadBack, RunsTellTheirLines}
+use Rattle.sx_run_laws.proofs.SpelledLines.{text-lines}
 use Rattle.sx_text_laws.specs.Standing.{AreStanding}
 use Rattle.sx_text_laws.specs.Text.{text_of, IsClosedOnce}
 use Rattle.sx_text_laws.proofs.Closed.{text-known}

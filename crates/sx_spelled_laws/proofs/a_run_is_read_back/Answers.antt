@@ -1,5 +1,0 @@
-use Rattle.sx_spelled_laws.proofs.Spelled.{runs-back}
-use Rattle.sx_spelled_laws.proofs.a_run_is_read_back.Goals as goal
-
-pub returns : goal.returns
-returns c = runs-back c.core_text_is_read_back.ensures.whole

@@ -1,5 +1,0 @@
-use Rattle.sx_spelled_laws.proofs.Spelled.{runs-spelled}
-use Rattle.sx_spelled_laws.proofs.core_text_of_a_run_is_spelled.Goals as goal
-
-pub returns : goal.returns
-returns c = runs-spelled
