@@ -126,7 +126,7 @@ of-record r (Ok p) h e =
     let is : p.0 ≡ r = cc in
     subst ReadableRecord is h.1
 
-started-holds : (own : LibName) (records : List LibRecord) (imports : List (List ℕ × Label)) (codes : Codes) → Each ReadableRecord records → ReadableCodes codes → ReadableIn (started own records imports codes)
+pub started-holds : (own : LibName) (records : List LibRecord) (imports : List (List ℕ × Label)) (codes : Codes) → Each ReadableRecord records → ReadableCodes codes → ReadableIn (started own records imports codes)
 unfolding started
 started-holds own records imports codes before texts = record { stage = record { cells = tt; codes = texts; globals = tt; keywords = tt }; bindings = all-bindings records before }
 
