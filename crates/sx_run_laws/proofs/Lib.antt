@@ -25,7 +25,7 @@ pub mod Plain
 pub mod Table
 pub mod Written
 pub mod SpelledLines
-pub mod Spelled
+pub mod SpelledRuns
 pub mod WiderLemmas
 pub mod ExportLemmas
 pub mod DerivedLemmas

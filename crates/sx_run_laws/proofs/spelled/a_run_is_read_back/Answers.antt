@@ -1,4 +1,4 @@
-use Rattle.sx_run_laws.proofs.Spelled.{runs-back}
+use Rattle.sx_run_laws.proofs.SpelledRuns.{runs-back}
 use Rattle.sx_run_laws.proofs.spelled.a_run_is_read_back.Goals as goal
 
 pub returns : goal.returns
