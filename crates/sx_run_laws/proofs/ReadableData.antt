@@ -1,5 +1,5 @@
 -- What a file has can be written and read back: its data, the forms of a library's body, and the trees that stand for them.
-use Rattle.std.proofs.Common.{◌≡◌, ℕ, zero, suc, Bool, true, false, List, [], ◌∷◌, ◌++◌, Option, Some, None, Result, Ok, Err, if◌then◌else◌}
+use Rattle.std.proofs.Common.{◌≡◌, ℕ, zero, suc, Bool, true, false, List, [], ◌∷◌, ◌++◌, Option, Some, None, Result, Ok, Err, refl, if◌then◌else◌}
 use Rattle.std.specs.Prelude.{All, codes}
 use Rattle.std.proofs.lemmas.List.Elements.{All-head, All-tail}
 use Rattle.sx_base.specs.Datum.{PlainDatum, atom, symbol, pair, vector, elements, tail_of, is_nil, proper_elements}
@@ -7,6 +7,7 @@ use Rattle.sx_base.specs.Gives.{◌>>=◌}
 use Rattle.sx_base.specs.declared.atom.Atom.{Atom}
 use Rattle.sx_base.specs.declared.atom.Atom.TheVariants as a
 use Rattle.sx_base.specs.declared.fault.Bare.{Bare}
+use Rattle.sx_base.specs.declared.fault.Fault.{Fault}
 use Rattle.sx_base.specs.declared.span.Span.{Span}
 use Rattle.sx_forms.specs.All.{given}
 use Rattle.sx_forms.specs.Form.{behind_word, form_of, body_in, library_body, program_body}
@@ -15,7 +16,7 @@ use Rattle.sx_fresh_laws.specs.Leaves.{OptionHolds}
 use Rattle.sx_fresh_laws.proofs.Eachs.{each_and, each_dropped}
 use Rattle.sx_fresh_laws.proofs.Trees.{OkHolds}
 use Rattle.sx_library.specs.Library.{placed, tree_at, trees_at}
-use Rattle.sx_reader.specs.Read.{data_of}
+use Rattle.sx_reader.specs.Read.{data_of, file_nesting}
 use Rattle.sx_readable_laws.specs.Readable.{ReadableAtom, ReadableDatum, IsProperDatum, ReadableTree, IsProper}
 use Rattle.sx_readable_laws.proofs.Trees.{within_holds}
 use Rattle.sx_readable_expansion_laws.proofs.Shapes.{then-holds}
@@ -74,8 +75,15 @@ all-data n [] h = tt
 all-data n (d ∷ ds) h = (read-datum n d (All-head (IsReadable n) d ds h), all-data n ds (All-tail (IsReadable n) d ds h))
 
 -- all that a file has
-pub read-data : (file bytes : List ℕ) (nesting : ℕ) (ds : List PlainDatum) → data_of file bytes nesting ≡ Ok ds → Ds ds
+read-data : (file bytes : List ℕ) (nesting : ℕ) (ds : List PlainDatum) → data_of file bytes nesting ≡ Ok ds → Ds ds
 read-data file bytes nesting ds e = all-data nesting ds (read_readable file bytes nesting ds e)
+
+pub text-data : (file text : List ℕ) → OkHolds Ds (data_of file text file_nesting)
+text-data file text = by (data_of file text file_nesting) refl
+  where
+    by : (r : Result (List PlainDatum) Fault) → data_of file text file_nesting ≡ r → OkHolds Ds r
+    by (Ok ds) e = read-data file text file_nesting ds e
+    by (Err f) e = tt
 
 -- The body of a library or a program.
 

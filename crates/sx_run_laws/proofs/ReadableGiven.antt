@@ -41,7 +41,7 @@ use Rattle.sx_tree.specs.Tree.{Tree}
 use Rattle.sx_tree.specs.declared.change.Change.TheVariants as change
 use Rattle.sx_value.specs.Cells.{Each}
 use Rattle.sx_run_laws.specs.Readable.{IsReadablePrelude, PreludeIsReadable}
-use Rattle.sx_run_laws.proofs.ReadableData.{Ds, read-data, limited-holds}
+use Rattle.sx_run_laws.proofs.ReadableData.{Ds, text-data, limited-holds}
 
 -- a tree at a place
 placed-holds : (place : Span) (d : PlainDatum) → ReadableDatum d → OkHolds ReadableTree (at_place place (within (tree_of blank d)))
@@ -50,14 +50,6 @@ placed-holds place d h = by (within (tree_of blank d)) (limited-holds d h)
     by : (r : Result Tree Bare) → OkHolds ReadableTree r → OkHolds ReadableTree (at_place place r)
     by (Ok t) k = k
     by (Err f) k = tt
-
--- what a text has
-text-data : (file text : List ℕ) → OkHolds Ds (data_of file text file_nesting)
-text-data file text = by (data_of file text file_nesting) refl
-  where
-    by : (r : Result (List PlainDatum) Fault) → data_of file text file_nesting ≡ r → OkHolds Ds r
-    by (Ok ds) e = read-data file text file_nesting ds e
-    by (Err f) e = tt
 
 -- The codes of texts.
 

@@ -5,6 +5,7 @@ pub mod Fitting
 pub mod Names
 pub mod Written
 pub mod Spelled
+pub mod Readable
 pub mod Once
 pub mod Known
 pub mod Following

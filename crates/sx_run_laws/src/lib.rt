@@ -34,8 +34,8 @@
 //! asks of the records.
 //!
 //! More stand in modules of their own: `by_name`, that the text is closed and bound once by the names in it; `follow`,
-//! that the records follow one another; `memory`, that want of memory hides no other cause; and `spelled`, that the text is spelled by
-//! the grammar of core text, and read back.
+//! that the records follow one another; `memory`, that want of memory hides no other cause; `spelled`, that the text is spelled by the
+//! grammar of core text, and read back; and `readable`, that each constant in it can be read.
 //!
 //! Nothing is computed here: each function stands for the law that it ensures.
 #![tactic(auto)]
@@ -43,6 +43,7 @@
 pub mod by_name;
 pub mod follow;
 pub mod memory;
+pub mod readable;
 pub mod spelled;
 
 ghost use Rattle.sx_run_laws.specs.Run.{RecordsStand, RunsAreClosedOnce};
