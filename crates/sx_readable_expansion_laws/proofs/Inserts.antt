@@ -1,5 +1,5 @@
 -- `quasiquote` and `quasisyntax` forms keep that all in the state of an expansion can be read, given that what is done inside them does.
-use Rattle.std.proofs.Common.{◌≤◌, ◌+◌, ℕ, zero, suc, Bool, true, false, List, [], ◌∷◌, ◌++◌, map, Result, Ok, Err, refl, arith, if◌then◌else◌}
+use Rattle.std.proofs.Common.{◌+◌, ℕ, Bool, true, false, List, [], ◌∷◌, ◌++◌, map, Result, Ok, Err, refl, arith, if◌then◌else◌}
 use Rattle.sx_base.specs.Act.{after, give}
 use Rattle.sx_base.specs.declared.fault.Fault.{Fault}
 use Rattle.sx_base.specs.declared.name.FrameNo.{FrameNo}
@@ -21,7 +21,7 @@ use Rattle.sx_quasi.specs.declared.word.Family.{Family}
 use Rattle.sx_quasi.specs.declared.word.Family.TheVariants as family
 use Rattle.sx_quasi_code.specs.Filled.{next_code, filled, all_filled}
 use Rattle.sx_quasi_code.specs.Form.{quote_by, syntax_by, form_of, parts_of, code_of}
-use Rattle.sx_quasi_code.specs.Inserted.{dots, ellipsis, insert_variable, insert_variables, listed, pattern_under, insert_pattern, match_of, bind_inserts, inserted_in, inserted, syntax_code}
+use Rattle.sx_quasi_code.specs.Inserted.{dots, ellipsis, insert_variable, insert_variables, match_of, bind_inserts, inserted_in, inserted, syntax_code}
 use Rattle.sx_quasi_code.specs.Parts.{part, most_round, with_made, quasi_parts, all_quasi_parts, insert_part, inserts_parts}
 use Rattle.sx_quasi_code.specs.declared.form.QuasiForm.{QuasiForm}
 use Rattle.sx_quasi_code.specs.declared.form.QuasiForm.TheVariants as forms

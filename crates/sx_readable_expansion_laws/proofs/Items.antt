@@ -1,11 +1,10 @@
 -- What is taken of a form of a body has the leaves of the form.
-use Rattle.std.proofs.Common.{◌≤◌, ℕ, Bool, true, false, List, Result, Ok, Err, if◌then◌else◌}
+use Rattle.std.proofs.Common.{ℕ, Bool, true, false, Result, Ok, Err, if◌then◌else◌}
 use Rattle.std.specs.Prelude.{◌||◌, ◌&&◌, not}
 use Rattle.sx_base.specs.Act.{after, give}
 use Rattle.sx_base.specs.declared.fault.Fault.{Fault}
 use Rattle.sx_base.specs.declared.fault.FaultKind.TheVariants as kind
 use Rattle.sx_base.specs.declared.name.Label.{Label}
-use Rattle.sx_base.specs.declared.name.FrameNo.{FrameNo}
 use Rattle.sx_tree.specs.Tree.{Tree, atom, leaf, pair, vector}
 use Rattle.sx_core.specs.declared.core_form.CoreForm.{CoreForm}
 use Rattle.sx_shapes.specs.Forms.{shape}
@@ -34,7 +33,7 @@ use Rattle.sx_value.specs.Cells.{Each}
 use Rattle.sx_fresh_laws.proofs.Eachs.{each_and}
 use Rattle.sx_fresh_laws.proofs.Trees.{OkHolds}
 use Rattle.sx_readable_expansion_laws.specs.Forms.{ReadableWaits}
-use Rattle.sx_readable_expansion_laws.proofs.Shapes.{FormalsHold, ShapeHolds, shape-holds}
+use Rattle.sx_readable_expansion_laws.proofs.Shapes.{ShapeHolds, shape-holds}
 use Rattle.sx_readable_expansion_laws.proofs.Standing.{F, T, Ts, Gave, gave-after, gave-if, SpecAt, BoundHolds, variable-holds, bind-keyword-holds}
 
 abbrev pub WaitsAt : Waits → Type 0

@@ -4,7 +4,6 @@ use Rattle.std.specs.Prelude.{nat_eq}
 use Rattle.sx_base.specs.Act.{after}
 use Rattle.sx_base.specs.declared.fault.Fault.{Fault}
 use Rattle.sx_base.specs.declared.name.Label.{Label}
-use Rattle.sx_base.specs.declared.name.FrameNo.{FrameNo}
 use Rattle.sx_base.specs.declared.span.Span.{Span}
 use Rattle.sx_tree.specs.Tree.{Tree, atom, leaf, pair, vector}
 use Rattle.sx_core.specs.Core.{instance}

@@ -1,11 +1,12 @@
 -- What record forms stand for can be read where the form can.
 use Rattle.std.specs.Prelude.{◌&&◌, decimal, nat_lt}
 use Rattle.std.proofs.lemmas.Bool.Decides.{nat_tests}
-use Rattle.std.specs.Str.{IsUtf8, is_utf8}
+use Rattle.std.specs.List.{list_all}
+use Rattle.std.specs.Str.{IsUtf8}
 use Rattle.std.proofs.lemmas.Bool.{and_parts, ltb-true}
 use Rattle.std.proofs.lemmas.List.{length-append}
-use Rattle.std.proofs.lemmas.Str.{IsUtf8-append, IsUtf8-from_is_utf8, IsUtf8-nil}
-use Rattle.std.proofs.Common.{◌≡◌, ◌<◌, ◌∙◌, refl, sym, subst, append_assoc, true, length, arith, ℕ, ◌+◌, Bool, List, [], ◌∷◌, ◌++◌, Option, None, Some, Ok, Err, codes}
+use Rattle.std.proofs.lemmas.Str.{IsUtf8-append, IsUtf8-nil}
+use Rattle.std.proofs.Common.{◌≡◌, ◌∙◌, refl, sym, subst, append_assoc, true, length, arith, ℕ, ◌+◌, Bool, List, [], ◌∷◌, ◌++◌, Option, None, Some, Ok, Err, codes}
 use Rattle.sx_base.specs.Gives.{◌>>=◌}
 use Rattle.sx_base.specs.declared.span.Span.{Span}
 use Rattle.sx_scope.specs.Stands.{symbol_of}
@@ -55,10 +56,10 @@ Good m = OkHolds T m
 -- Names.
 
 abbrev is_named : List ℕ → Bool
-is_named x = is_utf8 x && nat_lt 0 (length x)
+is_named x = list_all is_small x && nat_lt 0 (length x)
 
 named : (x : List ℕ) → is_named x ≡ true → IsName x
-named x h = let p = and_parts (is_utf8 x) (nat_lt 0 (length x)) h in (IsUtf8-from_is_utf8 x p.0, omega (arith, ltb-true, p.1))
+named x h = let p = and_parts (list_all is_small x) (nat_lt 0 (length x)) h in (small_text x p.0, omega (arith, ltb-true, p.1))
 
 -- the symbol of a leaf, and nothing of what is no leaf
 symbol-text : (t : Tree) → T t → IsUtf8 (symbol_of t)
@@ -95,7 +96,7 @@ three-good : (t u v : Tree) → T t → T u → T v → Good (list_of_three t u 
 three-good t u v h k j = list-good (t ∷ (u ∷ (v ∷ []))) (h, (k, (j, tt)))
 
 quoted-good : (t : Tree) → T t → Good (quoted t)
-quoted-good t h = two-good (introduced (codes "quote")) t (named _ refl) h
+quoted-good t h = two-good (introduced (codes "quote")) t (named (codes "quote") refl) h
 
 -- what comes of a tree that is made
 next-good : (m : Made) (k : Tree → Made) → Good m → ((t : Tree) → T t → Good (k t)) → Good (m >>= k)
@@ -255,14 +256,14 @@ abbrev RowGood : Row → Type 0
 RowGood r = OkHolds Ts r
 
 definition-good : (id value : Tree) → T id → T value → Good (definition id value)
-definition-good id value h k = three-good (introduced (codes "define")) id value (named _ refl) h k
+definition-good id value h k = three-good (introduced (codes "define")) id value (named (codes "define") refl) h k
 
 by-good : (id : Tree) (m : Made) → T id → Good m → Good (definition_by id m)
 by-good id m h k = next-good m (definition id) k (λ t j. definition-good id t h j)
 
 mutability-holds : (o : Option Tree) → T (mutability o)
-mutability-holds None = (named _ refl)
-mutability-holds (Some put) = (named _ refl)
+mutability-holds None = (named (codes "immutable") refl)
+mutability-holds (Some put) = (named (codes "mutable") refl)
 
 entry-good : (f : Field) → FieldHolds f → Good (field_entry f)
 entry-good f h = two-good (mutability f.mutator) f.id (mutability-holds f.mutator) h.0
@@ -281,7 +282,7 @@ fields-part-good o h =
     next-good (field_entries [] (or_no_fields o) >>= vector_made) quoted (then-holds Ts T (field_entries [] (or_no_fields o)) vector_made (entries-good [] (or_no_fields o) tt (no-fields o h)) vector-good) quoted-good
 
 type-in-good : (p : Parent) → ParentHolds p → Good (type_in p)
-type-in-good (parents.Named id) h = two-good id type_word h (named _ refl)
+type-in-good (parents.Named id) h = two-good id type_word h (named (codes "record-type-descriptor") refl)
 type-in-good (parents.Descriptors r c) h = h.0
 
 parent-type-good : (o : Option Parent) → OptionHolds ParentHolds o → Good (parent_type o)
@@ -300,7 +301,7 @@ uid-part-good own on (Some u) h = uid-in-good own on u h
 
 type-operator-holds : T type_operator
 unfolding type_operator
-type-operator-holds = (named _ refl)
+type-operator-holds = (named (codes "make-record-type-descriptor") refl)
 
 type-value-good : (own : List ℕ) (on : IsName own) (names : RecordNames) (cs : Clauses) → NamesHold names → ReadableClauses cs → Good (type_value own names cs)
 unfolding type_value
@@ -312,7 +313,7 @@ type-value-good own on names cs h k =
     (λ fields d. list-good (type_operator ∷ (name ∷ (parent ∷ (u ∷ (boolean (or_false cs.sealed) ∷ (boolean (or_false cs.opaque) ∷ (fields ∷ []))))))) (type-operator-holds, (a, (b, (c, (tt, (tt, (d, tt)))))))))))
 
 constructor-in-good : (p : Parent) → ParentHolds p → Good (constructor_in p)
-constructor-in-good (parents.Named id) h = two-good id constructor_word h (named _ refl)
+constructor-in-good (parents.Named id) h = two-good id constructor_word h (named (codes "record-constructor-descriptor") refl)
 constructor-in-good (parents.Descriptors r c) h = h.1
 
 parent-constructor-good : (o : Option Parent) → OptionHolds ParentHolds o → Good (parent_constructor o)
@@ -327,62 +328,62 @@ protocol-part-holds (Some e) h = h
 
 constructor-operator-holds : T constructor_operator
 unfolding constructor_operator
-constructor-operator-holds = (named _ refl)
+constructor-operator-holds = (named (codes "make-record-constructor-descriptor") refl)
 
 constructor-value-good : (cs : Clauses) → ReadableClauses cs → Good (constructor_value cs)
 unfolding constructor_value
 constructor-value-good cs k =
     next-good (parent_constructor cs.parent) (λ parent. constructor_made parent (protocol_part cs.protocol)) (parent-constructor-good cs.parent k.parent)
-    (λ parent a. list-good (constructor_operator ∷ (rtd ∷ (parent ∷ (protocol_part cs.protocol ∷ [])))) (constructor-operator-holds, ((named _ refl), (a, (protocol-part-holds cs.protocol k.protocol, tt)))))
+    (λ parent a. list-good (constructor_operator ∷ (rtd ∷ (parent ∷ (protocol_part cs.protocol ∷ [])))) (constructor-operator-holds, ((named (codes "rtd") refl), (a, (protocol-part-holds cs.protocol k.protocol, tt)))))
 
 keyword-clause-good : (word value : Tree) → T word → T value → Good (keyword_clause word value)
 unfolding keyword_clause
 keyword-clause-good word value h k =
-    next-good (list_of_two (introduced (codes "_")) word) _ (two-good (introduced (codes "_")) word (named _ refl) h)
-    (λ p a. next-good (list_of_two (introduced (codes "syntax")) value) (λ output. list_of_two p output) (two-good (introduced (codes "syntax")) value (named _ refl) k) (λ o b. two-good p o a b))
+    next-good (list_of_two (introduced (codes "_")) word) _ (two-good (introduced (codes "_")) word (named (codes "_") refl) h)
+    (λ p a. next-good (list_of_two (introduced (codes "syntax")) value) (λ output. list_of_two p output) (two-good (introduced (codes "syntax")) value (named (codes "syntax") refl) k) (λ o b. two-good p o a b))
 
 keyword-body-good : (x : Tree) → T x → Good (keyword_body x)
 unfolding keyword_body
 keyword-body-good x h =
-    next-good (list_of_two type_word constructor_word) _ (two-good type_word constructor_word (named _ refl) (named _ refl))
-    (λ words a. next-good (keyword_clause type_word rtd) _ (keyword-clause-good type_word rtd (named _ refl) (named _ refl))
-    (λ first b. next-good (keyword_clause constructor_word rcd) _ (keyword-clause-good constructor_word rcd (named _ refl) (named _ refl))
-    (λ second c. list-good (introduced (codes "syntax-case") ∷ (x ∷ (words ∷ (first ∷ (second ∷ []))))) ((named _ refl), (h, (a, (b, (c, tt))))))))
+    next-good (list_of_two type_word constructor_word) _ (two-good type_word constructor_word (named (codes "record-type-descriptor") refl) (named (codes "record-constructor-descriptor") refl))
+    (λ words a. next-good (keyword_clause type_word rtd) _ (keyword-clause-good type_word rtd (named (codes "record-type-descriptor") refl) (named (codes "rtd") refl))
+    (λ first b. next-good (keyword_clause constructor_word rcd) _ (keyword-clause-good constructor_word rcd (named (codes "record-constructor-descriptor") refl) (named (codes "rcd") refl))
+    (λ second c. list-good (introduced (codes "syntax-case") ∷ (x ∷ (words ∷ (first ∷ (second ∷ []))))) ((named (codes "syntax-case") refl), (h, (a, (b, (c, tt))))))))
 
 keyword-value-good : (x : Tree) → T x → Good (keyword_value x)
 unfolding keyword_value
 keyword-value-good x h =
     next-good (list_made (x ∷ [])) _ (list-good (x ∷ []) (h, tt))
-    (λ formals a. next-good (keyword_body x) _ (keyword-body-good x h) (λ body b. three-good (introduced (codes "lambda")) formals body (named _ refl) a b))
+    (λ formals a. next-good (keyword_body x) _ (keyword-body-good x h) (λ body b. three-good (introduced (codes "lambda")) formals body (named (codes "lambda") refl) a b))
 
 keyword-definition-good : (name : Tree) → T name → Good (keyword_definition name)
 keyword-definition-good name h =
-    next-good (keyword_value (plain (codes "x"))) (λ value. list_of_three (introduced (codes "define-syntax")) name value) (keyword-value-good (plain (codes "x")) (named _ refl)) (λ value a. three-good (introduced (codes "define-syntax")) name value (named _ refl) h a)
+    next-good (keyword_value (plain (codes "x"))) (λ value. list_of_three (introduced (codes "define-syntax")) name value) (keyword-value-good (plain (codes "x")) (named (codes "x") refl)) (λ value a. three-good (introduced (codes "define-syntax")) name value (named (codes "define-syntax") refl) h a)
 
 constructor-definition-good : (id : Tree) → T id → Good (constructor_definition id)
-constructor-definition-good id h = by-good id (list_of_two (introduced (codes "record-constructor")) rcd) h (two-good (introduced (codes "record-constructor")) rcd (named _ refl) (named _ refl))
+constructor-definition-good id h = by-good id (list_of_two (introduced (codes "record-constructor")) rcd) h (two-good (introduced (codes "record-constructor")) rcd (named (codes "record-constructor") refl) (named (codes "rcd") refl))
 
 predicate-definition-good : (id : Tree) → T id → Good (predicate_definition id)
-predicate-definition-good id h = by-good id (list_of_two (introduced (codes "record-predicate")) rtd) h (two-good (introduced (codes "record-predicate")) rtd (named _ refl) (named _ refl))
+predicate-definition-good id h = by-good id (list_of_two (introduced (codes "record-predicate")) rtd) h (two-good (introduced (codes "record-predicate")) rtd (named (codes "record-predicate") refl) (named (codes "rtd") refl))
 
 accessor-operator-holds : T accessor_operator
 unfolding accessor_operator
-accessor-operator-holds = (named _ refl)
+accessor-operator-holds = (named (codes "record-accessor") refl)
 
 accessor-value-good : (k : ℕ) → Good (accessor_value k)
 unfolding accessor_value
-accessor-value-good k = three-good accessor_operator rtd (place_in k) accessor-operator-holds (named _ refl) tt
+accessor-value-good k = three-good accessor_operator rtd (place_in k) accessor-operator-holds (named (codes "rtd") refl) tt
 
 accessor-good : (k : ℕ) (id : Tree) → T id → Good (accessor_definition k id)
 accessor-good k id h = by-good id (accessor_value k) h (accessor-value-good k)
 
 mutator-operator-holds : T mutator_operator
 unfolding mutator_operator
-mutator-operator-holds = (named _ refl)
+mutator-operator-holds = (named (codes "record-mutator") refl)
 
 mutator-value-good : (k : ℕ) → Good (mutator_value k)
 unfolding mutator_value
-mutator-value-good k = three-good mutator_operator rtd (place_in k) mutator-operator-holds (named _ refl) tt
+mutator-value-good k = three-good mutator_operator rtd (place_in k) mutator-operator-holds (named (codes "rtd") refl) tt
 
 mutator-good : (k : ℕ) (id : Tree) → T id → Good (mutator_definition k id)
 mutator-good k id h = by-good id (mutator_value k) h (mutator-value-good k)
@@ -402,12 +403,12 @@ with-fields-good k done (f ∷ fs) h j = then-holds Ts Ts (with_field k done f) 
 first-good : (own : List ℕ) (on : IsName own) (names : RecordNames) (cs : Clauses) → NamesHold names → ReadableClauses cs → RowGood (first_definitions own names cs)
 unfolding first_definitions
 first-good own on names cs h k =
-    then-holds T Ts (definition_by rtd (type_value own names cs)) _ (by-good rtd (type_value own names cs) (named _ refl) (type-value-good own on names cs h k))
-    (λ a p. then-holds T Ts (definition_by rcd (constructor_value cs)) _ (by-good rcd (constructor_value cs) (named _ refl) (constructor-value-good cs k))
+    then-holds T Ts (definition_by rtd (type_value own names cs)) _ (by-good rtd (type_value own names cs) (named (codes "rtd") refl) (type-value-good own on names cs h k))
+    (λ a p. then-holds T Ts (definition_by rcd (constructor_value cs)) _ (by-good rcd (constructor_value cs) (named (codes "rcd") refl) (constructor-value-good cs k))
     (λ b q. then-holds T Ts (keyword_definition names.name) _ (keyword-definition-good names.name h.0)
     (λ c r. then-holds T Ts (constructor_definition names.constructor) _ (constructor-definition-good names.constructor h.1.0)
     (λ d s. then-holds T Ts (predicate_definition names.predicate) _ (predicate-definition-good names.predicate h.1.1)
-    (λ e t. ((named _ refl), (p, (q, (r, (s, (t, tt)))))))))))
+    (λ e t. ((named (codes "begin") refl), (p, (q, (r, (s, (t, tt)))))))))))
 
 definitions-good : (own : List ℕ) (on : IsName own) (names : RecordNames) (cs : Clauses) → NamesHold names → ReadableClauses cs → Good (definitions own names cs)
 unfolding definitions
@@ -469,8 +470,8 @@ defining-holds fs t place own on (Some (a ∷ (spec ∷ ts))) h = named-holds fs
 pub record-holds : (fs : Scope) (t : Tree) (f : CoreForm) (place : Span) (own : List ℕ) (on : IsName own) → T t → OkHolds T (record_forms fs t f place own)
 unfolding record_forms
 record-holds fs t form.DefineRecordType place own on h = defining-holds fs t place own on (proper_elements t) (proper-holds t h)
-record-holds fs t form.RecordTypeDescriptor place own on h = descriptor-holds t place type_word h (named _ refl)
-record-holds fs t form.RecordConstructorDescriptor place own on h = descriptor-holds t place constructor_word h (named _ refl)
+record-holds fs t form.RecordTypeDescriptor place own on h = descriptor-holds t place type_word h (named (codes "record-type-descriptor") refl)
+record-holds fs t form.RecordConstructorDescriptor place own on h = descriptor-holds t place constructor_word h (named (codes "record-constructor-descriptor") refl)
 record-holds fs t _ place own on h = tt
 
 -- the name that a record type has in all programs

@@ -1,5 +1,5 @@
 -- Forms are settled, and all forms keep that all in the state of an expansion can be read.
-use Rattle.std.proofs.Common.{ℕ, zero, suc, Bool, true, false, List, Option, None, Some, arith}
+use Rattle.std.proofs.Common.{ℕ, zero, suc, Bool, true, false, List, Option, None, Some}
 use Rattle.std.specs.Prelude.{nat_lt}
 use Rattle.sx_base.specs.Act.{after, give}
 use Rattle.sx_base.specs.declared.name.FrameNo.{FrameNo}
@@ -35,7 +35,6 @@ use Rattle.sx_expand.specs.declared.settle.Settled.{Settled}
 use Rattle.sx_expand.specs.declared.settle.SettledItem.{SettledItem}
 use Rattle.sx_expand.specs.declared.settle.Step.{Step}
 use Rattle.sx_expand.specs.declared.settle.Step.TheVariants as steps
-use Rattle.sx_fresh_laws.specs.Leaves.{OptionHolds}
 use Rattle.sx_fresh_laws.proofs.Eachs.{each_and}
 use Rattle.sx_readable_laws.specs.Stages.{ReadableRecords}
 use Rattle.sx_readable_expansion_laws.proofs.Forms.{Keeps, splice-holds, case-holds, lambda-holds, case-lambda-holds, letrec-holds, application-holds, conditional-holds, set-holds, in-sequence-holds, syntax-case-holds, keyword-holds, with-keywords-holds, keywords-form-holds}

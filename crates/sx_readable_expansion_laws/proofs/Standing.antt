@@ -1,11 +1,12 @@
 -- What binds, uses and compiles in an expansion keeps that all in its state can be read.
-use Rattle.std.proofs.Common.{◌≤◌, ◌+◌, ℕ, Bool, true, false, List, [], ◌∷◌, ◌++◌, length, Option, None, Some, Result, Ok, Err, sym, arith, subst, if◌then◌else◌}
+use Rattle.std.proofs.Common.{◌+◌, ℕ, Bool, true, false, List, [], ◌∷◌, ◌++◌, length, Option, None, Some, Result, Ok, Err, if◌then◌else◌}
 use Rattle.sx_base.specs.Act.{after, give, each, gather}
 use Rattle.sx_base.specs.Named.{Named}
 use Rattle.sx_base.specs.declared.fault.Bare.{Bare}
 use Rattle.sx_base.specs.declared.fault.Fault.{Fault}
 use Rattle.sx_base.specs.declared.name.FrameNo.{FrameNo}
 use Rattle.sx_base.specs.declared.name.Label.{Label}
+use Rattle.sx_base.specs.declared.name.Mark.{Mark}
 use Rattle.sx_base.specs.declared.span.Span.{Span}
 use Rattle.sx_tree.specs.Changes.{enter, leave}
 use Rattle.sx_tree.specs.Tree.{Tree}
@@ -45,7 +46,7 @@ use Rattle.sx_template.specs.Compile as templates
 use Rattle.sx_value.specs.Cells.{Each}
 use Rattle.sx_readable_laws.specs.Readable.{ReadableTree, ReadableCore, ReadableTemplate}
 use Rattle.sx_fresh_laws.specs.Leaves.{OptionHolds}
-use Rattle.sx_fresh_laws.proofs.Eachs.{each_and, each_mapped}
+use Rattle.sx_fresh_laws.proofs.Eachs.{each_and}
 use Rattle.sx_fresh_laws.proofs.Trees.{OkHolds}
 use Rattle.sx_readable_laws.proofs.Variables.{looked_up}
 use Rattle.sx_readable_expansion_laws.specs.States.{ReadableBinding, ReadableIn}
@@ -203,9 +204,9 @@ bind-keyword-as-holds : (frame : FrameNo) (place : Span) (level : ℕ) (b : Bind
 bind-keyword-as-holds frame place level b n s h k =
     let l : Label = record { 0 = n } in
     gave-after Taken BoundHolds (put_row b.id place frame l s) _ (put-row-holds b.id place frame l s h)
-    (λ x t i y. 
+    (λ x t i y.
     gave-after Taken BoundHolds (put_keyword l level t) _ (put-keyword-holds l level t i)
-    (λ z u j w. 
+    (λ z u j w.
     gave-after Taken BoundHolds (on_stage (stage.begin_keyword l (place_of b.init place)) u) (λ _. give (record { label = l; init = b.init }))
     (gave-staged Taken u (stage.begin_keyword l (place_of b.init place) (stage_of u)) j (begin-holds l (place_of b.init place) (stage_of u) j.stage))
     (λ a v g c. (g, k.1))))
