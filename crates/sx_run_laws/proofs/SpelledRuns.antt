@@ -24,10 +24,12 @@ use Rattle.sx_core_laws.specs.Words.{Each, Among, among}
 use Rattle.sx_core_laws.proofs.GivenLemmas.{references_given}
 use Rattle.sx_core_laws.proofs.ScopeLemmas.{given_decides}
 use Rattle.sx_core_text.specs.CoreText.{Names}
+use Rattle.sx_eval.specs.Codes.{Codes}
 use Rattle.sx_expand_laws.specs.Good.{IsGood}
 use Rattle.sx_expand_laws.proofs.Fresh.{each-at, each-of, each-append, among-first, among-second}
 use Rattle.sx_load.specs.declared.found.Found.{Found}
 use Rattle.sx_load.specs.declared.found.Loading.{Loading}
+use Rattle.sx_outside.specs.Contents.{Paths}
 use Rattle.sx_plan.specs.Planned.{plan_of}
 use Rattle.sx_run_laws.specs.Run.{AllStand}
 use Rattle.sx_run_laws.proofs.ClosedLemmas.{each_place, all_standing, runs_are_closed_once}
@@ -120,7 +122,7 @@ module _ (records : List LibRecord) (program : LibRecord) (standing : AreStandin
       };
     }
 
-  pub all-spellable : Each (IsLineSpellable names) (run_lines records program)
+  all-spellable : Each (IsLineSpellable names) (run_lines records program)
   all-spellable = text-lines (IsLineSpellable names) records program
       (each-of (λ r. Each (IsLineSpellable names) r.run) T (λ r a. each-of (IsLineSpellable names) r.run (λ x b. line-spellable r a x b)))
 
