@@ -12,7 +12,7 @@ use Rattle.sx_core.specs.Core.{PlainCores, none, more, PlainInits, no_init, init
 use Rattle.sx_core.specs.declared.record.LibRecord.{LibRecord}
 use Rattle.sx_core.specs.declared.record.Line.{Line}
 use Rattle.sx_core.specs.declared.record.Line.TheVariants as line
-use Rattle.sx_core_grammar.specs.ReadBack.{CoreTextIsReadBack}
+use Rattle.sx_core_grammar.specs.Laws.{CoreTextIsReadBack}
 use Rattle.sx_core_grammar.specs.Spellable.{CanBeRead, own_constant, constants}
 use Rattle.sx_core_laws.specs.Parts.{parts, all_parts, init_parts, case_parts, clause_parts}
 use Rattle.sx_core_laws.specs.Records.{line_core}
