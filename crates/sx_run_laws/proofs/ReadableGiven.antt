@@ -1,6 +1,6 @@
 -- The codes of texts, and the record of the derived library, can be written and read back: they are made of texts that are read.
-use Rattle.std.proofs.Common.{◌≡◌, ℕ, List, [], ◌∷◌, ◌++◌, map, Result, Ok, Err, refl, subst}
-use Rattle.sx_base.specs.Act.{after, give, each}
+use Rattle.std.proofs.Common.{◌≡◌, ℕ, List, [], ◌∷◌, ◌++◌, Result, Ok, Err, refl, subst}
+use Rattle.sx_base.specs.Act.{give, each}
 use Rattle.sx_base.specs.Datum.{PlainDatum}
 use Rattle.sx_base.specs.Gives.{◌>>=◌}
 use Rattle.sx_base.specs.declared.fault.Bare.{Bare}
@@ -18,10 +18,9 @@ use Rattle.sx_derived.specs.Derived as of_derived
 use Rattle.sx_derived.specs.Names as derived_names
 use Rattle.sx_eval.specs.Codes.{Codes, with_procedure, with_code}
 use Rattle.sx_expand.specs.Expanding.{ready, expression}
-use Rattle.sx_expand.specs.Expression.{inside}
 use Rattle.sx_fresh_laws.proofs.Eachs.{each_and}
 use Rattle.sx_fresh_laws.proofs.Trees.{OkHolds}
-use Rattle.sx_prelude.specs.Prelude.{procedures, names, path_of, place_of, text_of, at_place, first_tree, tree_in, procedure_of, expanded, text_code, without_state, prelude_codes, filled, prelude_table}
+use Rattle.sx_prelude.specs.Prelude.{procedures, names, path_of, place_of, text_of, at_place, first_tree, tree_in, procedure_of, expanded, text_code, without_state, prelude_codes, filled}
 use Rattle.sx_reader.specs.Read.{data_of, file_nesting}
 use Rattle.sx_readable_laws.specs.Readable.{ReadableDatum, ReadableTree, ReadableCode, ReadableCodes}
 use Rattle.sx_readable_laws.proofs.Codes.{one-code, case-codes}

@@ -4,7 +4,7 @@ use Rattle.std.specs.Prelude.{slice_get}
 use Rattle.sx_core.specs.declared.record.LibRecord.{LibRecord}
 use Rattle.sx_core.specs.declared.record.Line.{Line}
 use Rattle.sx_core_grammar.specs.Lines.{record_lines, all_lines}
-use Rattle.sx_core_laws.specs.Words.{Each, Among}
+use Rattle.sx_core_laws.specs.Words.{Each}
 use Rattle.sx_expand_laws.proofs.Fresh.{each-append}
 use Rattle.sx_plan.specs.Planned.{plan_of}
 use Rattle.sx_standing.specs.Start.{or_skip, records_at}

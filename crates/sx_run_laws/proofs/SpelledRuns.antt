@@ -12,7 +12,7 @@ use Rattle.sx_core.specs.declared.record.LibRecord.{LibRecord}
 use Rattle.sx_core.specs.declared.record.Line.{Line}
 use Rattle.sx_core_grammar.specs.Laws.{IsCoreText, CoreTextIsReadBack, CoreTextTellsItsLines}
 use Rattle.sx_core_grammar.specs.Names.{IsPrimitive}
-use Rattle.sx_core_grammar.specs.Spellable.{HasName, IsSpellable, IsLineSpellable}
+use Rattle.sx_core_grammar.specs.Spellable.{HasName, IsLineSpellable}
 use Rattle.sx_core_grammar.proofs.Bound.{names_are_generated}
 use Rattle.sx_core_grammar.proofs.Whole.{spell_lines, whole_checked}
 use Rattle.sx_core_laws.specs.Follows.{line_cores}
@@ -35,7 +35,7 @@ use Rattle.sx_run_laws.specs.Run.{AllStand}
 use Rattle.sx_run_laws.proofs.ClosedLemmas.{each_place, all_standing, runs_are_closed_once}
 use Rattle.sx_run_laws.proofs.RunLemmas.{same_place, all_records_stand}
 use Rattle.sx_run_laws.proofs.UserLemmas.{user_at}
-use Rattle.sx_run_laws.specs.Spelled.{run_names, run_lines, GivesText, IsSpelled, CanAllBeRead, RunsAreSpelled, RunsAreReadBack, RunsTellTheirLines}
+use Rattle.sx_run_laws.specs.Spelled.{run_names, run_lines, GivesText, CanAllBeRead, RunsAreSpelled, RunsAreReadBack, RunsTellTheirLines}
 use Rattle.sx_run_laws.proofs.SpelledLines.{text-lines}
 use Rattle.sx_text_laws.specs.Standing.{AreStanding}
 use Rattle.sx_text_laws.specs.Text.{text_of, IsClosedOnce}
