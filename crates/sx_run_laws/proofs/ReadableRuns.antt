@@ -17,7 +17,6 @@ use Rattle.sx_core_grammar.specs.Spellable.{CanBeRead, own_constant, constants}
 use Rattle.sx_core_laws.specs.Parts.{parts, all_parts, init_parts, case_parts, clause_parts}
 use Rattle.sx_core_laws.specs.Records.{line_core}
 use Rattle.sx_core_laws.specs.Words as words
-
 use Rattle.sx_derived.specs.Derived.{derived_record}
 use Rattle.sx_eval.specs.Codes.{Codes}
 use Rattle.sx_expand.specs.Expanding.{library_record}
