@@ -41,6 +41,7 @@ use Rattle.sx_load.specs.declared.found.Opened.{Opened}
 use Rattle.sx_load_laws.proofs.OpenLemmas.{Ends, ends_ok}
 use Rattle.sx_load_laws.proofs.RootLemmas.{stand_below}
 use Rattle.sx_outside.specs.Contents.{Paths, at_path, Reading, bytes, longer, absent, read_of}
+use Rattle.sx_prelude.specs.Prelude.{prelude_table}
 use Rattle.sx_reader.specs.Read.{data_of, file_nesting}
 use Rattle.sx_readable_laws.specs.Integers.{IntegersFit}
 use Rattle.sx_readable_laws.specs.Readable.{ReadableDatum, ReadableTree, ReadableCore, ReadableCores, ReadableInits, ReadableCases, ReadableClauses, ReadableLines}
@@ -56,7 +57,7 @@ use Rattle.sx_run_laws.specs.Readable.{IsReadablePrelude, RunsAreReadable, AllIn
 use Rattle.sx_run_laws.specs.Spelled.{run_lines, CanAllBeRead}
 use Rattle.sx_run_laws.proofs.ClosedLemmas.{all_standing}
 use Rattle.sx_run_laws.proofs.ReadableData.{Ds, text-data, library-body, program-body, trees-hold}
-use Rattle.sx_run_laws.proofs.ReadableGiven.{derived-readable}
+use Rattle.sx_run_laws.proofs.ReadableGiven.{prelude-readable, derived-readable}
 use Rattle.sx_run_laws.proofs.RunLemmas.{all_records_stand}
 use Rattle.sx_run_laws.proofs.SpelledLines.{text-lines}
 use Rattle.sx_run_laws.proofs.SpelledRuns.{runs-back}
@@ -186,9 +187,9 @@ in-words P [] h = tt
 in-words P (x ∷ xs) h = (h.0, in-words P xs h.1)
 
 pub runs-readable : RunsAreReadable
-runs-readable prelude files roots path found s records program given run =
-    let before = records-hold prelude given s.done records (loaded-rows files roots path found s run.loaded) run.recorded in
-    let last = found-holds prelude given records found (program_body found.opened.«data») program before (program-body found.opened.«data» (loaded-program files roots path found s run.loaded)) run.expanded in
+runs-readable files roots path found s records program run =
+    let before = records-hold prelude_table prelude-readable s.done records (loaded-rows files roots path found s run.loaded) run.recorded in
+    let last = found-holds prelude_table prelude-readable records found (program_body found.opened.«data») program before (program-body found.opened.«data» (loaded-program files roots path found s run.loaded)) run.expanded in
     in-words ReadableRecord (records ++ program ∷ []) (each_and ReadableRecord records program before last)
 
 -- Constants.
@@ -256,10 +257,10 @@ all-can [] h f = tt
 all-can (l ∷ ls) h f = (can-be-read (constants (line_core l)) h.0 f.0, all-can ls h.1 f.1)
 
 pub texts-back : CoreTextIsReadBack → TextsAreReadBack
-texts-back back prelude files roots path found s records program text given h fit =
-    let stand = all_records_stand prelude files roots path found s records program h.run in
+texts-back back files roots path found s records program text h fit =
+    let stand = all_records_stand prelude_table files roots path found s records program h.run in
     let standing = all_standing found s records program stand in
-    let readable = runs-readable prelude files roots path found s records program given h.run in
+    let readable = runs-readable files roots path found s records program h.run in
     let lines = text-lines LineHolds records program
     (each-of (λ r. words.Each LineHolds r.run) (text_of records program) (λ r a. lines-hold r.run (each-at ReadableRecord (records ++ program ∷ []) r readable (text-known records program standing r a)).run)) in
-    runs-back back prelude files roots path found s records program text h (all-can (run_lines records program) lines fit)
+    runs-back back prelude_table files roots path found s records program text h (all-can (run_lines records program) lines fit)

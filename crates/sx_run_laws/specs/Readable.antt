@@ -26,17 +26,16 @@ IsReadablePrelude prelude = (codes : Codes) → prelude ≡ Ok codes → Readabl
 abbrev pub PreludeIsReadable : Type 0
 PreludeIsReadable = IsReadablePrelude prelude_table
 
--- all records of a run, and the program's
+-- and in all records of a run with these, and in the program's
 abbrev pub RunsAreReadable : Type 0
-RunsAreReadable = (prelude : Result Codes Fault) (files : Paths) (roots : List (List ℕ)) (path : List ℕ) (found : Found) (s : Loading) (records : List LibRecord) (program : LibRecord)
-    → IsReadablePrelude prelude → IsRun prelude files roots path found s records program → Each ReadableRecord (records ++ program ∷ [])
+RunsAreReadable = (files : Paths) (roots : List (List ℕ)) (path : List ℕ) (found : Found) (s : Loading) (records : List LibRecord) (program : LibRecord)
+    → IsRun prelude_table files roots path found s records program → Each ReadableRecord (records ++ program ∷ [])
 
 -- 128 bits hold each integer of the lines
 abbrev pub AllIntegersFit : List Line → Type 0
 AllIntegersFit lines = Each (λ l. Each IntegersFit (constants (line_core l))) lines
 
--- So the text of a run is read back, where its integers have 128 bits.
+-- So the text of such a run is read back, where its integers have 128 bits.
 abbrev pub TextsAreReadBack : Type 0
-TextsAreReadBack = (prelude : Result Codes Fault) (files : Paths) (roots : List (List ℕ)) (path : List ℕ) (found : Found) (s : Loading) (records : List LibRecord) (program : LibRecord) (text : List ℕ)
-    → IsReadablePrelude prelude → GivesText prelude files roots path found s records program text → AllIntegersFit (run_lines records program)
-    → IsReadBack (run_names records program) (run_lines records program) text
+TextsAreReadBack = (files : Paths) (roots : List (List ℕ)) (path : List ℕ) (found : Found) (s : Loading) (records : List LibRecord) (program : LibRecord) (text : List ℕ)
+    → GivesText prelude_table files roots path found s records program text → AllIntegersFit (run_lines records program) → IsReadBack (run_names records program) (run_lines records program) text

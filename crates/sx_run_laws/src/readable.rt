@@ -9,9 +9,8 @@
 //! ```
 //!
 //! Were one of them a symbol without characters, a string that isn't UTF-8, or a vector whose elements aren't a list, then no reader would
-//! give it back. The promise: there are none of these in the records of a run, where there are none in what procedures mean that are texts;
-//! and there are none in the texts that this implementation has. So the whole text of a run is read as `(import (rnrs))` and the data that
-//! spell its lines, where its integers have 128 bits.
+//! give it back. The promise: there are none of these in the codes of the texts that this implementation has, nor in the records of a run.
+//! So the whole text of a run is read as `(import (rnrs))` and the data that spell its lines, where its integers have 128 bits.
 //!
 //! Three laws meet here. Only such data are read (sx_round); no evaluation makes others (sx_readable_laws); and no expansion does
 //! (sx_readable_expansion_laws).
