@@ -12,7 +12,7 @@ use Rattle.sx_core.specs.Core.{PlainCores, none, more, PlainInits, no_init, init
 use Rattle.sx_core.specs.declared.record.LibRecord.{LibRecord}
 use Rattle.sx_core.specs.declared.record.Line.{Line}
 use Rattle.sx_core.specs.declared.record.Line.TheVariants as line
-use Rattle.sx_core_grammar.specs.Laws.{CoreTextIsReadBack}
+use Rattle.sx_core_grammar.specs.Laws.{CoreTextIsReadBack, CoreTextTellsItsLines}
 use Rattle.sx_core_grammar.specs.Spellable.{CanBeRead, own_constant, constants}
 use Rattle.sx_core_laws.specs.Parts.{parts, all_parts, init_parts, case_parts, clause_parts}
 use Rattle.sx_core_laws.specs.Records.{line_core}
@@ -53,14 +53,15 @@ use Rattle.sx_text_laws.specs.Text.{text_of}
 use Rattle.sx_text_laws.proofs.Closed.{text-known}
 use Rattle.sx_tree.specs.Tree.{Tree}
 use Rattle.sx_value.specs.Cells.{Each}
-use Rattle.sx_run_laws.specs.Readable.{IsReadablePrelude, RunsAreReadable, AllIntegersFit, TextsAreReadBack}
+use Rattle.sx_run_laws.specs.Readable.{IsReadablePrelude, RunsAreReadable, AllIntegersFit, TextsAreReadBack, TextsTellTheirLines}
+use Rattle.sx_run_laws.specs.Run.{IsRun}
 use Rattle.sx_run_laws.specs.Spelled.{run_lines, CanAllBeRead}
 use Rattle.sx_run_laws.proofs.ClosedLemmas.{all_standing}
 use Rattle.sx_run_laws.proofs.ReadableData.{Ds, text-data, library-body, program-body, trees-hold}
 use Rattle.sx_run_laws.proofs.ReadableGiven.{prelude-readable, derived-readable}
 use Rattle.sx_run_laws.proofs.RunLemmas.{all_records_stand}
 use Rattle.sx_run_laws.proofs.SpelledLines.{text-lines}
-use Rattle.sx_run_laws.proofs.SpelledRuns.{runs-back}
+use Rattle.sx_run_laws.proofs.SpelledRuns.{runs-back, runs-tell}
 use Rattle.sx_run_laws.proofs.UserLemmas.{Nothing, Closes, users_file}
 
 -- What is loaded.
@@ -256,11 +257,20 @@ all-can : (ls : List Line) → words.Each LineHolds ls → AllIntegersFit ls →
 all-can [] h f = tt
 all-can (l ∷ ls) h f = (can-be-read (constants (line_core l)) h.0 f.0, all-can ls h.1 f.1)
 
-pub texts-back : CoreTextIsReadBack → TextsAreReadBack
-texts-back back files roots path found s records program text h fit =
-    let stand = all_records_stand prelude_table files roots path found s records program h.run in
+all-read : (files : Paths) (roots : List (List ℕ)) (path : List ℕ) (found : Found) (s : Loading) (records : List LibRecord) (program : LibRecord)
+    → IsRun prelude_table files roots path found s records program → AllIntegersFit (run_lines records program) → CanAllBeRead (run_lines records program)
+all-read files roots path found s records program run fit =
+    let stand = all_records_stand prelude_table files roots path found s records program run in
     let standing = all_standing found s records program stand in
-    let readable = runs-readable files roots path found s records program h.run in
+    let readable = runs-readable files roots path found s records program run in
     let lines = text-lines LineHolds records program
     (each-of (λ r. words.Each LineHolds r.run) (text_of records program) (λ r a. lines-hold r.run (each-at ReadableRecord (records ++ program ∷ []) r readable (text-known records program standing r a)).run)) in
-    runs-back back prelude_table files roots path found s records program text h (all-can (run_lines records program) lines fit)
+    all-can (run_lines records program) lines fit
+
+pub texts-back : CoreTextIsReadBack → TextsAreReadBack
+texts-back back files roots path found s records program text h fit = runs-back back prelude_table files roots path found s records program text h (all-read files roots path found s records program h.run fit)
+
+pub texts-tell : CoreTextTellsItsLines → TextsTellTheirLines
+texts-tell tells files files' roots roots' path path' found found' s s' records records' program program' text h fit k fit' =
+    runs-tell tells prelude_table prelude_table files files' roots roots' path path' found found' s s' records records' program program' text
+    h (all-read files roots path found s records program h.run fit) k (all-read files' roots' path' found' s' records' program' k.run fit')

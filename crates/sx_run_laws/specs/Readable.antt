@@ -1,9 +1,10 @@
 -- The constants of whole runs can be written and read back.
-use Rattle.std.specs.Prelude.{◌≡◌, ℕ, List, [], ◌∷◌, ◌++◌, Result, Ok}
+use Rattle.std.specs.Prelude.{◌≡◌, ℕ, List, [], ◌∷◌, ◌++◌, map, Result, Ok}
 use Rattle.sx_base.specs.declared.fault.Fault.{Fault}
 use Rattle.sx_core.specs.declared.record.LibRecord.{LibRecord}
 use Rattle.sx_core.specs.declared.record.Line.{Line}
 use Rattle.sx_core_grammar.specs.ReadBack.{IsReadBack}
+use Rattle.sx_core_grammar.specs.SameCode.{line_by_names}
 use Rattle.sx_core_grammar.specs.Spellable.{constants}
 use Rattle.sx_core_laws.specs.Records.{line_core}
 use Rattle.sx_core_laws.specs.Words.{Each}
@@ -39,3 +40,11 @@ AllIntegersFit lines = Each (λ l. Each IntegersFit (constants (line_core l))) l
 abbrev pub TextsAreReadBack : Type 0
 TextsAreReadBack = (files : Paths) (roots : List (List ℕ)) (path : List ℕ) (found : Found) (s : Loading) (records : List LibRecord) (program : LibRecord) (text : List ℕ)
     → GivesText prelude_table files roots path found s records program text → AllIntegersFit (run_lines records program) → IsReadBack (run_names records program) (run_lines records program) text
+
+-- Two such runs with one text have the same lines but for their variables, of which the text tells the names.
+abbrev pub TextsTellTheirLines : Type 0
+TextsTellTheirLines = (files files' : Paths) (roots roots' : List (List ℕ)) (path path' : List ℕ) (found found' : Found) (s s' : Loading)
+    (records records' : List LibRecord) (program program' : LibRecord) (text : List ℕ)
+    → GivesText prelude_table files roots path found s records program text → AllIntegersFit (run_lines records program)
+    → GivesText prelude_table files' roots' path' found' s' records' program' text → AllIntegersFit (run_lines records' program')
+    → map (line_by_names (run_names records program)) (run_lines records program) ≡ map (line_by_names (run_names records' program')) (run_lines records' program')

@@ -17,9 +17,9 @@
 //!
 //! Here are no calls to make: each function stands for the law that it ensures.
 
-ghost use Rattle.sx_run_laws.specs.Readable.{PreludeIsReadable, RunsAreReadable, TextsAreReadBack};
+ghost use Rattle.sx_run_laws.specs.Readable.{PreludeIsReadable, RunsAreReadable, TextsAreReadBack, TextsTellTheirLines};
 
-use sx_core_grammar::core_text_is_read_back;
+use sx_core_grammar::{core_text_is_read_back, core_text_tells_its_lines};
 
 /// All constants in the codes of the texts that this implementation has can be read.
 pub fn codes_of_texts_can_be_read()
@@ -36,4 +36,11 @@ pub fn the_text_of_a_run_is_read_back()
     ensures { TextsAreReadBack }
 {
     core_text_is_read_back();
+}
+
+/// Two runs with one text have the same lines but for their variables, and these have the same names, where integers have 128 bits.
+pub fn the_text_of_a_run_tells_its_lines()
+    ensures { TextsTellTheirLines }
+{
+    core_text_tells_its_lines();
 }
