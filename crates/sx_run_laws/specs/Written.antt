@@ -1,5 +1,5 @@
 -- The text that a run writes.
-use Rattle.std.specs.Prelude.{◌≡◌, ℕ, ◌<◌, ◌^◌, List, [], Result, Ok}
+use Rattle.std.specs.Prelude.{◌≡◌, ℕ, ◌<◌, ◌^◌, List, Result, Ok}
 use Rattle.std.specs.List.{flat_map}
 use Rattle.sx_base.specs.declared.fault.Fault.{Fault}
 use Rattle.sx_core.specs.declared.record.LibRecord.{LibRecord}
