@@ -24,6 +24,7 @@
 //! Here are no calls to make: each function stands for the law that it ensures.
 #![tactic(auto)]
 
+ghost use Rattle.sx_fresh_expansion_laws.specs.Events.{EventsStay};
 ghost use Rattle.sx_fresh_expansion_laws.specs.Keeping.{HistoriesStay, MarksStayKnown};
 ghost use Rattle.sx_fresh_expansion_laws.specs.Made.{StampsAreMade};
 ghost use Rattle.sx_fresh_expansion_laws.specs.RecordMarks.{RecordsHaveOwnMarks, StartsAreKnown};
@@ -52,6 +53,11 @@ pub fn stamps_are_made()
 /// Each leaf that expansion comes to is what it was made as, then entered, left and stamped with what was there before.
 pub fn histories_stay()
     ensures { HistoriesStay }
+{}
+
+/// Each leaf that expansion comes to is what it was made as, then stamped and introduced by uses, by none of them twice.
+pub fn events_stay()
+    ensures { EventsStay }
 {}
 
 /// The marks and frames in a record are of its library's names, or of those of libraries before it.
