@@ -1,2 +1,4 @@
 pub mod Captured
 pub mod Reference
+pub mod Expands
+pub mod Whole
