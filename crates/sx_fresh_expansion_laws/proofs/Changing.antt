@@ -73,16 +73,16 @@ module _ (own : LibName) (K : ℕ → Mark → Type 0) (J : ℕ → FrameNo → 
   In m n c = InUse own J P m n c
 
   in-later : (m a b : ℕ) (c : LeafContext) → a ≤ b → In m a c → In m b c
-  in-later m a b c le h k low lt = h k (omega (arith, le, low)) lt
+  in-later m a b c le h = λ k low lt. h k (omega (arith, le, low)) lt
 
   temporary-in : (m a n : ℕ) → a < n → In m n (temporary_context own a)
   temporary-in m a n lt = by (ltb a m) refl (ltb m a) refl
     where
       -- it was there, it is the mark of the use itself, or it was taken in the use
       by : (b : Bool) → ltb a m ≡ b → (c : Bool) → ltb m a ≡ c → In m n (temporary_context own a)
-      by true e c g k low more = lives.there m (temporary_context own a) (lives.rises.temporary a m (omega arith) (ltb-true a m e)) k (omega (arith, more)) more
-      by false e true g k low more = lives.temporary m a (ltb-true m a g) k (omega (arith, lt, low)) more
-      by false e false g k low more =
+      by true e c g = λ k low more. lives.there m (temporary_context own a) (lives.rises.temporary a m (omega arith) (ltb-true a m e)) k (omega (arith, more)) more
+      by false e true g = λ k low more. lives.temporary m a (ltb-true m a g) k (omega (arith, lt, low)) more
+      by false e false g = λ k low more.
           let p = ltb-false a m e in
           let q = ltb-false m a g in
           let same : m ≡ a = omega (arith, p, q) in

@@ -125,10 +125,10 @@ module _ (libs : List LibName) (own : LibName) where
     brought-in m k f c lt j h no = one-more (K k) (J k) (introduced (M m) f) c h (inr (refl, lt), j) no
 
     there-at : (m : ℕ) (c : LeafContext) → P m c → InUse own J P m m c
-    there-at m c h k low lt = (later m k c low h, λ f j. brought-in m k f c lt j (later m k c low h) (lacks m c h))
+    there-at m c h = λ k low lt. (later m k c low h, λ f j. brought-in m k f c lt j (later m k c low h) (lacks m c h))
 
     entered-at : (m : ℕ) (c : LeafContext) → P m c → InUse own J P m m (entered (M m) c)
-    entered-at m c h k low lt =
+    entered-at m c h = λ k low lt.
         let at : P k c = later m k c low h in (
           subst (P k) (left_introduced (M m) None c (lacks_first (M m) c.marks (lacks m c h))) (brought-in m k None c lt tt at (lacks m c h)),
           λ f j. subst (P k) (sym (left_came_in (M m) f (entered (M m) c) (same_mark-self (M m)))) at,
@@ -138,7 +138,7 @@ module _ (libs : List LibName) (own : LibName) where
     other-name m n lt e = let same : n ≡ m = ap (λ (x : Mark). x.0.number) e in omega (arith, lt, same)
 
     temporary-in : (m n : ℕ) → m < n → InUse own J P m (suc n) (temporary_context own n)
-    temporary-in m n lt k low more = (
+    temporary-in m n lt = λ k low more. (
       temporary-at n k (omega (arith, low)),
       λ f j. brought-in m k f (temporary_context own n) more j (temporary-at n k (omega (arith, low))) (ap (λ b. cond b true false) (same_mark-differs (M n) (M m) (other-name m n lt))),
     )
