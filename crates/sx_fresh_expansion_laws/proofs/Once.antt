@@ -122,7 +122,7 @@ module _ (libs : List LibName) (own : LibName) where
 
     -- the use of this mark introduces it
     brought-in : (m k : ℕ) (f : Option FrameNo) (c : LeafContext) → m < k → OptionHolds (J k) f → P k c → has_mark (M m) c.marks ≡ false → P k (left (M m) f c)
-    brought-in m k f c lt j h no = one-more (K k) (J k) (introduced (M m) f) c h (inr (refl, lt), j) no
+    brought-in m k f c lt j h lacking = one-more (K k) (J k) (introduced (M m) f) c h (inr (refl, lt), j) lacking
 
     there-at : (m : ℕ) (c : LeafContext) → P m c → InUse own J P m m c
     there-at m c h = λ k low lt. (later m k c low h, λ f j. brought-in m k f c lt j (later m k c low h) (lacks m c h))
