@@ -26,11 +26,11 @@ use Rattle.sx_reference_laws.specs.Captured.{IsIntroducedBy, IsHygienic, Capture
 
 has-one : (m : Mark) (ms : List Mark) → has_mark m ms ≡ true → Among ms m
 has-one m [] h = absurd (cc)
-has-one m (n ∷ ns) h = by (same_mark n m) refl h
+has-one m (n ∷ ns) h = by (same_mark n m) refl h (has-one m ns)
   where
-    by : (b : Bool) → same_mark n m ≡ b → cond b true (has_mark m ns) ≡ true → Among (n ∷ ns) m
-    by true e k = inl (sym ((same_mark_decides n m).0 e))
-    by false e k = inr (has-one m ns k)
+    by : (b : Bool) → same_mark n m ≡ b → cond b true (has_mark m ns) ≡ true → (has_mark m ns ≡ true → Among ns m) → Among (n ∷ ns) m
+    by true e k others = inl (sym ((same_mark_decides n m).0 e))
+    by false e k others = inr (others k)
 
 behind-first : (m : Mark) (e : Event) (es : List Event) → IsIntroducedBy m es → IsIntroducedBy m (e ∷ es)
 behind-first m e es h = (h.0, inr h.1)

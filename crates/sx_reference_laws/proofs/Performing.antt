@@ -211,15 +211,18 @@ module _ (libs : List LibName) (own : LibName) (core : Among libs library.Core) 
               kept = (target-kept place t l value s u g z.0 q, z.1.kept);
             })
 
-        sequence-made : (ts : List Tree) (s : State) → F s → Ts s.names.number ts → Gave (λ c u. (cs : List PlainCore) × ((c ≡ sequence_of cs) × Made (λ refs. Expand rs place level ts s cs u refs) (mentions c) u)) (in_sequence go place level depth ts s)
+        abbrev SequenceMade : List Tree → State → PlainCore → State → Type 0
+        SequenceMade ts s c u = (cs : List PlainCore) × ((c ≡ sequence_of cs) × Made (λ refs. Expand rs place level ts s cs u refs) (mentions c) u)
+
+        sequence-made : (ts : List Tree) (s : State) → F s → Ts s.names.number ts → Gave (SequenceMade ts s) (in_sequence go place level depth ts s)
         unfolding in_sequence
         sequence-made ts s h k =
-            gave-after (Goes (walking.FormsMade libs own core new rs place level ts s) s) _ (in_order go place level depth ts s) (λ cs. give (sequence_of cs)) (order-went place level depth ts s h k)
+            gave-after (Goes (walking.FormsMade libs own core new rs place level ts s) s) (SequenceMade ts s) (in_order go place level depth ts s) (λ cs. give (sequence_of cs)) (order-went place level depth ts s h k)
             (λ cs u z. (cs, (refl, staying.made-so libs own core new (λ refs. Expand rs place level ts s cs u refs) (λ refs. Expand rs place level ts s cs u refs) (all_mentions (cores cs)) (mentions (sequence_of cs)) u z.1 (λ refs i. i) (sequence-said cs))))
 
         in-sequence-made : (ts : List Tree) (s : State) → F s → Ts s.names.number ts → Gave (PlanMade place level t (plans.Sequence ts) s) (in_sequence go place level depth ts s)
         in-sequence-made ts s h k =
-            gave-less _ (PlanMade place level t (plans.Sequence ts) s) (in_sequence go place level depth ts s) (sequence-made ts s h k)
+            gave-less (SequenceMade ts s) (PlanMade place level t (plans.Sequence ts) s) (in_sequence go place level depth ts s) (sequence-made ts s h k)
             (λ c u z. subst (λ (x : PlainCore). PlanMade place level t (plans.Sequence ts) s x u) (sym z.1.0)
             (staying.made-so libs own core new (λ refs. Expand rs place level ts s z.0 u refs) (λ refs. Performs rs place level t (plans.Sequence ts) s (sequence_of z.0) u refs) (mentions c) (mentions (sequence_of z.0)) u z.1.1 (λ refs i. follows i) (ap mentions (sym z.1.0))))
 
@@ -233,7 +236,7 @@ module _ (libs : List LibName) (own : LibName) (core : Among libs library.Core) 
         case-lambda-made : (xs : List LambdaCase) (s : State) → F s → Each (LambdaHolds (P s.names.number)) xs → Gave (PlanMade place level t (plans.CaseLambda xs) s) (case_lambda go place level depth t xs s)
         unfolding case_lambda fresh
         case-lambda-made xs s h k =
-            gave-after _ (PlanMade place level t (plans.CaseLambda xs) s) (all_cases go place level depth t xs (counted s)) _
+            gave-after (λ cs u. Went (counted s) u × Made (Bind rs place level t xs (counted s) cs u) (case_mentions (cases cs)) u) (PlanMade place level t (plans.CaseLambda xs) s) (all_cases go place level depth t xs (counted s)) _
             (walking.cases-went libs own core new rs first held room traced place level depth t xs (counted s) (counted-at s h)
             (each_mapped (LambdaHolds (P s.names.number)) (LambdaHolds (P (s.names.number + 1))) (walking.lambda-case-up libs own core new rs first held room traced s.names.number (s.names.number + 1) (one-more s)) xs k))
             (λ cs u z. staying.made-so libs own core new (λ refs. Bind rs place level t xs (counted s) cs u refs) (λ refs. Performs rs place level t (plans.CaseLambda xs) s (procedure (record { 0 = s.names }) (cases cs) false) u refs) (case_mentions (cases cs)) (case_mentions (cases cs)) u z.1 (λ refs i. makes_cases i) refl)
@@ -247,11 +250,11 @@ module _ (libs : List LibName) (own : LibName) (core : Among libs library.Core) 
             let hv = goes s v h w.0 in
             let up = w.0.from.stage.up in
             gave-after (λ e y. Later own v y × ((StateHolds own K P v.names.number y × Unit {0}) × (check_literals place literals v ≡ Ok (e, y)))) (PlanMade place level t (plans.Matching subject literals xs span) s) (check_literals place literals v) _
-            (gave-both (λ e y. Later own v y) _ (check_literals place literals v) (literals-later own literals place v hv.stage.library)
+            (gave-both (λ e y. Later own v y) (λ e y. (StateHolds own K P v.names.number y × Unit {0}) × (check_literals place literals v ≡ Ok (e, y))) (check_literals place literals v) (literals-later own literals place v hv.stage.library)
             (staying.gave-from libs own core new first (λ n e. Unit {0}) v (check_literals place literals v) (standing.literals-hold own K J P lives first literals place v hv)))
             (λ e y q.
             let up-more = q.1.0.0.stage.up in
-            gave-after _ (PlanMade place level t (plans.Matching subject literals xs span) s) (all_clauses go place level depth literals xs y) (λ cs. give (matching c (clauses cs) span))
+            gave-after (λ cs u. Went y u × Made (Match rs place level literals xs y cs u) (clause_mentions (clauses cs)) u) (PlanMade place level t (plans.Matching subject literals xs span) s) (all_clauses go place level depth literals xs y) (λ cs. give (matching c (clauses cs) span))
             (walking.clauses-went libs own core new rs first held room traced place level depth literals xs y (from-to v y hv q.1.0.0)
             (each_mapped (PatternCaseHolds (P s.names.number)) (PatternCaseHolds (P y.names.number)) (forms.pattern-case-up own K J P lives first go (walking.keeps libs own core new rs first held room) s.names.number y.names.number (omega (arith, up, up-more))) xs g))
             (λ cs u z. staying.made-joined libs own core new (λ refs. Expands rs place level subject s c v refs) (λ refs. Match rs place level literals xs y cs u refs) (λ refs. Performs rs place level t (plans.Matching subject literals xs span) s (matching c (clauses cs) span) u refs)
@@ -264,7 +267,7 @@ module _ (libs : List LibName) (own : LibName) (core : Among libs library.Core) 
             let bound = with_keywords go place level depth recursive bs fs s in
             gave-after (λ xs v. (StateHolds own K P s.names.number v × Ts v.names.number xs) × (bound ≡ Ok (xs, v))) (PlanMade place level t (plans.Keywords recursive bs fs) s) bound (in_sequence go place level depth)
             (staying.gave-from libs own core new first Ts s bound (forms.with-keywords-holds own K J P lives first go (walking.keeps libs own core new rs first held room) place level depth recursive bs fs s h k g))
-            (λ xs v z. gave-less _ (PlanMade place level t (plans.Keywords recursive bs fs) s) (in_sequence go place level depth xs v) (sequence-made xs v (from-to s v h z.0.0) z.0.1)
+            (λ xs v z. gave-less (SequenceMade xs v) (PlanMade place level t (plans.Keywords recursive bs fs) s) (in_sequence go place level depth xs v) (sequence-made xs v (from-to s v h z.0.0) z.0.1)
             (λ c u y. subst (λ (x : PlainCore). PlanMade place level t (plans.Keywords recursive bs fs) s x u) (sym y.1.0)
             (staying.made-so libs own core new (λ refs. Expand rs place level xs v y.0 u refs) (λ refs. Performs rs place level t (plans.Keywords recursive bs fs) s (sequence_of y.0) u refs) (mentions c) (mentions (sequence_of y.0)) u y.1.1 (λ refs i. has_keywords z.1 i) (ap mentions (sym y.1.0)))))
 
@@ -301,7 +304,7 @@ module _ (libs : List LibName) (own : LibName) (core : Among libs library.Core) 
             let hv = from-to s v h z.0.0 in
             let ps = parts_of t depth q in
             gave-after (λ cs w. (Went v w × Made (λ refs. Fill rs place level ps v cs w refs) (all_mentions (cores cs)) w) × AreLow ps cs w) So (parts_in_order go place level ps v) (code_of place level t q)
-            (gave-both _ (AreLow ps) (parts_in_order go place level ps v)
+            (gave-both (λ cs w. Went v w × Made (λ refs. Fill rs place level ps v cs w refs) (all_mentions (cores cs)) w) (AreLow ps) (parts_in_order go place level ps v)
             (walking.each-went libs own core new rs first held room traced (part_core go place level) (λ n p. T n p.form) (λ m n le p x. tree-up m n le p.form x) PartMade (λ ps s cs u refs. Fill rs place level ps s cs u refs) mentions (λ cs. all_mentions (cores cs))
             (λ s. no_part) (λ p ps s v u c cs refs others i j. part i j) refl (λ c cs. refl) (λ p s h k. form-went place level p.depth p.form s h k) ps v hv
             (inserts.parts-of-hold own K J P lives first v.names.number t depth q (tree-up s.names.number v.names.number z.0.0.stage.up t k) z.0.1))
@@ -309,7 +312,7 @@ module _ (libs : List LibName) (own : LibName) (core : Among libs library.Core) 
             (λ cs w y.
             let code = code_of place level t q cs w in
             gave-less (λ c u. Later own w u × ((mentions c ≡ all_mentions (cores cs)) × (code ≡ Ok (c, u)))) So code
-            (gave-both (λ c u. Later own w u) _ code (moved-code own place level t q cs w (goes v w hv y.0.0).stage.library) (gave-both (λ c u. mentions c ≡ all_mentions (cores cs)) (λ c u. code ≡ Ok (c, u)) code (code-said place level t depth q cs w y.1.0 y.1.1) (staying.gave-is code)))
+            (gave-both (λ c u. Later own w u) (λ c u. (mentions c ≡ all_mentions (cores cs)) × (code ≡ Ok (c, u))) code (moved-code own place level t q cs w (goes v w hv y.0.0).stage.library) (gave-both (λ c u. mentions c ≡ all_mentions (cores cs)) (λ c u. code ≡ Ok (c, u)) code (code-said place level t depth q cs w y.1.0 y.1.1) (staying.gave-is code)))
             (λ c u x. staying.made-so libs own core new (λ refs. Fill rs place level ps v cs w refs) (λ refs. Performs rs place level t (plans.Quasi which template) s c u refs) (all_mentions (cores cs)) (mentions c) u
             (staying.made-later libs own core new (λ refs. Fill rs place level ps v cs w refs) (all_mentions (cores cs)) w u x.0 y.0.1) (λ refs i. fills z.1 i x.1.1) x.1.0)))
 
@@ -344,7 +347,7 @@ module _ (libs : List LibName) (own : LibName) (core : Among libs library.Core) 
           gave-if (FormMade place level t s) (nat_lt 600 depth) _ (after (settle es place level t s) (perform_settled go level depth)) (λ e. tt)
           (λ e. subst (λ (xs : List LibRecord). Gave (FormMade place level t s) (after (settle xs place level t s) (perform_settled go level depth))) (sym same)
           (gave-after (SettledSo place level t s) (FormMade place level t s) (settle rs place level t s) (perform_settled go level depth)
-          (gave-both _ (Settles rs level) (settle rs place level t s) (staying.gave-from libs own core new first (settled.SettledAt own K J P lives first rs held) s (settle rs place level t s) (settled.settle-to-holds own K J P lives first rs held s.uses_left place level t s h g)) (settle-so rs level place t s))
+          (gave-both (λ d v. (StateHolds own K P s.names.number v × settled.SettledAt own K J P lives first rs held v.names.number d) × (settle rs place level t s ≡ Ok (d, v))) (Settles rs level) (settle rs place level t s) (staying.gave-from libs own core new first (settled.SettledAt own K J P lives first rs held) s (settle rs place level t s) (settled.settle-to-holds own K J P lives first rs held s.uses_left place level t s h g)) (settle-so rs level place t s))
           (λ d v z. gave-less (PlanMade d.place level d.form d.plan v) (FormMade place level t s) (perform go d.place level depth d.form d.plan v) (perform-made d.place level depth d.form d.plan v (from-to s v h z.0.0.0) z.0.0.1.0 z.0.0.1.1 z.1)
           (λ c u y. staying.made-so libs own core new (λ refs. Performs rs d.place level d.form d.plan v c u refs) (λ refs. Expands rs place level t s c u refs) (mentions c) (mentions c) u y (λ refs i. settles z.0.1 i) refl))))
 

@@ -238,11 +238,13 @@ module _ (libs : List LibName) (own : LibName) (core : Among libs library.Core) 
 
         -- Lines of a body.
 
-        value-made : (place : Span) (level depth : ℕ) (l : Label) (o : Option Tree) (s : State) → F s → OptionHolds (T s.names.number) o
-            → Gave (λ c u. (x : Told) × ((x.line ≡ line.Define l c) × (Ends rs level (record { place = place; depth = depth; what = waits.Variable l o }) s x u × TellsLine u x))) (value_of go place level (deeper depth) o s)
+        abbrev ValueMade : Span → ℕ → ℕ → Label → Option Tree → State → PlainCore → State → Type 0
+        ValueMade place level depth l o s c u = (x : Told) × ((x.line ≡ line.Define l c) × (Ends rs level (record { place = place; depth = depth; what = waits.Variable l o }) s x u × TellsLine u x))
+
+        value-made : (place : Span) (level depth : ℕ) (l : Label) (o : Option Tree) (s : State) → F s → OptionHolds (T s.names.number) o → Gave (ValueMade place level depth l o s) (value_of go place level (deeper depth) o s)
         value-made place level depth l None s h k = (record { line = line.Define l no_value; references = [] }, (refl, (declares, (refl, tt))))
         value-made place level depth l (Some t) s h k =
-            gave-less (FormMade place level t s) _ (go.form place level (deeper depth) t s) (traced.form place level (deeper depth) t s h k)
+            gave-less (FormMade place level t s) (ValueMade place level depth l (Some t) s) (go.form place level (deeper depth) t s) (traced.form place level (deeper depth) t s h k)
             (λ c u z. (record { line = line.Define l c; references = z.refs }, (refl, (defines z.is, (z.all, z.kept)))))
 
         abbrev LineMade : ℕ → Waiting → State → Line → State → Type 0
@@ -250,7 +252,7 @@ module _ (libs : List LibName) (own : LibName) (core : Among libs library.Core) 
 
         line-made : (level : ℕ) (place : Span) (depth : ℕ) (w : Waits) (s : State) → F s → WaitsHold (P s.names.number) w → Gave (LineMade level (record { place = place; depth = depth; what = w }) s) (finish_as go level place depth w s)
         unfolding finish_as fresh
-        line-made level place depth (waits.Variable l o) s h k = gave-after _ (LineMade level (record { place = place; depth = depth; what = waits.Variable l o }) s) (value_of go place level (deeper depth) o s) (λ c. give (line.Define l c)) (value-made place level depth l o s h k) (λ c u z. z)
+        line-made level place depth (waits.Variable l o) s h k = gave-after (ValueMade place level depth l o s) (LineMade level (record { place = place; depth = depth; what = waits.Variable l o }) s) (value_of go place level (deeper depth) o s) (λ c. give (line.Define l c)) (value-made place level depth l o s h k) (λ c u z. z)
         line-made level place depth (waits.Procedure l t ids fs) s h k =
             gave-after (CaseMade place level t ids fs (counted s)) (LineMade level (record { place = place; depth = depth; what = waits.Procedure l t ids fs }) s) (go.procedure place level (deeper depth) t ids fs (counted s)) _
             (traced.procedure place level (deeper depth) t ids fs (counted s) (counted-at s h) (items.formals-up own K J P lives first s.names.number (s.names.number + 1) (one-more s) ids k.1.0) (trees-up s.names.number (s.names.number + 1) (one-more s) fs k.1.1))
@@ -285,19 +287,19 @@ module _ (libs : List LibName) (own : LibName) (core : Among libs library.Core) 
 
         definitions-said : (xs : List Told) (u : State) → Each (TellsLine u) xs → init_mentions (inits (inits_in (lines xs))) ≡ mentioned (of_definitions xs)
         definitions-said [] u h = refl
-        definitions-said (x ∷ xs) u h = by x.line h.0.0 ∙ sym (mentioned-joined (if_definition x.line x.references) (of_definitions xs))
+        definitions-said (x ∷ xs) u h = by x.line h.0.0 (definitions-said xs u h.1) ∙ sym (mentioned-joined (if_definition x.line x.references) (of_definitions xs))
           where
-            by : (l : Line) → line-said l ≡ mentioned x.references → init_mentions (inits (inits_in (l ∷ lines xs))) ≡ mentioned (if_definition l x.references) ++ mentioned (of_definitions xs)
-            by (line.Define l c) e = λ i. e i ++ definitions-said xs u h.1 i
-            by (line.Expr c) e = definitions-said xs u h.1
+            by : (l : Line) → line-said l ≡ mentioned x.references → init_mentions (inits (inits_in (lines xs))) ≡ mentioned (of_definitions xs) → init_mentions (inits (inits_in (l ∷ lines xs))) ≡ mentioned (if_definition l x.references) ++ mentioned (of_definitions xs)
+            by (line.Define l c) e others = λ i. e i ++ others i
+            by (line.Expr c) e others = others
 
         expressions-said : (xs : List Told) (u : State) → Each (TellsLine u) xs → all_mentions (cores (values_in (lines xs))) ≡ mentioned (of_expressions xs)
         expressions-said [] u h = refl
-        expressions-said (x ∷ xs) u h = by x.line h.0.0 ∙ sym (mentioned-joined (if_expression x.line x.references) (of_expressions xs))
+        expressions-said (x ∷ xs) u h = by x.line h.0.0 (expressions-said xs u h.1) ∙ sym (mentioned-joined (if_expression x.line x.references) (of_expressions xs))
           where
-            by : (l : Line) → line-said l ≡ mentioned x.references → all_mentions (cores (values_in (l ∷ lines xs))) ≡ mentioned (if_expression l x.references) ++ mentioned (of_expressions xs)
-            by (line.Define l c) e = expressions-said xs u h.1
-            by (line.Expr c) e = λ i. e i ++ expressions-said xs u h.1 i
+            by : (l : Line) → line-said l ≡ mentioned x.references → all_mentions (cores (values_in (lines xs))) ≡ mentioned (of_expressions xs) → all_mentions (cores (values_in (l ∷ lines xs))) ≡ mentioned (if_expression l x.references) ++ mentioned (of_expressions xs)
+            by (line.Define l c) e others = others
+            by (line.Expr c) e others = λ i. e i ++ others i
 
         body-said : (xs : List Told) (u : State) → Each (TellsLine u) xs → mentions (body_core (lines xs)) ≡ mentioned (of_definitions xs ++ of_expressions xs)
         body-said xs u h =
@@ -321,11 +323,14 @@ module _ (libs : List LibName) (own : LibName) (core : Among libs library.Core) 
             by (line.Define l c) = tt
             by (line.Expr c) = h.0.1
 
-        finish-made : (place : Span) (level : ℕ) (t : Tree) (d : Taken) (s : State) → F s → TakenHolds (P s.names.number) d → Gave (λ c u. (xs : List Told) × ((body_core (lines xs) ≡ c) × (Finish rs level d.waiting s xs u × Each (TellsLine u) xs))) (finish go place level t d s)
+        abbrev FinishMade : ℕ → Taken → State → PlainCore → State → Type 0
+        FinishMade level d s c u = (xs : List Told) × ((body_core (lines xs) ≡ c) × (Finish rs level d.waiting s xs u × Each (TellsLine u) xs))
+
+        finish-made : (place : Span) (level : ℕ) (t : Tree) (d : Taken) (s : State) → F s → TakenHolds (P s.names.number) d → Gave (FinishMade level d s) (finish go place level t d s)
         unfolding finish
         finish-made place level t d s h k =
-            gave-if _ d.has_expression (after (finish_all go level d.waiting s) (λ ls. give (body_core ls))) _
-            (λ e. gave-after (Goes (LinesMade level d.waiting s) s) _ (finish_all go level d.waiting s) (λ ls. give (body_core ls)) (lines-made level d.waiting s h k) (λ ls u z. (z.1.0, (ap body_core z.1.1.0, z.1.1.1))))
+            gave-if (FinishMade level d s) d.has_expression (after (finish_all go level d.waiting s) (λ ls. give (body_core ls))) _
+            (λ e. gave-after (Goes (LinesMade level d.waiting s) s) (FinishMade level d s) (finish_all go level d.waiting s) (λ ls. give (body_core ls)) (lines-made level d.waiting s h k) (λ ls u z. (z.1.0, (ap body_core z.1.1.0, z.1.1.1))))
             (λ e. tt)
 
         body-made : (place : Span) (level depth : ℕ) (t : Tree) (fs : List Tree) (s : State) → F s → Ts s.names.number fs → Gave (BodyMade place level t fs s) (body go place level depth t fs s)
@@ -340,7 +345,7 @@ module _ (libs : List LibName) (own : LibName) (core : Among libs library.Core) 
             gave-within (BodyMade place level t fs s) (λ v. after (fresh_frame v) (body_in go place level depth t fs)) s
             (gave-after (λ d v. (StateHolds own K P (counted s).names.number v × TakenHolds (P v.names.number) d) × (pass ≡ Ok (d, v))) (λ c u. BodyMade place level t fs s c (cut n u)) pass (finish go place level t)
             (staying.gave-from libs own core new first (λ n d. TakenHolds (P n) d) (counted s) pass (forms.splice-holds own K J P lives first go keeps (lambda_at f place level) depth begun (map (stamp f) fs) (counted s) hs tt all made))
-            (λ d v z. gave-less _ (λ c u. BodyMade place level t fs s c (cut n u)) (finish go place level t d v) (finish-made place level t d v (from-to (counted s) v hs z.0.0) z.0.1)
+            (λ d v z. gave-less (FinishMade level d v) (λ c u. BodyMade place level t fs s c (cut n u)) (finish go place level t d v) (finish-made place level t d v (from-to (counted s) v hs z.0.0) z.0.1)
             (λ c u y. subst (λ (x : PlainCore). BodyMade place level t fs s x (cut n u)) y.1.0 (record {
               refs = of_definitions y.0 ++ of_expressions y.0;
               is = is_body z.1 y.1.1.0;
@@ -477,7 +482,7 @@ module _ (libs : List LibName) (own : LibName) (core : Among libs library.Core) 
 
         clause-went : (place : Span) (level depth : ℕ) (literals : List Tree) (x : PatternCase) (s : State) → F s → PatternCaseHolds (P s.names.number) x → Gave (λ c u. Went s u × ClauseMade place level literals x s c u) (pattern_clause go place level depth literals x s)
         clause-went place level depth literals x s h k =
-            gave-less _ (λ c u. Went s u × ClauseMade place level literals x s c u) (pattern_clause go place level depth literals x s)
+            gave-less (λ c u. Went s u × (forms.ClauseAt own K J P lives first u.names.number c × ClauseMade place level literals x s c u)) (λ c u. Went s u × ClauseMade place level literals x s c u) (pattern_clause go place level depth literals x s)
             (staying.gave-went libs own core new first (forms.ClauseAt own K J P lives first) (ClauseMade place level literals x s) s (pattern_clause go place level depth literals x s)
             (forms.clause-holds own K J P lives first go keeps place level depth literals x s h k) (moved-clause own go moves place level depth literals x s h.stage.library) (clause-made place level depth literals x s h k))
             (λ c u k. (k.0, k.1.1))
