@@ -175,7 +175,7 @@ module _ (own : LibName) (K : ℕ → Mark → Type 0) (J : ℕ → FrameNo → 
   no-leaves [] = tt
   no-leaves (e ∷ es) = (tt, no-leaves es)
 
-  exports-hold : (at : TopAt) (es : List (List ℕ × Tree)) (s : State) → (F own K J P lives first) s → (Gave own K J P lives first) Any s (exports at es s)
+  pub exports-hold : (at : TopAt) (es : List (List ℕ × Tree)) (s : State) → (F own K J P lives first) s → (Gave own K J P lives first) Any s (exports at es s)
   unfolding exports
   exports-hold at es s h =
       (gave-after own K J P lives first) (λ n ls. Each (λ (l : List ℕ × Label). Unit {0}) ls) Any s (all_exports at es s) (λ ls s'. after (export_labels ls s') (λ _. give ls))
