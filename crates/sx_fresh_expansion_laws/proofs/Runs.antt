@@ -145,9 +145,9 @@ pub record Runs (own : LibName) (K : ℕ → Mark → Type 0) (P : ℕ → LeafC
   pub rises : Rises own 0 P
   pub known : (m n : ℕ) (x : Mark) → m ≤ n → K m x → K n x
 
-module _ (own : LibName) (K : ℕ → Mark → Type 0) (P : ℕ → LeafContext → Type 0) (runs : Runs own K P) where
+module _ (own : LibName) (K : ℕ → Mark → Type 0) (P : ℕ → LeafContext → Type 0) (alive : Runs own K P) where
   later : (m n : ℕ) → m ≤ n → (c : LeafContext) → P m c → P n c
-  later m n le c h = runs.rises.later m n c le h
+  later m n le c h = alive.rises.later m n c le h
 
   abbrev pub G : ℕ → PlainStage → Type 0
   G m g = StageHolds own K P m g
@@ -195,7 +195,7 @@ module _ (own : LibName) (K : ℕ → Mark → Type 0) (P : ℕ → LeafContext 
   left-holds m g new left h k = record {
     up = omega (arith, h.up, k.up);
     library = k.library;
-    frames = rows-wider (K g.names.number) (K new.names.number) (λ x j. runs.known g.names.number new.names.number x k.up j) g.frames h.frames;
+    frames = rows-wider (K g.names.number) (K new.names.number) (λ x j. alive.known g.names.number new.names.number x k.up j) g.frames h.frames;
     cells = k.cells;
     codes = codes_wider (P g.names.number) (P new.names.number) (later g.names.number new.names.number k.up) g.codes h.codes;
     globals = globals_wider (P g.names.number) (P new.names.number) (later g.names.number new.names.number k.up) g.globals h.globals;
@@ -208,7 +208,7 @@ module _ (own : LibName) (K : ℕ → Mark → Type 0) (P : ℕ → LeafContext 
   ended-holds place m g unfit h k = tt
 
   rises-from : (n : ℕ) → Rises own n P
-  rises-from n = record { later = runs.rises.later; temporary = λ a b low lt. runs.rises.temporary a b (omega arith) lt }
+  rises-from n = record { later = alive.rises.later; temporary = λ a b low lt. alive.rises.temporary a b (omega arith) lt }
 
   setting-holds : (m : ℕ) (codes : Codes) (g : PlainStage) → G m g → CodesHold (P g.names.number) codes → SettingHolds (P g.names.number) (setting_on codes g)
   setting-holds m codes g h k = record { codes = k; globals = h.globals }
@@ -244,7 +244,7 @@ module _ (own : LibName) (K : ℕ → Mark → Type 0) (P : ℕ → LeafContext 
       record {
         up = omega (arith, h.up, j.up);
         library = j.library;
-        frames = rows-wider (K g.names.number) (K new.names.number) (λ x i. runs.known g.names.number new.names.number x j.up i) g.frames h.frames;
+        frames = rows-wider (K g.names.number) (K new.names.number) (λ x i. alive.known g.names.number new.names.number x j.up i) g.frames h.frames;
         cells = j.cells;
         codes = line-codes (P new.names.number) r.run g.codes (codes_wider (P g.names.number) (P new.names.number) up g.codes h.codes) (lines_wider (P g.names.number) (P new.names.number) up r.run k);
         globals = values-in (P new.names.number) (slice_get new.cells (length g.cells)) g.globals (globals_wider (P g.names.number) (P new.names.number) up g.globals h.globals) (each_at (CellHolds (P new.names.number)) new.cells (length g.cells) j.cells);
@@ -422,7 +422,7 @@ module _ (own : LibName) (K : ℕ → Mark → Type 0) (P : ℕ → LeafContext 
   renamed-stage m g n h e le = record {
     up = omega (arith, h.up, le);
     library = e;
-    frames = rows-wider (K g.names.number) (K n.number) (λ x i. runs.known g.names.number n.number x le i) g.frames h.frames;
+    frames = rows-wider (K g.names.number) (K n.number) (λ x i. alive.known g.names.number n.number x le i) g.frames h.frames;
     cells = cells_wider (P g.names.number) (P n.number) (later g.names.number n.number le) g.cells h.cells;
     codes = codes_wider (P g.names.number) (P n.number) (later g.names.number n.number le) g.codes h.codes;
     globals = globals_wider (P g.names.number) (P n.number) (later g.names.number n.number le) g.globals h.globals;

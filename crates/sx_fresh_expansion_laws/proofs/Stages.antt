@@ -23,7 +23,7 @@ use Rattle.sx_fresh_laws.proofs.Wider.{tree_wider, value_wider, cells_wider, cod
 use Rattle.sx_fresh_expansion_laws.specs.Living.{Lives}
 use Rattle.sx_fresh_expansion_laws.specs.States.{ExpressionHolds, StageHolds}
 use Rattle.sx_fresh_expansion_laws.proofs.Changing.{In, rise, rows-wider, in-rises, there-in, out-of, enter-holds, leave-holds, frame-up}
-use Rattle.sx_fresh_expansion_laws.proofs.Runs as runs
+use Rattle.sx_fresh_expansion_laws.proofs.Runs as evaluated
 use Rattle.sx_fresh_expansion_laws.proofs.Runs.{Runs, keywords-wider, transformed-holds}
 
 module _ (own : LibName) (K : ℕ → Mark → Type 0) (J : ℕ → FrameNo → Type 0) (P : ℕ → LeafContext → Type 0) (lives : Lives own K J P) where
@@ -34,7 +34,7 @@ module _ (own : LibName) (K : ℕ → Mark → Type 0) (J : ℕ → FrameNo → 
   G m g = StageHolds own K P m g
 
   abbrev pub GaveStage : {A : Type 0} → (ℕ → A → Type 0) → ℕ → Result (A × PlainStage) Fault → Type 0
-  GaveStage W m r = runs.GaveStage own K P running W m r
+  GaveStage W m r = evaluated.GaveStage own K P running W m r
 
   abbrev pub Done : ℕ → Unit {0} → Type 0
   Done n x = Unit {0}
@@ -49,31 +49,31 @@ module _ (own : LibName) (K : ℕ → Mark → Type 0) (J : ℕ → FrameNo → 
   IsTree n t = TreeHolds (P n) t
 
   abbrev Rs : ℕ → List LibRecord → Type 0
-  Rs n rs = runs.Rs own K P running n rs
+  Rs n rs = evaluated.Rs own K P running n rs
 
   pub stage-less : (m n : ℕ) (g : PlainStage) → m ≤ n → G n g → G m g
-  stage-less m n g le h = runs.stage-less own K P running m n g le h
+  stage-less m n g le h = evaluated.stage-less own K P running m n g le h
 
   pub stage-self : (m : ℕ) (g : PlainStage) → G m g → G g.names.number g
-  stage-self m g h = runs.stage-self own K P running m g h
+  stage-self m g h = evaluated.stage-self own K P running m g h
 
   pub renamed-stage : (m : ℕ) (g : PlainStage) (n : Named) → G m g → n.library ≡ own → g.names.number ≤ n.number → G m (record g { names = n })
-  renamed-stage m g n h e le = runs.renamed-stage own K P running m g n h e le
+  renamed-stage m g n h e le = evaluated.renamed-stage own K P running m g n h e le
 
   pub next-holds : (m : ℕ) (g : PlainStage) → G m g → G m (record g { names = name_after g.names })
-  next-holds m g h = runs.next-holds own K P running m g h
+  next-holds m g h = evaluated.next-holds own K P running m g h
 
   pub value-holds : (place : Span) (rs : List LibRecord) (l : Label) (e : Option PlainCore) (m : ℕ) (g : PlainStage) → G m g → Rs g.names.number rs → ExpressionHolds (P g.names.number) e → GaveStage IsValue m (keyword_value place rs l e g)
-  value-holds place rs l e m g h k j = runs.value-holds own K P running place rs l e m g h k j
+  value-holds place rs l e m g h k j = evaluated.value-holds own K P running place rs l e m g h k j
 
   pub asks-holds : (place : Span) (rs : List LibRecord) (l : Label) (e : Option PlainCore) (m : ℕ) (g : PlainStage) → G m g → Rs g.names.number rs → ExpressionHolds (P g.names.number) e → GaveStage Told m (is_variable_transformer place rs l e g)
-  asks-holds place rs l e m g h k j = runs.asks-holds own K P running place rs l e m g h k j
+  asks-holds place rs l e m g h k j = evaluated.asks-holds own K P running place rs l e m g h k j
 
   pub begin-holds : (l : Label) (place : Span) (m : ℕ) (g : PlainStage) → G m g → GaveStage Done m (begin_keyword l place g)
-  begin-holds l place m g h = runs.begin-holds own K P running l place m g h
+  begin-holds l place m g h = evaluated.begin-holds own K P running l place m g h
 
   pub finish-holds : (place : Span) (rs : List LibRecord) (l : Label) (c : PlainCore) (m : ℕ) (g : PlainStage) → G m g → Rs g.names.number rs → CoreHolds (P g.names.number) c → GaveStage Done m (finish_keyword place rs l c g)
-  finish-holds place rs l c m g h k j = runs.finish-holds own K P running place rs l c m g h k j
+  finish-holds place rs l c m g h k j = evaluated.finish-holds own K P running place rs l c m g h k j
 
   -- Uses. While the transformer of one runs, there is on the stage what may be met in it.
 
@@ -114,7 +114,7 @@ module _ (own : LibName) (K : ℕ → Mark → Type 0) (J : ℕ → FrameNo → 
 
   -- what the transformer gave, and the stage then
   abbrev GaveIn : ℕ → ℕ → Result (Tree × PlainStage) Fault → Type 0
-  GaveIn m low r = runs.GaveStage own K (In own K J P lives m) (running-in m) (λ n t. TreeHolds (In own K J P lives m n) t) low r
+  GaveIn m low r = evaluated.GaveStage own K (In own K J P lives m) (running-in m) (λ n t. TreeHolds (In own K J P lives m n) t) low r
 
   left-in : (m : ℕ) (f : Option FrameNo) (r : Result (Tree × PlainStage) Fault) → OptionHolds (J (m + 1)) f → GaveIn m (m + 1) r
       → GaveStage IsTree (m + 1) (after r (λ u. give (leave (mark_named own m) f u)))
@@ -146,8 +146,8 @@ module _ (own : LibName) (K : ℕ → Mark → Type 0) (J : ℕ → FrameNo → 
       → GaveStage IsTree m (used place rs t l e f g)
   unfolding used
   used-holds place rs t l e f m g h k j i q =
-      runs.gave-less own K P running IsTree m g (after (keyword_value place rs l e g) (λ v u. after (fresh_mark u) (transform_marked place v t f))) h
-      (runs.stage-after own K P running IsValue IsTree g.names.number (keyword_value place rs l e g) (λ v u. after (fresh_mark u) (transform_marked place v t f)) (value-holds place rs l e g.names.number g (stage-self m g h) k j)
+      evaluated.gave-less own K P running IsTree m g (after (keyword_value place rs l e g) (λ v u. after (fresh_mark u) (transform_marked place v t f))) h
+      (evaluated.stage-after own K P running IsValue IsTree g.names.number (keyword_value place rs l e g) (λ v u. after (fresh_mark u) (transform_marked place v t f)) (value-holds place rs l e g.names.number g (stage-self m g h) k j)
       (λ v u a b.
       let n = u.names.number in
       less IsTree n (transform_marked place v t f (record { 0 = u.names }) (record u { names = name_after u.names }))
