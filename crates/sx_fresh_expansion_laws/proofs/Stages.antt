@@ -27,7 +27,7 @@ use Rattle.sx_fresh_expansion_laws.proofs.Runs as evaluated
 use Rattle.sx_fresh_expansion_laws.proofs.Runs.{Runs, keywords-wider, transformed-holds}
 
 module _ (own : LibName) (K : ℕ → Mark → Type 0) (J : ℕ → FrameNo → Type 0) (P : ℕ → LeafContext → Type 0) (lives : Lives own K J P) where
-  running : Runs own K P
+  pub running : Runs own K P
   running = record { rises = lives.rises; known = lives.known }
 
   abbrev G : ℕ → PlainStage → Type 0

@@ -1,5 +1,5 @@
 -- What binds, uses and compiles in an expansion keeps that all in its state may be met.
-use Rattle.std.proofs.Common.{◌≤◌, ◌+◌, ℕ, Bool, true, false, List, [], ◌∷◌, ◌++◌, length, Option, None, Some, Result, Ok, Err, sym, arith, subst, if◌then◌else◌}
+use Rattle.std.proofs.Common.{◌≤◌, ◌<◌, ◌+◌, ℕ, Bool, true, false, List, [], ◌∷◌, ◌++◌, length, Option, None, Some, Result, Ok, Err, sym, arith, subst, if◌then◌else◌}
 use Rattle.sx_base.specs.Act.{after, give, each, gather}
 use Rattle.sx_base.specs.Named.{Named}
 use Rattle.sx_base.specs.declared.fault.Bare.{Bare}
@@ -47,6 +47,7 @@ use Rattle.sx_standing.specs.Uses.{macro_expression, use_keyword, asks_variable,
 use Rattle.sx_standing.specs.declared.binders.BoundSpec.{BoundSpec}
 use Rattle.sx_template.specs.Compile as templates
 use Rattle.sx_value.specs.Cells.{Each}
+use Rattle.sx_fresh_laws.specs.Below.{mark_named}
 use Rattle.sx_fresh_laws.specs.Leaves.{TreeHolds, CoreHolds, TemplateHolds, PatternHolds}
 use Rattle.sx_fresh_laws.specs.Leaves.{OptionHolds}
 use Rattle.sx_fresh_laws.proofs.Eachs.{each_and, each_mapped}
