@@ -21,7 +21,7 @@ module _ (own : LibName) (s : State) where
   stamps-old [] h = tt
   stamps-old (t ∷ ts) h = (h.0, stamps-old ts h.1)
 
-  pub leaves-old : (t : Tree) → TreeHolds (StampedByMade own s.names.number) t → LeavesAre (IsOld own s) t
+  leaves-old : (t : Tree) → TreeHolds (StampedByMade own s.names.number) t → LeavesAre (IsOld own s) t
   leaves-old (tree.atom p a) h = tt
   leaves-old (tree.leaf p x c) h = stamps-old c.stamps h
   leaves-old (tree.pair p a d) h = (leaves-old a h.0, leaves-old d h.1)

@@ -7,7 +7,8 @@ use Rattle.sx_base.specs.declared.name.FrameNo.{FrameNo}
 use Rattle.sx_base.specs.declared.name.Label.{Label}
 use Rattle.sx_base.specs.declared.name.Mark.{Mark}
 use Rattle.sx_tree.specs.Context.{LeafContext}
-use Rattle.sx_tree.specs.Tree.{Tree}
+use Rattle.sx_tree.specs.Tree.{Tree, atom, leaf, pair, vector}
+use Rattle.sx_tree.specs.declared.stamp.Stamp.{Stamp}
 use Rattle.sx_scope.specs.Stands.{stands}
 use Rattle.sx_core.specs.References.{mentions}
 use Rattle.sx_shapes.specs.Lists.{is_leaf}
@@ -17,6 +18,7 @@ use Rattle.sx_hygiene_laws.specs.Marked.{Among}
 use Rattle.sx_value.specs.Cells.{Each}
 use Rattle.sx_expand_laws.specs.Named.{RefersTo}
 use Rattle.sx_expand_laws.specs.States.{IsOld, Later}
+use Rattle.sx_expand_laws.specs.Trees.{StampsAre, LeavesAre}
 use Rattle.sx_expand_laws.proofs.Acts.{Gave}
 use Rattle.sx_expand_laws.proofs.Later.{later-self, later-then}
 use Rattle.sx_expand_laws.proofs.Named.{leaf-stays}
@@ -26,18 +28,30 @@ use Rattle.sx_fresh_laws.proofs.Wider.{tree_wider}
 use Rattle.sx_fresh_expansion_laws.specs.Events.{HasKnownEvents}
 use Rattle.sx_fresh_expansion_laws.specs.Known.{IsKnown, IsKnownFrame, HasKnown, IsNewAmong}
 use Rattle.sx_fresh_expansion_laws.specs.Living.{Lives}
+use Rattle.sx_fresh_expansion_laws.specs.Made.{IsMade, StampedByMade}
 use Rattle.sx_fresh_expansion_laws.specs.States.{StateHolds}
 use Rattle.sx_fresh_expansion_laws.proofs.Having.{history-marks}
 use Rattle.sx_fresh_expansion_laws.proofs.Making.{are-made}
 use Rattle.sx_fresh_expansion_laws.proofs.Once.{as-history, lives-once}
 use Rattle.sx_fresh_expansion_laws.proofs.Standing as standing
-use Rattle.sx_identifier_laws.proofs.Identifiers.{leaves-old}
 use Rattle.sx_reference_laws.specs.Expands.{Reference}
 use Rattle.sx_reference_laws.specs.Whole.{mentioned}
 
 pub mentioned-joined : (xs ys : List Reference) → mentioned (xs ++ ys) ≡ mentioned xs ++ mentioned ys
 mentioned-joined [] ys = refl
 mentioned-joined (x ∷ xs) ys = ap (λ ls. mentions x.code ++ ls) (mentioned-joined xs ys) ∙ sym (append_assoc (mentions x.code) (mentioned xs) (mentioned ys))
+
+-- known identifiers have stamps of frames that were made
+module _ (own : LibName) (s : State) where
+  stamps-old : (ts : List Stamp) → Each (λ (t : Stamp). IsMade own s.names.number t.frame) ts → StampsAre (IsOld own s) ts
+  stamps-old [] h = tt
+  stamps-old (t ∷ ts) h = (h.0, stamps-old ts h.1)
+
+  leaves-old : (t : Tree) → TreeHolds (StampedByMade own s.names.number) t → LeavesAre (IsOld own s) t
+  leaves-old (atom p a) h = tt
+  leaves-old (leaf p x c) h = stamps-old c.stamps h
+  leaves-old (pair p a d) h = (leaves-old a h.0, leaves-old d h.1)
+  leaves-old (vector p d) h = leaves-old d h
 
 -- what was given is what is told
 pub gave-is : {A : Type 0} (r : Result (A × State) Fault) → Gave (λ a u. r ≡ Ok (a, u)) r
