@@ -64,9 +64,9 @@ made-low t d done h = by (nat_lt 600 d) refl h
     by true e k = absurd (true≢false (sym e ∙ each-last done (part t d) k))
     by false e k = refl
 
-record Counted (done all : List Part) (n : ℕ) : Type 0 where
+record Counted (done parts : List Part) (n : ℕ) : Type 0 where
   low : Each IsLow done
-  all : length all ≡ length done + n
+  all : length parts ≡ length done + n
 
 made-counted : (t : Tree) (d : ℕ) (done : List Part) → Each IsLow (with_made t d done) → Counted done (with_made t d done) 0
 made-counted t d done h = let e = made-low t d done h in record { low = subst (Each IsLow) e h; all = ap length e ∙ (omega arith) }

@@ -97,7 +97,7 @@ module _ (libs : List LibName) (own : LibName) (core : Among libs library.Core) 
   abbrev Ts : ℕ → List Tree → Type 0
   Ts n ts = Each (T n) ts
 
-  lives : Lives own K J P
+  abbrev lives : Lives own K J P
   lives = staying.lives libs own core new
 
   abbrev Kept : State → Reference → Type 0

@@ -57,7 +57,7 @@ module _ (libs : List LibName) (own : LibName) (core : Among libs library.Core) 
   abbrev P : ℕ → LeafContext → Type 0
   P n c = HasKnownEvents libs own n c
 
-  lives : Lives own K J P
+  abbrev lives : Lives own K J P
   lives = staying.lives libs own core new
 
   line-right : (u : State) (x : Told) → walking.TellsLine libs own core new u x → IsRightLine libs own u x

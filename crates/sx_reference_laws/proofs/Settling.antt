@@ -125,7 +125,7 @@ module _ (place : Span) (level : ℕ) (t : Tree) (leafy : is_leaf t ≡ true) (s
 -- a list
 module _ (place : Span) (level : ℕ) (t : Tree) (compound : is_leaf t ≡ false) (s : State) where
   abbrev Right : Plan → State → Type 0
-  Right = Plans place t
+  Right p u = Plans place t p u
 
   abbrev Assigned : Tree → Label → State → Type 0
   Assigned id l u = stands u.frames id ≡ Some l

@@ -64,15 +64,15 @@ use Rattle.sx_fresh_expansion_laws.proofs.Settled.{inside-keeps}
 use Rattle.sx_fresh_expansion_laws.proofs.Shapes.{FormalsHold, LambdaHolds, PatternCaseHolds}
 use Rattle.sx_fresh_expansion_laws.proofs.Standing as standing
 use Rattle.sx_reference_laws.specs.Expands.{Reference, Told, lines, if_definition, if_expression, of_definitions, of_expressions, counted}
-use Rattle.sx_reference_laws.specs.Expands.{Expands, Performs, calls, tests, chooses, follows, makes, makes_cases, binds_all, matches_one, has_keywords, Expand, none, more, Binds, binds, Bind, no_case, case, Starts, starts, Start, no_init, init}
-use Rattle.sx_reference_laws.specs.Expands.{Matches, matches, Match, no_clause, clause, Asks, asks_nothing, asks, IsBody, is_body, Finish, no_line, line, Ends, declares, defines, defines_procedure, is_expression}
+use Rattle.sx_reference_laws.specs.Expands.{Expands, Performs, calls, tests, chooses, follows, makes, makes_cases, binds_all, matches_one, has_keywords, Expand, none, more, Binds, binds_formals, Bind, no_case, case, Starts, starts_with, Start, no_init, init}
+use Rattle.sx_reference_laws.specs.Expands.{Matches, matches_pattern, Match, no_clause, clause, Asks, asks_nothing, asks_first, IsBody, is_body, Finish, no_line, next_line, Ends, declares, defines, defines_procedure, is_expression}
 use Rattle.sx_reference_laws.specs.Whole.{mentioned}
 use Rattle.sx_reference_laws.proofs.Staying as staying
 use Rattle.sx_reference_laws.proofs.Staying.{mentioned-joined, gave-is}
 
 -- What parts mention.
 
-fender-mentions : Option PlainCore → List Label
+abbrev fender-mentions : Option PlainCore → List Label
 fender-mentions None = []
 fender-mentions (Some c) = mentions c
 
@@ -115,7 +115,7 @@ module _ (libs : List LibName) (own : LibName) (core : Among libs library.Core) 
   abbrev Ts : ℕ → List Tree → Type 0
   Ts n ts = Each (T n) ts
 
-  lives : Lives own K J P
+  abbrev lives : Lives own K J P
   lives = staying.lives libs own core new
 
   abbrev Kept : State → Reference → Type 0
@@ -207,11 +207,7 @@ module _ (libs : List LibName) (own : LibName) (core : Among libs library.Core) 
 
         -- Lists: what one comes to, and what the others come to after it.
 
-        module _ {X A : Type 0} (step : X → Does A) (Known : ℕ → X → Type 0) (up : (m n : ℕ) → m ≤ n → (x : X) → Known m x → Known n x)
-            (One : X → State → A → State → List Reference → Type 0) (All : List X → State → List A → State → List Reference → Type 0) (m : A → List Label) (ms : List A → List Label)
-            (nothing : (s : State) → All [] s [] s []) (another : (x : X) (xs : List X) (s v u : State) (a : A) (as : List A) (refs others : List Reference) → One x s a v refs → All xs v as u others → All (x ∷ xs) s (a ∷ as) u (refs ++ others))
-            (empty : ms [] ≡ []) (apart : (a : A) (as : List A) → ms (a ∷ as) ≡ m a ++ ms as)
-            (one : (x : X) (s : State) → F s → Known s.names.number x → Gave (λ a u. Went s u × Made (One x s a u) (m a) u) (step x s)) where
+        module _ {X A : Type 0} (step : X → Does A) (Known : ℕ → X → Type 0) (up : (m n : ℕ) → m ≤ n → (x : X) → Known m x → Known n x) (One : X → State → A → State → List Reference → Type 0) (All : List X → State → List A → State → List Reference → Type 0) (m : A → List Label) (ms : List A → List Label) (nothing : (s : State) → All [] s [] s []) (another : (x : X) (xs : List X) (s v u : State) (a : A) (as : List A) (refs others : List Reference) → One x s a v refs → All xs v as u others → All (x ∷ xs) s (a ∷ as) u (refs ++ others)) (empty : ms [] ≡ []) (apart : (a : A) (as : List A) → ms (a ∷ as) ≡ m a ++ ms as) (one : (x : X) (s : State) → F s → Known s.names.number x → Gave (λ a u. Went s u × Made (One x s a u) (m a) u) (step x s)) where
           abbrev AllMade : List X → State → List A → State → Type 0
           AllMade xs s as u = Went s u × Made (All xs s as u) (ms as) u
 
@@ -280,7 +276,7 @@ module _ (libs : List LibName) (own : LibName) (core : Among libs library.Core) 
             (lines-made level ws v (goes s v h y.0) (items.waiting-up own K J P lives first s.names.number v.names.number y.0.from.stage.up ws k.1))
             (λ ls u z. (
               staying.went-then libs own core new first s v u y.0 z.0,
-              (y.1.0 ∷ z.1.0, ((λ i. y.1.1.0 i ∷ z.1.1.0 i), (line y.1.1.1.0 z.1.1.1.0, (line-later v u z.0.later y.1.0 y.1.1.1.1, z.1.1.1.1)))),
+              (y.1.0 ∷ z.1.0, ((λ i. y.1.1.0 i ∷ z.1.1.0 i), (next_line y.1.1.1.0 z.1.1.1.0, (line-later v u z.0.later y.1.0 y.1.1.1.1, z.1.1.1.1)))),
             ))))
 
         -- Bodies.
@@ -371,7 +367,7 @@ module _ (libs : List LibName) (own : LibName) (core : Among libs library.Core) 
             (λ x v z. gave-after (BodyMade place level t (map (stamp f) fs) v) (λ c u. CaseMade place level t ids fs s c (cut n u)) (body go place level depth t (map (stamp f) fs) v) (λ c. give (record { formals = x; body = c }))
             (body-made place level depth t (map (stamp f) fs) v (from-to (counted s) v hs z.0.0)
             (stamps-hold own K J P lives v.names.number f fs (lives.frames (s.names.number + 1) v.names.number f z.0.0.stage.up (standing.frame-made own K J P lives first s h)) (trees-up s.names.number v.names.number (let up = z.0.0.stage.up in let one = one-more s in omega (arith, up, one)) fs g)))
-            (λ c u y. staying.made-cut libs own core new (λ refs. IsBody rs place level t (map (stamp f) fs) v c u refs) (λ refs. Binds rs place level t ids fs s (record { formals = x; body = c }) (cut n u) refs) (mentions c) n u y (λ refs i. binds z.1 i))))
+            (λ c u y. staying.made-cut libs own core new (λ refs. IsBody rs place level t (map (stamp f) fs) v c u refs) (λ refs. Binds rs place level t ids fs s (record { formals = x; body = c }) (cut n u) refs) (mentions c) n u y (λ refs i. binds_formals z.1 i))))
 
         abbrev Case : Span → ℕ → Tree → LambdaCase → State → Lambda → State → List Reference → Type 0
         Case place level t x s c u refs = Binds rs place level t x.formals x.body s c u refs
@@ -399,7 +395,7 @@ module _ (libs : List LibName) (own : LibName) (core : Among libs library.Core) 
         init-went place level depth f b s h k =
             gave-after (Goes (FormMade place level (stamp f b.init) s) s) (λ i u. Went s u × InitMade place level f b s i u) (go.form place level depth (stamp f b.init) s) (λ c. give (record { label = b.label; value = c }))
             (form-went place level depth (stamp f b.init) s h (stamp-holds own K J P lives s.names.number f b.init k.1 k.0))
-            (λ c u z. (z.0, staying.made-so libs own core new (λ refs. Expands rs place level (stamp f b.init) s c u refs) (λ refs. Starts rs place level f b s (record { label = b.label; value = c }) u refs) (mentions c) (mentions c) u z.1 (λ refs i. starts i) refl))
+            (λ c u z. (z.0, staying.made-so libs own core new (λ refs. Expands rs place level (stamp f b.init) s c u refs) (λ refs. Starts rs place level f b s (record { label = b.label; value = c }) u refs) (mentions c) (mentions c) u z.1 (λ refs i. starts_with i) refl))
 
         inits-went : (place : Span) (level depth : ℕ) (f : FrameNo) (bs : List BoundSpec) (s : State) → F s → Each (forms.BoundIn own K J P lives first f s.names.number) bs
             → Gave (λ is u. Went s u × Made (Start rs place level f bs s is u) (init_mentions (inits is)) u) (all_inits go place level depth f bs s)
@@ -444,7 +440,7 @@ module _ (libs : List LibName) (own : LibName) (core : Among libs library.Core) 
         fender-made place level depth f (Some t) s h q k =
             gave-after (Goes (FormMade place level (stamp f t) s) s) (λ x u. Went s u × Made (Asks rs place level f (Some t) s x u) (fender-mentions x) u) (go.form place level depth (stamp f t) s) (λ c. give (Some c))
             (form-went place level depth (stamp f t) s h (stamp-holds own K J P lives s.names.number f t q k))
-            (λ c u z. (z.0, staying.made-so libs own core new (λ refs. Expands rs place level (stamp f t) s c u refs) (Asks rs place level f (Some t) s (Some c) u) (mentions c) (mentions c) u z.1 (λ refs i. asks i) refl))
+            (λ c u z. (z.0, staying.made-so libs own core new (λ refs. Expands rs place level (stamp f t) s c u refs) (Asks rs place level f (Some t) s (Some c) u) (mentions c) (mentions c) u z.1 (λ refs i. asks_first i) refl))
 
         clause-made : (place : Span) (level depth : ℕ) (literals : List Tree) (x : PatternCase) (s : State) → F s → PatternCaseHolds (P s.names.number) x → Gave (ClauseMade place level literals x s) (pattern_clause go place level depth literals x s)
         unfolding pattern_clause fresh_frame
@@ -478,7 +474,7 @@ module _ (libs : List LibName) (own : LibName) (core : Among libs library.Core) 
             (stamp-holds own K J P lives b.names.number f x.output (lives.frames (s.names.number + 1) b.names.number f (omega (arith, up, up-more, up-last)) made) (tree-up s.names.number b.names.number (omega (arith, one, up, up-more, up-last)) x.output k.1.1)))
             (λ c u r. staying.made-cut libs own core new (Matches rs place level literals x s (record { pattern = p.pattern; fender = o; output = c }) (cut n u)) (Matches rs place level literals x s (record { pattern = p.pattern; fender = o; output = c }) (cut n u)) (fender-mentions o ++ mentions c) n u
             (staying.made-joined libs own core new (Asks rs place level f x.fender w o b) (λ refs. Expands rs place level (stamp f x.output) b c u refs) (Matches rs place level literals x s (record { pattern = p.pattern; fender = o; output = c }) (cut n u))
-            (fender-mentions o) (mentions c) b u r.0.later q.1 r.1 (λ refs others i j. matches z.1 y.1 i j)) (λ refs i. i))))))
+            (fender-mentions o) (mentions c) b u r.0.later q.1 r.1 (λ refs others i j. matches_pattern z.1 y.1 i j)) (λ refs i. i))))))
 
         clause-went : (place : Span) (level depth : ℕ) (literals : List Tree) (x : PatternCase) (s : State) → F s → PatternCaseHolds (P s.names.number) x → Gave (λ c u. Went s u × ClauseMade place level literals x s c u) (pattern_clause go place level depth literals x s)
         clause-went place level depth literals x s h k =

@@ -150,7 +150,7 @@ mutual
 
   -- a case of a procedure: its formals are bound in a new frame, which is stamped on its body
   pub data Binds (rs : List LibRecord) : Span → ℕ → Tree → FormalIds → List Tree → State → Lambda → State → List Reference → Type 0 where
-    binds : {place : Span} {level : ℕ} {t : Tree} {ids : FormalIds} {forms : List Tree} {s v u : State} {formals : Formals} {c : PlainCore} {refs : List Reference}
+    binds_formals : {place : Span} {level : ℕ} {t : Tree} {ids : FormalIds} {forms : List Tree} {s v u : State} {formals : Formals} {c : PlainCore} {refs : List Reference}
         → bind_formals (record { 0 = s.names }) place level ids (counted s) ≡ Ok (formals, v) → IsBody rs place level t (map (stamp (record { 0 = s.names })) forms) v c u refs
         → Binds rs place level t ids forms s (record { formals = formals; body = c }) (cut (length s.scope) u) refs
 
@@ -161,7 +161,7 @@ mutual
 
   -- the expression of a variable
   pub data Starts (rs : List LibRecord) : Span → ℕ → FrameNo → BoundSpec → State → Init → State → List Reference → Type 0 where
-    starts : {place : Span} {level : ℕ} {f : FrameNo} {b : BoundSpec} {s u : State} {c : PlainCore} {refs : List Reference}
+    starts_with : {place : Span} {level : ℕ} {f : FrameNo} {b : BoundSpec} {s u : State} {c : PlainCore} {refs : List Reference}
         → Expands rs place level (stamp f b.init) s c u refs → Starts rs place level f b s (record { label = b.label; value = c }) u refs
 
   pub data Start (rs : List LibRecord) : Span → ℕ → FrameNo → List BoundSpec → State → List Init → State → List Reference → Type 0 where
@@ -171,7 +171,7 @@ mutual
 
   -- a clause of `syntax-case`: the variables of its pattern have a frame, which is stamped on its fender and its output
   pub data Matches (rs : List LibRecord) : Span → ℕ → List Tree → PatternCase → State → Clause → State → List Reference → Type 0 where
-    matches : {place : Span} {level : ℕ} {literals : List Tree} {x : PatternCase} {s v w y u : State} {p : Compiled} {e : Unit {0}} {o : Option PlainCore} {c : PlainCore} {refs others : List Reference}
+    matches_pattern : {place : Span} {level : ℕ} {literals : List Tree} {x : PatternCase} {s v w y u : State} {p : Compiled} {e : Unit {0}} {o : Option PlainCore} {c : PlainCore} {refs others : List Reference}
         → pattern_of literals place x.pattern (counted s) ≡ Ok (p, v) → bind_pattern (record { 0 = s.names }) place level p.variables v ≡ Ok (e, w)
         → Asks rs place level (record { 0 = s.names }) x.fender w o y refs → Expands rs place level (stamp (record { 0 = s.names }) x.output) y c u others
         → Matches rs place level literals x s (record { pattern = p.pattern; fender = o; output = c }) (cut (length s.scope) u) (refs ++ others)
@@ -184,7 +184,7 @@ mutual
   -- a fender
   pub data Asks (rs : List LibRecord) : Span → ℕ → FrameNo → Option Tree → State → Option PlainCore → State → List Reference → Type 0 where
     asks_nothing : {place : Span} {level : ℕ} {f : FrameNo} {s : State} → Asks rs place level f None s None s []
-    asks : {place : Span} {level : ℕ} {f : FrameNo} {t : Tree} {s u : State} {c : PlainCore} {refs : List Reference}
+    asks_first : {place : Span} {level : ℕ} {f : FrameNo} {t : Tree} {s u : State} {c : PlainCore} {refs : List Reference}
         → Expands rs place level (stamp f t) s c u refs → Asks rs place level f (Some t) s (Some c) u refs
 
   -- A body: its frame is stamped on its forms, of which the first pass takes what waits for the second.
@@ -195,7 +195,7 @@ mutual
 
   pub data Finish (rs : List LibRecord) : ℕ → List Waiting → State → List Told → State → Type 0 where
     no_line : {level : ℕ} {s : State} → Finish rs level [] s [] s
-    line : {level : ℕ} {w : Waiting} {ws : List Waiting} {s v u : State} {x : Told} {xs : List Told}
+    next_line : {level : ℕ} {w : Waiting} {ws : List Waiting} {s v u : State} {x : Told} {xs : List Told}
         → Ends rs level w s x v → Finish rs level ws v xs u → Finish rs level (w ∷ ws) s (x ∷ xs) u
 
   -- what waits becomes a line
