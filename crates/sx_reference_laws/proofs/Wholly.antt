@@ -1,5 +1,5 @@
 -- The references of whole forms.
-use Rattle.std.proofs.Common.{◌≡◌, ℕ, true, List, Option, None, Some, Ok, refl, sym, ap, ◌∙◌, subst}
+use Rattle.std.proofs.Common.{◌≡◌, ℕ, true, List, Option, None, Some, Ok, refl, sym, ap, ◌∙◌, subst, true≢false}
 use Rattle.std.specs.Prelude.{option_map}
 use Rattle.sx_base.specs.declared.library.LibName.{LibName}
 use Rattle.sx_base.specs.declared.library.LibName.TheVariants as library
@@ -37,7 +37,9 @@ module _ (libs : List LibName) (own : LibName) (core : Among libs library.Core) 
     where
       found : (p : Option Span) (x : List ℕ) (k : LeafContext) → r.leaf ≡ leaf p x k → HasKnownEvents libs own r.state.names.number k → (o : Option Row) → binder_of u.frames r.leaf ≡ o → option_map (λ (q : Row). q.label) o ≡ Some r.label → IsRight libs own u r
       found p x k e g None i j = absurd (cc)
-      found p x k e g (Some q) i j = record {
+      found p x k e g (Some q) i j =
+          let said : Some q.label ≡ Some r.label = j in
+          let same : q.label ≡ r.label = cc in record {
         span = p;
         symbol = x;
         context = k;
@@ -48,17 +50,17 @@ module _ (libs : List LibName) (own : LibName) (core : Among libs library.Core) 
         now = h.now;
         row = q;
         captures = i;
-        binder = cc;
+        binder = same;
         hygienic = captures-hygienic libs own r.state.names.number p x k g u.frames q (subst (λ (t : Tree). Captures u.frames q t) e i);
       }
 
       by : (t : Tree) → r.leaf ≡ t → IsRight libs own u r
-      by (atom p a) e = absurd (let f : is_leaf (atom p a) ≡ true = subst (λ (t : Tree). is_leaf t ≡ true) e h.leafy in cc)
+      by (atom p a) e = absurd (true≢false (sym (subst (λ (t : Tree). is_leaf t ≡ true) e h.leafy)))
       by (leaf p x k) e =
           found p x k e (subst (TreeHolds (HasKnownEvents libs own r.state.names.number)) e h.known) (binder_of u.frames r.leaf) refl
           (sym (label_by-row u.frames (symbol_of r.leaf) (stamps_of r.leaf)) ∙ h.now)
       by (pair p a d) e = absurd (let f : is_leaf (pair p a d) ≡ true = subst (λ (t : Tree). is_leaf t ≡ true) e h.leafy in cc)
-      by (vector p d) e = absurd (let f : is_leaf (vector p d) ≡ true = subst (λ (t : Tree). is_leaf t ≡ true) e h.leafy in cc)
+      by (vector p d) e = absurd (true≢false (sym (subst (λ (t : Tree). is_leaf t ≡ true) e h.leafy)))
 
   pub all-right : (u : State) (refs : List Reference) → Each (Kept libs own core new u) refs → Each (IsRight libs own u) refs
   all-right u refs h = each_mapped (Kept libs own core new u) (IsRight libs own u) (right-so u) refs h
