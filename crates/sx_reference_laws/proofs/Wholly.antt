@@ -39,27 +39,28 @@ module _ (libs : List LibName) (own : LibName) (core : Among libs library.Core) 
       found p x k e g None i j = absurd (cc)
       found p x k e g (Some q) i j =
           let said : Some q.label ≡ Some r.label = j in
-          let same : q.label ≡ r.label = cc in record {
-        span = p;
-        symbol = x;
-        context = k;
-        leaf = e;
-        history = g;
-        code = h.code;
-        stood = h.stood;
-        now = h.now;
-        row = q;
-        captures = i;
-        binder = same;
-        hygienic = captures-hygienic libs own r.state.names.number p x k g u.frames q (subst (λ (t : Tree). Captures u.frames q t) e i);
-      }
+          let same : q.label ≡ r.label = cc in
+          record {
+            span = p;
+            symbol = x;
+            context = k;
+            leaf = e;
+            history = g;
+            code = h.code;
+            stood = h.stood;
+            now = h.now;
+            row = q;
+            captures = i;
+            binder = same;
+            hygienic = captures-hygienic libs own r.state.names.number p x k g u.frames q (subst (λ (t : Tree). Captures u.frames q t) e i);
+          }
 
       by : (t : Tree) → r.leaf ≡ t → IsRight libs own u r
       by (atom p a) e = absurd (true≢false (sym (subst (λ (t : Tree). is_leaf t ≡ true) e h.leafy)))
       by (leaf p x k) e =
           found p x k e (subst (TreeHolds (HasKnownEvents libs own r.state.names.number)) e h.known) (binder_of u.frames r.leaf) refl
           (sym (label_by-row u.frames (symbol_of r.leaf) (stamps_of r.leaf)) ∙ h.now)
-      by (pair p a d) e = absurd (let f : is_leaf (pair p a d) ≡ true = subst (λ (t : Tree). is_leaf t ≡ true) e h.leafy in cc)
+      by (pair p a d) e = absurd (true≢false (sym (subst (λ (t : Tree). is_leaf t ≡ true) e h.leafy)))
       by (vector p d) e = absurd (true≢false (sym (subst (λ (t : Tree). is_leaf t ≡ true) e h.leafy)))
 
   pub all-right : (u : State) (refs : List Reference) → Each (Kept libs own core new u) refs → Each (IsRight libs own u) refs
