@@ -207,9 +207,9 @@ module _ (libs : List LibName) (own : LibName) (core : Among libs library.Core) 
 
         -- Lists: what one comes to, and what the others come to after it.
 
-        module _ {X A : Type 0} (step : X → Does A) (Known : ℕ → X → Type 0) (up : (m n : ℕ) → m ≤ n → (x : X) → Known m x → Known n x) (One : X → State → A → State → List Reference → Type 0) (All : List X → State → List A → State → List Reference → Type 0) (m : A → List Label) (ms : List A → List Label) (nothing : (s : State) → All [] s [] s []) (another : (x : X) (xs : List X) (s v u : State) (a : A) (as : List A) (refs others : List Reference) → One x s a v refs → All xs v as u others → All (x ∷ xs) s (a ∷ as) u (refs ++ others)) (empty : ms [] ≡ []) (apart : (a : A) (as : List A) → ms (a ∷ as) ≡ m a ++ ms as) (one : (x : X) (s : State) → F s → Known s.names.number x → Gave (λ a u. Went s u × Made (One x s a u) (m a) u) (step x s)) where
+        module _ {X A : Type 0} (step : X → Does A) (Known : ℕ → X → Type 0) (up : (m n : ℕ) → m ≤ n → (x : X) → Known m x → Known n x) (One : X → State → A → State → List Reference → Type 0) (All : List X → State → List A → State → List Reference → Type 0) (m : A → List Label) (ms : List A → List Label) (nothing : (s : State) → All [] s [] s []) (another : (x : X) (xs : List X) (s v u : State) (a : A) (made : List A) (refs others : List Reference) → One x s a v refs → All xs v made u others → All (x ∷ xs) s (a ∷ made) u (refs ++ others)) (empty : ms [] ≡ []) (apart : (a : A) (made : List A) → ms (a ∷ made) ≡ m a ++ ms made) (one : (x : X) (s : State) → F s → Known s.names.number x → Gave (λ a u. Went s u × Made (One x s a u) (m a) u) (step x s)) where
           abbrev AllMade : List X → State → List A → State → Type 0
-          AllMade xs s as u = Went s u × Made (All xs s as u) (ms as) u
+          AllMade xs s made u = Went s u × Made (All xs s made u) (ms made) u
 
           pub each-went : (xs : List X) (s : State) → F s → Each (Known s.names.number) xs → Gave (AllMade xs s) (each step [] xs s)
           each-went [] s h k =
@@ -220,11 +220,11 @@ module _ (libs : List LibName) (own : LibName) (core : Among libs library.Core) 
               (gave-after (λ a u. Went s u × Made (One x s a u) (m a) u) (AllMade (x ∷ xs) s) (step x s) (λ a t. after (each step [] xs t) (λ ys. give (a ∷ ys))) (one x s h k.0)
               (λ a v w. gave-after (AllMade xs v) (AllMade (x ∷ xs) s) (each step [] xs v) (λ ys. give (a ∷ ys))
               (each-went xs v (goes s v h w.0) (each_mapped (Known s.names.number) (Known v.names.number) (up s.names.number v.names.number w.0.from.stage.up) xs k.1))
-              (λ as u z. (
+              (λ made u z. (
                 staying.went-then libs own core new first s v u w.0 z.0,
-                staying.made-so libs own core new (All (x ∷ xs) s (a ∷ as) u) (All (x ∷ xs) s (a ∷ as) u) (m a ++ ms as) (ms (a ∷ as)) u
-                    (staying.made-joined libs own core new (One x s a v) (All xs v as u) (All (x ∷ xs) s (a ∷ as) u) (m a) (ms as) v u z.0.later w.1 z.1 (λ refs others i j. another x xs s v u a as refs others i j))
-                    (λ refs i. i) (apart a as),
+                staying.made-so libs own core new (All (x ∷ xs) s (a ∷ made) u) (All (x ∷ xs) s (a ∷ made) u) (m a ++ ms made) (ms (a ∷ made)) u
+                    (staying.made-joined libs own core new (One x s a v) (All xs v made u) (All (x ∷ xs) s (a ∷ made) u) (m a) (ms made) v u z.0.later w.1 z.1 (λ refs others i j. another x xs s v u a made refs others i j))
+                    (λ refs i. i) (apart a made),
               ))))
 
         pub order-went : (place : Span) (level depth : ℕ) (ts : List Tree) (s : State) → F s → Ts s.names.number ts → Gave (Goes (FormsMade place level ts s) s) (in_order go place level depth ts s)
