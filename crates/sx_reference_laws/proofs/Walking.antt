@@ -366,7 +366,7 @@ module _ (libs : List LibName) (own : LibName) (core : Among libs library.Core) 
             (staying.gave-from libs own core new first (λ n x. Unit {0}) (counted s) bound (standing.bind-formals-holds own K J P lives first f place level ids (counted s) hs (items.formals-up own K J P lives first s.names.number (s.names.number + 1) (one-more s) ids k)))
             (λ x v z. gave-after (BodyMade place level t (map (stamp f) fs) v) (λ c u. CaseMade place level t ids fs s c (cut n u)) (body go place level depth t (map (stamp f) fs) v) (λ c. give (record { formals = x; body = c }))
             (body-made place level depth t (map (stamp f) fs) v (from-to (counted s) v hs z.0.0)
-            (stamps-hold own K J P lives v.names.number f fs (lives.frames (s.names.number + 1) v.names.number f z.0.0.stage.up (standing.frame-made own K J P lives first s h)) (trees-up s.names.number v.names.number (let up = z.0.0.stage.up in let one = one-more s in omega (arith, up, one)) fs g)))
+            (stamps-hold own K J P lives v.names.number f fs (lives.frames (s.names.number + 1) v.names.number f z.0.0.stage.up (standing.frame-made own K J P lives first s h)) (trees-up s.names.number v.names.number (let up : s.names.number + 1 ≤ v.names.number = z.0.0.stage.up in omega (arith, up)) fs g)))
             (λ c u y. staying.made-cut libs own core new (λ refs. IsBody rs place level t (map (stamp f) fs) v c u refs) (λ refs. Binds rs place level t ids fs s (record { formals = x; body = c }) (cut n u) refs) (mentions c) n u y (λ refs i. binds_formals z.1 i))))
 
         abbrev Case : Span → ℕ → Tree → LambdaCase → State → Lambda → State → List Reference → Type 0
@@ -420,7 +420,7 @@ module _ (libs : List LibName) (own : LibName) (core : Among libs library.Core) 
             (standing.bind-specs-holds own K J P lives first f place level bs (counted s) hs (each_mapped (standing.SpecAt own K J P lives first s.names.number) (standing.SpecAt own K J P lives first (s.names.number + 1)) (standing.spec-up own K J P lives first s.names.number (s.names.number + 1) one) bs k)))
             (λ ls v z.
             let hv = from-to (counted s) v hs z.0.0 in
-            let up = z.0.0.stage.up in
+            let up : s.names.number + 1 ≤ v.names.number = z.0.0.stage.up in
             gave-after (λ is w. Went v w × Made (Start rs place level f ls v is w) (init_mentions (inits is)) w) So (all_inits go place level depth f ls v) _
             (inits-went place level depth f ls v hv (forms.all-bound-in own K J P lives first f v.names.number ls z.0.1 (lives.frames (s.names.number + 1) v.names.number f up made)))
             (λ is w y.
@@ -458,7 +458,7 @@ module _ (libs : List LibName) (own : LibName) (core : Among libs library.Core) 
             (standing.pattern-holds own K J P lives first literals place x.pattern (counted s) hs (tree-up s.names.number (s.names.number + 1) one x.pattern k.0)))
             (λ p v z.
             let hv = from-to (counted s) v hs z.0.0 in
-            let up = z.0.0.stage.up in
+            let up : s.names.number + 1 ≤ v.names.number = z.0.0.stage.up in
             let bound = bind_pattern f place level p.variables v in
             gave-after (λ e w. (StateHolds own K P v.names.number w × Unit {0}) × (bound ≡ Ok (e, w))) So bound _
             (staying.gave-from libs own core new first (λ n e. Unit {0}) v bound (standing.bind-pattern-holds own K J P lives first f place level p.variables v hv z.0.1.1))
