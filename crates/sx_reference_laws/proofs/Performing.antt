@@ -206,7 +206,7 @@ module _ (libs : List LibName) (own : LibName) (core : Among libs library.Core) 
             gave-after (Goes (FormMade place level value s) s) (PlanMade place level t (plans.Assignment l value) s) (go.form place level depth value s) (λ c. give (assignment l c)) (form-went place level depth value s h k)
             (λ c u z. record {
               refs = record { leaf = q.1.0; state = s; label = l; code = variable l } ∷ z.1.refs;
-              is = assigns q.1.1.0 q.1.1.1 z.1.is;
+              is = assigns q.0 q.1.1.0 q.1.1.1 z.1.is;
               all = ap (λ ls. l ∷ ls) z.1.all;
               kept = (target-kept place t l value s u g z.0 q, z.1.kept);
             })
@@ -269,7 +269,7 @@ module _ (libs : List LibName) (own : LibName) (core : Among libs library.Core) 
             (staying.gave-from libs own core new first Ts s bound (forms.with-keywords-holds own K J P lives first go (walking.keeps libs own core new rs first held room) place level depth recursive bs fs s h k g))
             (λ xs v z. gave-less (SequenceMade xs v) (PlanMade place level t (plans.Keywords recursive bs fs) s) (in_sequence go place level depth xs v) (sequence-made xs v (from-to s v h z.0.0) z.0.1)
             (λ c u y. subst (λ (x : PlainCore). PlanMade place level t (plans.Keywords recursive bs fs) s x u) (sym y.1.0)
-            (staying.made-so libs own core new (λ refs. Expand rs place level xs v y.0 u refs) (λ refs. Performs rs place level t (plans.Keywords recursive bs fs) s (sequence_of y.0) u refs) (mentions c) (mentions (sequence_of y.0)) u y.1.1 (λ refs i. has_keywords z.1 i) (ap mentions (sym y.1.0)))))
+            (staying.made-so libs own core new (λ refs. Expand rs place level xs v y.0 u refs) (λ refs. Performs rs place level t (plans.Keywords recursive bs fs) s (sequence_of y.0) u refs) (mentions c) (mentions (sequence_of y.0)) u y.1.1 (λ refs i. has_keywords room depth z.1 i) (ap mentions (sym y.1.0)))))
 
         -- Quasi forms.
 
@@ -314,7 +314,7 @@ module _ (libs : List LibName) (own : LibName) (core : Among libs library.Core) 
             gave-less (λ c u. Later own w u × ((mentions c ≡ all_mentions (cores cs)) × (code ≡ Ok (c, u)))) So code
             (gave-both (λ c u. Later own w u) (λ c u. (mentions c ≡ all_mentions (cores cs)) × (code ≡ Ok (c, u))) code (moved-code own place level t q cs w (goes v w hv y.0.0).stage.library) (gave-both (λ c u. mentions c ≡ all_mentions (cores cs)) (λ c u. code ≡ Ok (c, u)) code (code-said place level t depth q cs w y.1.0 y.1.1) (staying.gave-is code)))
             (λ c u x. staying.made-so libs own core new (λ refs. Fill rs place level ps v cs w refs) (λ refs. Performs rs place level t (plans.Quasi which template) s c u refs) (all_mentions (cores cs)) (mentions c) u
-            (staying.made-later libs own core new (λ refs. Fill rs place level ps v cs w refs) (all_mentions (cores cs)) w u x.0 y.0.1) (λ refs i. fills z.1 i x.1.1) x.1.0)))
+            (staying.made-later libs own core new (λ refs. Fill rs place level ps v cs w refs) (all_mentions (cores cs)) w u x.0 y.0.1) (λ refs i. fills depth z.1 i x.1.1) x.1.0)))
 
       perform-made : (place : Span) (level depth : ℕ) (t : Tree) (p : Plan) (s : State) → F s → T s.names.number t → plan.PlanAt own K J P lives first s.names.number p → Plans place t p s → Gave (PlanMade place level t p s) (perform go place level depth t p s)
       unfolding perform

@@ -344,7 +344,7 @@ module _ (libs : List LibName) (own : LibName) (core : Among libs library.Core) 
             (λ d v z. gave-less (FinishMade level d v) (λ c u. BodyMade place level t fs s c (cut n u)) (finish go place level t d v) (finish-made place level t d v (from-to (counted s) v hs z.0.0) z.0.1)
             (λ c u y. subst (λ (x : PlainCore). BodyMade place level t fs s x (cut n u)) y.1.0 (record {
               refs = of_definitions y.0 ++ of_expressions y.0;
-              is = is_body z.1 y.1.1.0;
+              is = is_body room depth z.1 y.1.1.0;
               all = body-said y.0 u y.1.1.1;
               kept = staying.all-cut libs own core new n u (of_definitions y.0 ++ of_expressions y.0) (each_both (Kept u) (of_definitions y.0) (of_expressions y.0) (definitions-kept y.0 u y.1.1.1) (expressions-kept y.0 u y.1.1.1));
             }))))

@@ -109,8 +109,8 @@ mutual
     chooses : {place : Span} {level : ℕ} {t test consequent other : Tree} {s v w u : State} {c d e : PlainCore} {refs more last : List Reference}
         → Expands rs place level test s c v refs → Expands rs place level consequent v d w more → Expands rs place level other w e u last
         → Performs rs place level t (plans.Conditional test consequent (Some other)) s (two_armed c d e) u (refs ++ (more ++ last))
-    assigns : {place : Span} {level : ℕ} {t id value : Tree} {f : CoreForm} {s u : State} {l : Label} {c : PlainCore} {refs : List Reference}
-        → shape f t place ≡ Ok (shapes.Set id value) → stands s.frames id ≡ Some l → Expands rs place level value s c u refs
+    assigns : {place : Span} {level : ℕ} {t id value : Tree} {s u : State} {l : Label} {c : PlainCore} {refs : List Reference}
+        → (f : CoreForm) → shape f t place ≡ Ok (shapes.Set id value) → stands s.frames id ≡ Some l → Expands rs place level value s c u refs
         → Performs rs place level t (plans.Assignment l value) s (assignment l c) u (record { leaf = id; state = s; label = l; code = variable l } ∷ refs)
     follows : {place : Span} {level : ℕ} {t : Tree} {forms : List Tree} {s u : State} {cs : List PlainCore} {refs : List Reference}
         → Expand rs place level forms s cs u refs → Performs rs place level t (plans.Sequence forms) s (sequence_of cs) u refs
@@ -129,12 +129,12 @@ mutual
         → Expands rs place level subject s c v refs → check_literals place literals v ≡ Ok (x, w) → Match rs place level literals xs w cs u more
         → Performs rs place level t (plans.Matching subject literals xs span) s (matching c (clauses cs) span) u (refs ++ more)
     -- the keywords are bound, and their transformers evaluated, before the forms
-    has_keywords : {place : Span} {level room depth : ℕ} {t : Tree} {recursive : Bool} {bs : List BindingSpec} {forms stamped : List Tree} {s v u : State} {cs : List PlainCore} {refs : List Reference}
-        → with_keywords (inside rs room) place level depth recursive bs forms s ≡ Ok (stamped, v) → Expand rs place level stamped v cs u refs
+    has_keywords : {place : Span} {level : ℕ} {t : Tree} {recursive : Bool} {bs : List BindingSpec} {forms stamped : List Tree} {s v u : State} {cs : List PlainCore} {refs : List Reference}
+        → (room depth : ℕ) → with_keywords (inside rs room) place level depth recursive bs forms s ≡ Ok (stamped, v) → Expand rs place level stamped v cs u refs
         → Performs rs place level t (plans.Keywords recursive bs forms) s (sequence_of cs) u refs
     -- all variables in the code are those of the parts
-    fills : {place : Span} {level depth : ℕ} {t template : Tree} {which : Family} {s v w u : State} {q : QuasiForm} {c : PlainCore} {cs : List PlainCore} {refs : List Reference}
-        → quasi.form_of place t which template s ≡ Ok (q, v) → Fill rs place level (quasi.parts_of t depth q) v cs w refs → quasi.code_of place level t q cs w ≡ Ok (c, u)
+    fills : {place : Span} {level : ℕ} {t template : Tree} {which : Family} {s v w u : State} {q : QuasiForm} {c : PlainCore} {cs : List PlainCore} {refs : List Reference}
+        → (depth : ℕ) → quasi.form_of place t which template s ≡ Ok (q, v) → Fill rs place level (quasi.parts_of t depth q) v cs w refs → quasi.code_of place level t q cs w ≡ Ok (c, u)
         → Performs rs place level t (plans.Quasi which template) s c u refs
 
   -- forms, one after another
@@ -189,8 +189,8 @@ mutual
 
   -- A body: its frame is stamped on its forms, of which the first pass takes what waits for the second.
   pub data IsBody (rs : List LibRecord) : Span → ℕ → Tree → List Tree → State → PlainCore → State → List Reference → Type 0 where
-    is_body : {place : Span} {level room depth : ℕ} {t : Tree} {forms : List Tree} {s v u : State} {d : Taken} {xs : List Told}
-        → splice (inside rs room) (lambda_at (record { 0 = s.names }) place level) depth begun (map (stamp (record { 0 = s.names })) forms) (counted s) ≡ Ok (d, v)
+    is_body : {place : Span} {level : ℕ} {t : Tree} {forms : List Tree} {s v u : State} {d : Taken} {xs : List Told}
+        → (room depth : ℕ) → splice (inside rs room) (lambda_at (record { 0 = s.names }) place level) depth begun (map (stamp (record { 0 = s.names })) forms) (counted s) ≡ Ok (d, v)
         → Finish rs level d.waiting v xs u → IsBody rs place level t forms s (body_core (lines xs)) (cut (length s.scope) u) (of_definitions xs ++ of_expressions xs)
 
   pub data Finish (rs : List LibRecord) : ℕ → List Waiting → State → List Told → State → Type 0 where
