@@ -1,14 +1,13 @@
 -- Each leaf has a history in which no use introduces it twice.
-use Rattle.std.proofs.Common.{◌≡◌, ◌≢◌, ◌≤◌, ◌<◌, ℕ, suc, Bool, true, false, List, [], ◌∷◌, ◌++◌, map, Option, None, Some, refl, sym, ap, ◌∙◌, subst, arith, cond, inl, inr}
+use Rattle.std.proofs.Common.{◌≡◌, ◌≢◌, ◌≤◌, ◌<◌, ℕ, suc, true, false, List, [], ◌∷◌, ◌++◌, map, Option, None, refl, sym, ap, ◌∙◌, subst, arith, cond, inl, inr}
 use Rattle.std.specs.Prelude.{IsFalse}
 use Rattle.sx_base.specs.declared.library.LibName.{LibName}
 use Rattle.sx_base.specs.declared.library.LibName.TheVariants as library
 use Rattle.sx_base.specs.declared.name.FrameNo.{FrameNo}
 use Rattle.sx_base.specs.declared.name.Mark.{Mark}
-use Rattle.sx_tree.specs.Context.{LeafContext, blank, entered, left, act, acts}
-use Rattle.sx_tree.specs.declared.change.Change.{Change}
+use Rattle.sx_tree.specs.Context.{LeafContext, entered, left, act, acts}
 use Rattle.sx_quasi.specs.QuasiSyntax.{core_mark}
-use Rattle.sx_hygiene_laws.specs.History.{Event, stamped, introduced, change_of, uses, IsOnce, after}
+use Rattle.sx_hygiene_laws.specs.History.{Event, stamped, introduced, change_of, uses, IsOnce}
 use Rattle.sx_hygiene_laws.specs.Marked.{has_mark, Among}
 use Rattle.sx_hygiene_laws.proofs.Marking.{same_mark-self, same_mark-differs, lacks_first}
 use Rattle.sx_hygiene_laws.proofs.Using.{left_introduced, left_came_in, marks_introduced}

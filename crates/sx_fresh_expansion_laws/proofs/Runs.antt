@@ -1,12 +1,11 @@
 -- What is evaluated on a stage keeps that all on it may be met.
-use Rattle.std.proofs.Common.{◌≡◌, ◌≤◌, ◌<◌, ◌+◌, ℕ, Bool, true, false, List, [], ◌∷◌, length, Option, None, Some, Result, Ok, Err, arith, slice_get, if◌then◌else◌}
+use Rattle.std.proofs.Common.{◌≡◌, ◌≤◌, ℕ, Bool, true, false, List, [], ◌∷◌, length, Option, None, Some, Result, Ok, Err, arith, slice_get, if◌then◌else◌}
 use Rattle.indexmap.specs.IndexMap.{insert_entry}
 use Rattle.sx_base.specs.Act.{after, give}
 use Rattle.sx_base.specs.Gives.{◌>>=◌}
 use Rattle.sx_base.specs.Named.{Named}
 use Rattle.sx_base.specs.declared.fault.Fault.{Fault}
 use Rattle.sx_base.specs.declared.library.LibName.{LibName}
-use Rattle.sx_base.specs.declared.name.FrameNo.{FrameNo}
 use Rattle.sx_base.specs.declared.name.Label.{Label}
 use Rattle.sx_base.specs.declared.name.Mark.{Mark}
 use Rattle.sx_base.specs.declared.span.Span.{Span}
@@ -45,7 +44,7 @@ use Rattle.sx_fresh_laws.proofs.Eachs.{each_at, each_and, each_taken, each_mappe
 use Rattle.sx_fresh_laws.proofs.Meaning.{holds-eval, holds-call, holds-lines}
 use Rattle.sx_fresh_laws.proofs.Read.{ReadHolds, read-holds}
 use Rattle.sx_fresh_laws.proofs.Variables.{looked_up, EntriesHold}
-use Rattle.sx_fresh_laws.proofs.Wider.{tree_wider, value_wider, cells_wider, core_wider, codes_wider, globals_wider, lines_wider}
+use Rattle.sx_fresh_laws.proofs.Wider.{value_wider, cells_wider, core_wider, codes_wider, globals_wider, lines_wider}
 use Rattle.sx_fresh_expansion_laws.specs.States.{ExpressionHolds, KeywordHolds, KeywordsHold, RecordsHold, StageHolds}
 use Rattle.sx_fresh_expansion_laws.proofs.Changing.{rows-wider}
 

@@ -12,7 +12,6 @@ use Rattle.sx_base.specs.declared.span.Span.{Span}
 use Rattle.sx_tree.specs.Changes.{enter, leave}
 use Rattle.sx_tree.specs.Context.{LeafContext, blank}
 use Rattle.sx_tree.specs.Tree.{Tree}
-use Rattle.sx_tree.specs.declared.change.Change.TheVariants as change
 use Rattle.sx_frames.specs.Scope.{Scope, bound}
 use Rattle.sx_scope.specs.Stands.{row_for}
 use Rattle.sx_core.specs.Bindings.{bound_to}

@@ -1,7 +1,6 @@
 -- What captures a leaf, by its history.
 use Rattle.std.proofs.Common.{◌≡◌, ◌≢◌, ℕ, Bool, true, false, List, [], ◌∷◌, ◌++◌, map, Option, Some, refl, sym, ap, ◌∙◌, subst, cond, inl, inr, true≢false}
 use Rattle.std.specs.Prelude.{◌⊎◌, IsSomeAnd, IsFalse}
-use Rattle.sx_base.specs.declared.library.LibName.{LibName}
 use Rattle.sx_base.specs.declared.name.FrameNo.{FrameNo}
 use Rattle.sx_base.specs.declared.name.Mark.{Mark}
 use Rattle.sx_base.specs.declared.span.Span.{Span}
@@ -12,15 +11,14 @@ use Rattle.sx_tree.specs.Tree.{leaf}
 use Rattle.sx_frames.specs.Rows.{Row}
 use Rattle.sx_frames.specs.Scope.{Scope}
 use Rattle.sx_hygiene_laws.specs.Binder.{binder_of, Captures, IsOfUse}
-use Rattle.sx_hygiene_laws.specs.History.{Event, stamped, introduced, change_of, uses, IsOnce, after, IsStart}
+use Rattle.sx_hygiene_laws.specs.History.{Event, stamped, introduced, change_of, uses, IsOnce, after}
 use Rattle.sx_hygiene_laws.specs.Hygiene.{IsOwnOr}
 use Rattle.sx_hygiene_laws.specs.Marked.{has_mark, Among, Spares}
 use Rattle.sx_hygiene_laws.proofs.Living.{by_same_uses}
 use Rattle.sx_hygiene_laws.proofs.Marking.{same_mark-self, lacks_first}
 use Rattle.sx_hygiene_laws.proofs.Using.{brought_in}
-use Rattle.sx_fresh_expansion_laws.specs.Events.{HasKnownEvents}
 use Rattle.sx_fresh_expansion_laws.proofs.Once.{marks-after}
-use Rattle.sx_reference_laws.specs.Captured.{IsIntroducedBy, IsHygienic, CapturesAreHygienic}
+use Rattle.sx_reference_laws.specs.Captured.{IsIntroducedBy, CapturesAreHygienic}
 
 -- A mark that a leaf has was there, or a use introduced the leaf.
 

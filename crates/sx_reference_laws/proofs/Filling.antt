@@ -1,18 +1,13 @@
 -- The variables in the code of a quasi form are those of its parts.
-use Rattle.std.proofs.Common.{◌≡◌, ◌≤◌, ◌+◌, ℕ, zero, suc, Bool, true, false, List, [], ◌∷◌, ◌++◌, map, length, Result, Ok, Err, refl, sym, ap, ◌∙◌, subst, arith, append-nil, append_assoc, length-append, true≢false, if◌then◌else◌}
+use Rattle.std.proofs.Common.{◌≡◌, ◌≤◌, ◌+◌, ℕ, Bool, true, false, List, [], ◌∷◌, ◌++◌, length, refl, sym, ap, ◌∙◌, subst, arith, append-nil, append_assoc, length-append, true≢false, if◌then◌else◌}
 use Rattle.std.specs.Prelude.{nat_lt}
-use Rattle.sx_base.specs.Act.{after, give, each}
-use Rattle.sx_base.specs.declared.fault.Fault.{Fault}
-use Rattle.sx_base.specs.declared.fault.FaultKind.TheVariants as kind
-use Rattle.sx_base.specs.declared.name.FrameNo.{FrameNo}
-use Rattle.sx_base.specs.declared.name.Label.{Label}
+use Rattle.sx_base.specs.Act.{after, give}
 use Rattle.sx_base.specs.declared.span.Span.{Span}
 use Rattle.sx_tree.specs.Changes.{stamp}
 use Rattle.sx_tree.specs.Tree.{Tree}
 use Rattle.sx_core.specs.Core.{PlainCore, instance, cores}
 use Rattle.sx_core.specs.References.{mentions, all_mentions}
 use Rattle.sx_core.specs.Template.{PlainTemplate}
-use Rattle.sx_core.specs.declared.record.LibRecord.{LibRecord}
 use Rattle.sx_pattern.specs.declared.compile.PatternVariable.{PatternVariable}
 use Rattle.sx_quasi.specs.Plan as quasi
 use Rattle.sx_quasi.specs.Plan.{PlainQuasi, PlainQuasis, constant, expression, none, more}
@@ -20,8 +15,8 @@ use Rattle.sx_quasi.specs.declared.quasi_syntax.Insert.{Insert}
 use Rattle.sx_quasi.specs.declared.quasi_syntax.QuasiSyntax.{QuasiSyntax}
 use Rattle.sx_quasi_code.specs.Filled.{next_code, filled, all_filled}
 use Rattle.sx_quasi_code.specs.Form.{parts_of, code_of}
-use Rattle.sx_quasi_code.specs.Inserted.{insert_variables, match_of, bind_inserts, inserted_in, inserted, plain_instance, syntax_code}
-use Rattle.sx_quasi_code.specs.Parts.{part, with_made, quasi_parts, all_quasi_parts, insert_part, inserts_parts}
+use Rattle.sx_quasi_code.specs.Inserted.{insert_variables, match_of, bind_inserts, inserted_in, inserted, syntax_code}
+use Rattle.sx_quasi_code.specs.Parts.{part, with_made, quasi_parts, all_quasi_parts, inserts_parts}
 use Rattle.sx_quasi_code.specs.declared.form.QuasiForm.{QuasiForm}
 use Rattle.sx_quasi_code.specs.declared.form.QuasiForm.TheVariants as forms
 use Rattle.sx_quasi_code.specs.declared.parts.Part.{Part}
@@ -31,7 +26,6 @@ use Rattle.sx_standing.specs.State.{State, fresh_frame}
 use Rattle.sx_heads.specs.Depth.{deeper}
 use Rattle.sx_value.specs.Cells.{Each}
 use Rattle.sx_expand_laws.proofs.Acts.{Gave, gave-any, gave-after, gave-within}
-use Rattle.sx_fresh_laws.proofs.Eachs.{each_both}
 
 -- how many expressions there are in a plan
 abbrev mutual

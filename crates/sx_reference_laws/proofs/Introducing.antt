@@ -1,6 +1,6 @@
 -- What a use gives has leaves of its form, and others with its mark.
-use Rattle.std.proofs.Common.{◌≡◌, ◌≢◌, ◌≤◌, ◌<◌, ◌+◌, ℕ, Bool, true, false, List, [], ◌∷◌, ◌++◌, length, Option, None, Some, Result, Ok, Err, refl, sym, ap, ◌∙◌, subst, arith, cond, slice_get, inl, inr}
-use Rattle.std.specs.Prelude.{◌⊎◌, IsTrue, IsFalse}
+use Rattle.std.proofs.Common.{◌≡◌, ◌≢◌, ◌≤◌, ◌+◌, ℕ, List, [], ◌∷◌, ◌++◌, length, Option, None, Some, Result, Ok, Err, refl, sym, ap, ◌∙◌, subst, arith, slice_get, inl, inr}
+use Rattle.std.specs.Prelude.{◌⊎◌, IsFalse}
 use Rattle.sx_base.specs.Act.{after, give}
 use Rattle.sx_base.specs.declared.fault.Fault.{Fault}
 use Rattle.sx_base.specs.declared.library.LibName.{LibName}
@@ -9,13 +9,12 @@ use Rattle.sx_base.specs.declared.name.FrameNo.{FrameNo}
 use Rattle.sx_base.specs.declared.name.Mark.{Mark}
 use Rattle.sx_base.specs.declared.span.Span.{Span}
 use Rattle.sx_tree.specs.Changes.{enter, leave}
-use Rattle.sx_tree.specs.Context.{LeafContext, blank, entered, left}
+use Rattle.sx_tree.specs.Context.{LeafContext, entered, left}
 use Rattle.sx_tree.specs.Leaves.{contexts}
 use Rattle.sx_tree.specs.Marks.{is_first}
 use Rattle.sx_tree.specs.Tree.{Tree, atom, leaf, pair, vector}
 use Rattle.sx_core.specs.declared.core_form.CoreForm.{CoreForm}
 use Rattle.sx_records.specs.Forms.{record_forms}
-use Rattle.sx_records.specs.Introduced.{core_frame}
 use Rattle.sx_records.specs.Names.{record_uid}
 use Rattle.sx_value.specs.Cells.{transformer_in}
 use Rattle.sx_value.specs.ToSyntax.{Reading, to_syntax}
@@ -35,8 +34,7 @@ use Rattle.sx_hygiene_laws.specs.Marked.{Among}
 use Rattle.sx_hygiene_laws.proofs.Marking.{same_mark-self, same_mark-differs, lacks_first}
 use Rattle.sx_hygiene_laws.proofs.Using.{left_came_in, marks_introduced}
 use Rattle.sx_fresh_laws.specs.Leaves.{OptionHolds, TreeHolds, ValueHolds, CellHolds, CellsHold}
-use Rattle.sx_fresh_laws.specs.Names.{Rises, SettingHolds, OutcomeHolds, temporary_context}
-use Rattle.sx_fresh_laws.specs.Names as names
+use Rattle.sx_fresh_laws.specs.Names.{Rises, SettingHolds, OutcomeHolds}
 use Rattle.sx_fresh_laws.proofs.Eachs.{each_at}
 use Rattle.sx_fresh_laws.proofs.Meaning.{holds-call}
 use Rattle.sx_fresh_laws.proofs.Read.{ReadHolds, read-holds}
@@ -44,7 +42,7 @@ use Rattle.sx_fresh_laws.proofs.Trees.{OkHolds}
 use Rattle.sx_fresh_laws.proofs.Wider.{value_wider, cells_wider, codes_wider, globals_wider}
 use Rattle.sx_fresh_expansion_laws.specs.Known.{IsKnown, HasKnown, IsNewAmong}
 use Rattle.sx_fresh_expansion_laws.specs.States.{StageHolds, StateHolds}
-use Rattle.sx_fresh_expansion_laws.proofs.Knowing.{lacks-it, lives-known}
+use Rattle.sx_fresh_expansion_laws.proofs.Knowing.{lacks-it}
 use Rattle.sx_fresh_expansion_laws.proofs.Records.{record-holds}
 use Rattle.sx_reference_laws.specs.Introduced.{IsOfFormOrUse, UsesIntroduceTheRest}
 

@@ -1,6 +1,6 @@
 -- Whole forms: what expansion gives is related to its form, and refers to what identifiers stand for, however deep forms nest.
-use Rattle.std.proofs.Common.{◌≡◌, ◌≤◌, ◌+◌, ℕ, zero, suc, Bool, true, false, List, [], ◌∷◌, ◌++◌, length, Option, None, Some, Result, Ok, Err, refl, sym, ap, ◌∙◌, subst, arith, append-nil, inl, inr, if◌then◌else◌}
-use Rattle.std.specs.Prelude.{◌⊎◌, nat_lt}
+use Rattle.std.proofs.Common.{◌≡◌, ◌≤◌, ◌+◌, ℕ, zero, suc, Bool, true, false, List, [], ◌∷◌, ◌++◌, length, Option, None, Some, Result, Ok, refl, sym, ap, ◌∙◌, subst, arith, append-nil, inl, inr, if◌then◌else◌}
+use Rattle.std.specs.Prelude.{nat_lt}
 use Rattle.sx_base.specs.Act.{after, give, each}
 use Rattle.sx_base.specs.declared.fault.Fault.{Fault}
 use Rattle.sx_base.specs.declared.fault.FaultKind.TheVariants as kind
@@ -19,16 +19,12 @@ use Rattle.sx_core.specs.References.{mentions, all_mentions, case_mentions, clau
 use Rattle.sx_core.specs.declared.record.LibRecord.{LibRecord}
 use Rattle.sx_quasi.specs.declared.word.Family.{Family}
 use Rattle.sx_quasi_code.specs.Form.{form_of, parts_of, code_of}
-use Rattle.sx_quasi_code.specs.declared.form.QuasiForm.{QuasiForm}
 use Rattle.sx_quasi_code.specs.declared.parts.Part.{Part}
-use Rattle.sx_shapes.specs.Forms.{shape}
 use Rattle.sx_shapes.specs.Lists.{is_leaf}
 use Rattle.sx_shapes.specs.declared.shape.BindingSpec.{BindingSpec}
 use Rattle.sx_shapes.specs.declared.shape.FormalIds.{FormalIds}
 use Rattle.sx_shapes.specs.declared.shape.LambdaCase.{LambdaCase}
 use Rattle.sx_shapes.specs.declared.shape.PatternCase.{PatternCase}
-use Rattle.sx_shapes.specs.declared.shape.Shape.{Shape}
-use Rattle.sx_shapes.specs.declared.shape.Shape.TheVariants as shapes
 use Rattle.sx_standing.specs.Patterns.{check_literals}
 use Rattle.sx_standing.specs.State.{State, fresh, fault_form}
 use Rattle.sx_heads.specs.Depth.{deeper}
@@ -63,9 +59,8 @@ use Rattle.sx_fresh_expansion_laws.proofs.Settled as settled
 use Rattle.sx_fresh_expansion_laws.proofs.Shapes.{FormalsHold, LambdaHolds, PatternCaseHolds, ShapeHolds, shape-holds}
 use Rattle.sx_fresh_expansion_laws.proofs.Standing as standing
 use Rattle.sx_reference_laws.specs.Expands.{Reference, counted, Expands, settles, Performs, refers, is_done, calls, tests, chooses, assigns, follows, makes, makes_cases, matches_one, has_keywords, fills, Expand, Fill, no_part, part, Binds, Bind, Match}
-use Rattle.sx_reference_laws.specs.Whole.{mentioned}
 use Rattle.sx_reference_laws.proofs.Filling.{IsLow, code-said}
-use Rattle.sx_reference_laws.proofs.Settling.{IsReference, IsConstant, IsTarget, Plans, Settles, settle-so}
+use Rattle.sx_reference_laws.proofs.Settling.{IsTarget, Plans, Settles, settle-so}
 use Rattle.sx_reference_laws.proofs.Staying as staying
 use Rattle.sx_reference_laws.proofs.Walking as walking
 

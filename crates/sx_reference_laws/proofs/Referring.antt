@@ -1,23 +1,14 @@
 -- An identifier that is expanded refers to the binder that captures it.
-use Rattle.std.proofs.Common.{◌≡◌, ℕ, List, Option, None, Some, Ok, refl, ◌∙◌, ap, subst, inl, inr}
+use Rattle.std.proofs.Common.{◌≡◌, Option, None, Some, refl, subst, inl, inr}
 use Rattle.std.specs.Prelude.{◌⊎◌, option_map}
-use Rattle.sx_base.specs.declared.library.LibName.{LibName}
 use Rattle.sx_base.specs.declared.name.Label.{Label}
-use Rattle.sx_base.specs.declared.span.Span.{Span}
-use Rattle.sx_tree.specs.Context.{LeafContext}
 use Rattle.sx_tree.specs.Tree.{leaf}
 use Rattle.sx_frames.specs.Rows.{Row}
-use Rattle.sx_core.specs.Core.{PlainCore}
-use Rattle.sx_core.specs.declared.record.LibRecord.{LibRecord}
 use Rattle.sx_scope.specs.Stands.{stands}
-use Rattle.sx_standing.specs.State.{State}
 use Rattle.sx_hygiene_laws.specs.Binder.{binder_of}
 use Rattle.sx_hygiene_laws.proofs.Rowing.{label_by-row}
-use Rattle.sx_expand.specs.Expression.{inside}
 use Rattle.sx_expand_laws.specs.Named.{RefersTo, IsUse}
 use Rattle.sx_expand_laws.proofs.Named.{references-named}
-use Rattle.sx_fresh_expansion_laws.specs.Events.{HasKnownEvents}
-use Rattle.sx_reference_laws.specs.Captured.{IsHygienic}
 use Rattle.sx_reference_laws.specs.Reference.{NamesItsBinder, ReferencesAreHygienic}
 use Rattle.sx_reference_laws.proofs.Capturing.{captures-hygienic}
 

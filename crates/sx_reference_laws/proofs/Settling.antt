@@ -11,7 +11,7 @@ use Rattle.sx_base.specs.declared.span.Span.{Span}
 use Rattle.sx_tree.specs.Tree.{Tree, atom, leaf, pair, vector}
 use Rattle.sx_scope.specs.Stands.{stands}
 use Rattle.sx_core.specs.Bindings.{bound_to}
-use Rattle.sx_core.specs.Core.{PlainCore, variable, quoted, instance}
+use Rattle.sx_core.specs.Core.{PlainCore, variable, instance}
 use Rattle.sx_core.specs.CoreForm.{at_number}
 use Rattle.sx_core.specs.References.{mentions}
 use Rattle.sx_core.specs.declared.binding.Binding.{Binding}
@@ -27,7 +27,7 @@ use Rattle.sx_shapes.specs.declared.shape.Shape.{Shape}
 use Rattle.sx_shapes.specs.declared.shape.Shape.TheVariants as shapes
 use Rattle.sx_standing.specs.Patterns.{template_of}
 use Rattle.sx_standing.specs.Standing.{label_standing, numbered_as, given_as, bound_as, standing_by, standing_of, role_of}
-use Rattle.sx_standing.specs.State.{State, Does, fault_form}
+use Rattle.sx_standing.specs.State.{State, Does}
 use Rattle.sx_standing.specs.Uses.{asks_variable}
 use Rattle.sx_standing.specs.declared.standing.Role.{Role}
 use Rattle.sx_standing.specs.declared.standing.Role.TheVariants as role

@@ -1,5 +1,5 @@
 -- What expansion gives is related to its form, and refers to what identifiers stand for, given that it is so inside forms.
-use Rattle.std.proofs.Common.{◌≡◌, ◌≤◌, ◌+◌, ℕ, Bool, true, false, List, [], ◌∷◌, ◌++◌, map, length, Option, None, Some, Result, Ok, Err, refl, sym, ap, ◌∙◌, subst, arith, append-nil, append_assoc, if◌then◌else◌}
+use Rattle.std.proofs.Common.{◌≡◌, ◌≤◌, ◌+◌, ℕ, Bool, true, List, [], ◌∷◌, ◌++◌, map, length, Option, None, Some, Result, Ok, refl, sym, ap, ◌∙◌, subst, arith, append-nil, append_assoc}
 use Rattle.sx_base.specs.Act.{after, give, each}
 use Rattle.sx_base.specs.declared.fault.Fault.{Fault}
 use Rattle.sx_base.specs.declared.library.LibName.{LibName}
@@ -11,25 +11,22 @@ use Rattle.sx_base.specs.declared.span.Span.{Span}
 use Rattle.sx_tree.specs.Changes.{stamp}
 use Rattle.sx_tree.specs.Context.{LeafContext}
 use Rattle.sx_tree.specs.Tree.{Tree}
-use Rattle.sx_core.specs.Core as code
-use Rattle.sx_core.specs.Core.{PlainCore, assignment, procedure, letrec, call, matching, cores, two_armed}
+use Rattle.sx_core.specs.Core.{PlainCore, procedure, letrec, cores}
 use Rattle.sx_core.specs.CoreView.{inits, cases, clauses, clause_on}
 use Rattle.sx_core.specs.References.{mentions, all_mentions, init_mentions, case_mentions, clause_mentions}
 use Rattle.sx_core.specs.declared.code.Clause.{Clause}
 use Rattle.sx_core.specs.declared.code.Init.{Init}
 use Rattle.sx_core.specs.declared.code.Lambda.{Lambda}
-use Rattle.sx_core.specs.declared.formals.Formals.{Formals}
 use Rattle.sx_core.specs.declared.record.LibRecord.{LibRecord}
 use Rattle.sx_core.specs.declared.record.Line.{Line}
 use Rattle.sx_core.specs.declared.record.Line.TheVariants as line
-use Rattle.sx_pattern.specs.declared.compile.Compiled.{Compiled}
 use Rattle.sx_shapes.specs.declared.shape.BindingSpec.{BindingSpec}
 use Rattle.sx_shapes.specs.declared.shape.FormalIds.{FormalIds}
 use Rattle.sx_shapes.specs.declared.shape.LambdaCase.{LambdaCase}
 use Rattle.sx_shapes.specs.declared.shape.PatternCase.{PatternCase}
 use Rattle.sx_standing.specs.Binders.{bind_specs, bind_formals}
 use Rattle.sx_standing.specs.InScope.{cut}
-use Rattle.sx_standing.specs.Patterns.{pattern_of, check_literals, bind_pattern}
+use Rattle.sx_standing.specs.Patterns.{pattern_of, bind_pattern}
 use Rattle.sx_standing.specs.State.{State, Does, fresh, fresh_frame}
 use Rattle.sx_standing.specs.declared.binders.BoundSpec.{BoundSpec}
 use Rattle.sx_heads.specs.Items.{begun}
@@ -43,13 +40,11 @@ use Rattle.sx_heads.specs.declared.taken.Waits.TheVariants as waits
 use Rattle.sx_hygiene_laws.specs.Marked.{Among}
 use Rattle.sx_value.specs.Cells.{Each}
 use Rattle.sx_expand.specs.Body.{splice, no_value, value_of, finish_as, finish_one, finish_all, sequence_of, inits_in, values_in, with_inits, body_core, finish, lambda_at, body_in, body}
-use Rattle.sx_expand.specs.Expression.{in_order, case_in, lambda_case, lambda, one_case, all_cases, case_lambda, one_init, all_inits, letrec_in, letrec_form, application, alternate, conditional, set, in_sequence, fender, clause_in, pattern_clause, all_clauses, syntax_case, keywords_form, inside}
+use Rattle.sx_expand.specs.Expression.{in_order, case_in, lambda_case, one_case, all_cases, one_init, all_inits, letrec_in, letrec_form, fender, clause_in, pattern_clause, all_clauses, inside}
 use Rattle.sx_expand.specs.Inside.{Inside}
-use Rattle.sx_expand.specs.Keywords.{with_keywords}
 use Rattle.sx_expand_laws.specs.States.{Later}
 use Rattle.sx_expand_laws.proofs.Acts.{Gave, gave-both, gave-after, gave-less, gave-if, gave-within, each-nil, each-cons}
-use Rattle.sx_expand_laws.proofs.Changes.{Moves, inside-moves, moved-body, moved-case, moved-init, moved-clause, moved-line}
-use Rattle.sx_expand_laws.proofs.Uses.{literals-later}
+use Rattle.sx_expand_laws.proofs.Changes.{Moves, inside-moves, moved-body, moved-case, moved-clause, moved-line}
 use Rattle.sx_fresh_laws.specs.Leaves.{OptionHolds, TreeHolds, CoreHolds, LineHolds}
 use Rattle.sx_fresh_laws.proofs.Eachs.{each_both, each_mapped}
 use Rattle.sx_fresh_expansion_laws.specs.Events.{HasKnownEvents}
@@ -64,7 +59,7 @@ use Rattle.sx_fresh_expansion_laws.proofs.Settled.{inside-keeps}
 use Rattle.sx_fresh_expansion_laws.proofs.Shapes.{FormalsHold, LambdaHolds, PatternCaseHolds}
 use Rattle.sx_fresh_expansion_laws.proofs.Standing as standing
 use Rattle.sx_reference_laws.specs.Expands.{Reference, Told, lines, if_definition, if_expression, of_definitions, of_expressions, counted}
-use Rattle.sx_reference_laws.specs.Expands.{Expands, Performs, calls, tests, chooses, follows, makes, makes_cases, binds_all, matches_one, has_keywords, Expand, none, more, Binds, binds_formals, Bind, no_case, case, Starts, starts_with, Start, no_init, init}
+use Rattle.sx_reference_laws.specs.Expands.{Expands, Performs, binds_all, Expand, none, more, Binds, binds_formals, Bind, no_case, case, Starts, starts_with, Start, no_init, init}
 use Rattle.sx_reference_laws.specs.Expands.{Matches, matches_pattern, Match, no_clause, clause, Asks, asks_nothing, asks_first, IsBody, is_body, Finish, no_line, next_line, Ends, declares, defines, defines_procedure, is_expression}
 use Rattle.sx_reference_laws.specs.Whole.{mentioned}
 use Rattle.sx_reference_laws.proofs.Staying as staying

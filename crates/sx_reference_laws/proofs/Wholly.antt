@@ -1,16 +1,14 @@
 -- The references of whole forms.
-use Rattle.std.proofs.Common.{◌≡◌, ℕ, true, List, Option, None, Some, Ok, refl, sym, ap, ◌∙◌, subst, true≢false}
+use Rattle.std.proofs.Common.{◌≡◌, ℕ, true, List, Option, None, Some, refl, sym, ◌∙◌, subst, true≢false}
 use Rattle.std.specs.Prelude.{option_map}
 use Rattle.sx_base.specs.declared.library.LibName.{LibName}
 use Rattle.sx_base.specs.declared.library.LibName.TheVariants as library
-use Rattle.sx_base.specs.declared.name.Label.{Label}
-use Rattle.sx_base.specs.declared.name.Mark.{Mark}
 use Rattle.sx_base.specs.declared.span.Span.{Span}
 use Rattle.sx_tree.specs.Context.{LeafContext}
 use Rattle.sx_tree.specs.Leaves.{stamps_of}
 use Rattle.sx_tree.specs.Tree.{Tree, atom, leaf, pair, vector}
 use Rattle.sx_frames.specs.Rows.{Row}
-use Rattle.sx_scope.specs.Stands.{symbol_of, stands}
+use Rattle.sx_scope.specs.Stands.{symbol_of}
 use Rattle.sx_shapes.specs.Lists.{is_leaf}
 use Rattle.sx_standing.specs.State.{State}
 use Rattle.sx_hygiene_laws.specs.Binder.{binder_of, Captures}
@@ -24,7 +22,7 @@ use Rattle.sx_fresh_laws.proofs.Eachs.{each_mapped}
 use Rattle.sx_fresh_expansion_laws.specs.Events.{HasKnownEvents}
 use Rattle.sx_fresh_expansion_laws.specs.Known.{IsNewAmong}
 use Rattle.sx_reference_laws.specs.Expands.{Reference}
-use Rattle.sx_reference_laws.specs.Whole.{IsRight, Tells, FormsAreHygienic}
+use Rattle.sx_reference_laws.specs.Whole.{IsRight, FormsAreHygienic}
 use Rattle.sx_reference_laws.proofs.Capturing.{captures-hygienic}
 use Rattle.sx_reference_laws.proofs.Performing.{all-traced}
 use Rattle.sx_reference_laws.proofs.Staying.{Kept}

@@ -1,7 +1,6 @@
 -- Expansion as a relation: which core code comes of a form in a state, which state is left, and which identifiers its references were, in the order
 -- of their places.
 use Rattle.std.specs.Prelude.{◌≡◌, ◌+◌, ℕ, Bool, true, false, List, [], ◌∷◌, ◌++◌, map, length, Option, None, Some, Ok}
-use Rattle.sx_base.specs.declared.name.CodeNo.{CodeNo}
 use Rattle.sx_base.specs.declared.name.FrameNo.{FrameNo}
 use Rattle.sx_base.specs.declared.name.Label.{Label}
 use Rattle.sx_base.specs.declared.span.Span.{Span}
@@ -34,7 +33,7 @@ use Rattle.sx_shapes.specs.declared.shape.Shape.TheVariants as shapes
 use Rattle.sx_standing.specs.Binders.{bind_specs, bind_formals}
 use Rattle.sx_standing.specs.InScope.{cut}
 use Rattle.sx_standing.specs.Patterns.{pattern_of, check_literals, bind_pattern}
-use Rattle.sx_standing.specs.State.{State, fresh, fresh_frame}
+use Rattle.sx_standing.specs.State.{State}
 use Rattle.sx_standing.specs.declared.binders.BoundSpec.{BoundSpec}
 use Rattle.sx_heads.specs.Items.{begun}
 use Rattle.sx_heads.specs.declared.plan.Plan.{Plan}

@@ -1,7 +1,6 @@
 -- What an identifier becomes that is expanded.
 use Rattle.std.specs.Prelude.{◌≡◌, ◌⊎◌, ℕ, List, Option, Some, Ok}
 use Rattle.sx_base.specs.declared.library.LibName.{LibName}
-use Rattle.sx_base.specs.declared.name.Label.{Label}
 use Rattle.sx_base.specs.declared.span.Span.{Span}
 use Rattle.sx_tree.specs.Context.{LeafContext}
 use Rattle.sx_tree.specs.Tree.{leaf}
@@ -14,7 +13,6 @@ use Rattle.sx_hygiene_laws.specs.History.{Event}
 use Rattle.sx_expand.specs.Expression.{inside}
 use Rattle.sx_expand_laws.specs.Named.{RefersTo, IsUse}
 use Rattle.sx_fresh_expansion_laws.specs.Events.{HasKnownEvents}
-use Rattle.sx_hygiene_laws.specs.Marked.{Among}
 use Rattle.sx_base.specs.declared.name.Mark.{Mark}
 use Rattle.sx_reference_laws.specs.Captured.{IsHygienic}
 

@@ -20,7 +20,7 @@ use Rattle.sx_expand.specs.Expression.{inside}
 use Rattle.sx_expand_laws.specs.Named.{RefersTo}
 use Rattle.sx_fresh_laws.specs.Leaves.{TreeHolds}
 use Rattle.sx_fresh_expansion_laws.specs.Events.{HasKnownEvents}
-use Rattle.sx_fresh_expansion_laws.specs.Known.{IsKnown, IsKnownFrame, IsNewAmong}
+use Rattle.sx_fresh_expansion_laws.specs.Known.{IsKnown, IsNewAmong}
 use Rattle.sx_fresh_expansion_laws.specs.States.{RecordsHold, StateHolds}
 use Rattle.sx_reference_laws.specs.Captured.{IsHygienic}
 use Rattle.sx_reference_laws.specs.Expands.{Reference, Expands}
