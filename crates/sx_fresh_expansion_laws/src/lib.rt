@@ -17,9 +17,9 @@
 //! stamps of each leaf name frames that were made, as the laws of `sx_expand_laws` on what an identifier stands for
 //! ask. What goes into the record has only such marks and frames, so that the next library begins as this one did.
 //!
-//! `specs/Living` says what may be met on leaves, `specs/Known` and `specs/History` what it is in the laws, and
-//! `specs/States` and `specs/Forms` what holds of states and forms then; `specs/Uses`, `specs/Keeping`, `specs/Made`
-//! and `specs/RecordMarks` have the laws.
+//! `specs/Living` says what may be met on leaves, `specs/Known`, `specs/History` and `specs/Events` what it is in the
+//! laws, and `specs/States` and `specs/Forms` what holds of states and forms then; `specs/Uses`, `specs/Keeping`,
+//! `specs/Made`, `specs/Events` and `specs/RecordMarks` have the laws.
 //!
 //! Here are no calls to make: each function stands for the law that it ensures.
 #![tactic(auto)]
