@@ -13,8 +13,8 @@
 //! What is asked: the list is a list in the cells, and each call that is made gives a value, whatever cells were added before
 //! it. Then the whole gives a value, with some fuel and with all that is more.
 //!
-//! The codes of the texts are written out in `specs/Codes`. That expansion makes these of the texts was read against the core
-//! text that the program writes of them, and isn't proved. Nothing runs here, and no program stands on this crate.
+//! The codes of the texts are written out in `specs/Codes`; that the texts expand to these is a law of a crate above, once texts are
+//! expanded. Nothing runs here, and no program stands on this crate.
 #![tactic(auto)]
 
 pub mod laws;

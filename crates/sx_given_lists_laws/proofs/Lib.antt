@@ -12,3 +12,4 @@ pub mod FoldLeftRows
 pub mod FoldRightRows
 pub mod MapRows
 pub mod VisitRows
+pub mod OneList

@@ -7,7 +7,8 @@ ghost use Rattle.sx_eval.specs.State.{State};
 ghost use Rattle.sx_list_laws.specs.Runs.{IsList, AreLists};
 ghost use Rattle.sx_value.specs.declared.cell.Cell.{Cell};
 ghost use Rattle.sx_value.specs.declared.value.Value.{Value};
-ghost use Rattle.sx_given_laws.specs.Calls.{End, CallEnds};
+ghost use Rattle.sx_given_laws.specs.Calls.{End, CallEnds, Calls};
+ghost use Rattle.sx_given_laws.specs.InTurn as given;
 ghost use Rattle.sx_given_laws.specs.Given.{built_in};
 ghost use Rattle.sx_given_laws.specs.Texts.{HasTexts};
 ghost use Rattle.sx_given_lists_laws.specs.Done.{MapDid, VisitDid};
@@ -72,4 +73,13 @@ pub fn fold_right_goes_from_the_right()
         (r : End) × (t : State) × CallEnds w (built_in 197) (f ∷ z ∷ l ∷ more) s r t × FoldRight w f z rows s r t }
     ensures only { (w : PlainSetting) (f z l : Value) (more : List Value) (rows : List (List Value)) (s t : State) (r : End) → HasTexts w → InRows s.cells rows (l ∷ more) →
         CallEnds w (built_in 197) (f ∷ z ∷ l ∷ more) s r t → FoldRight w f z rows s r t }
+{}
+
+/// Whenever `for-all`, `exists` or `fold-right` gives a value of one list, it has called its procedure on the elements as
+/// `sx_given_laws` says of it.
+pub fn one_list_is_asked_so()
+    ensures for_all { (w : PlainSetting) (f l : Value) (xs : List Value) (s t : State) (v : Value) → HasTexts w → IsList s.cells xs l → Calls w (built_in 192) (f ∷ l ∷ []) s v t → given.ForAll w f xs s v t }
+    ensures exists { (w : PlainSetting) (f l : Value) (xs : List Value) (s t : State) (v : Value) → HasTexts w → IsList s.cells xs l → Calls w (built_in 193) (f ∷ l ∷ []) s v t → given.Exists w f xs s v t }
+    ensures fold_right { (w : PlainSetting) (f z l : Value) (xs : List Value) (s t : State) (v : Value) → HasTexts w → IsList s.cells xs l → Calls w (built_in 197) (f ∷ z ∷ l ∷ []) s v t →
+        given.FoldRight w f z xs s v t }
 {}

@@ -36,3 +36,10 @@ pub mod ImportsFollow
 pub mod FollowLemmas
 pub mod OnceLemmas
 pub mod KnownLemmas
+pub mod PreludeWorld
+pub mod NamedFiles
+pub mod OtherFaults
+pub mod OtherText
+pub mod PartBehind
+pub mod PartRows
+pub mod Unstuck

@@ -9,3 +9,4 @@ pub mod Readable
 pub mod Once
 pub mod Known
 pub mod Following
+pub mod Stuck

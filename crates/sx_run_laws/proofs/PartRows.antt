@@ -1,0 +1,160 @@
+-- The libraries of a run are expanded one after another, and none gets stuck.
+use Rattle.std.proofs.Common.{◌≡◌, ℕ, zero, suc, ◌+◌, List, [], ◌∷◌, ◌++◌, length, Some, Result, Ok, Err, refl, sym, ap, subst, ◌∙◌, inl, inr, arith, append_assoc}
+use Rattle.std.specs.Prelude.{◌⊎◌, slice_get}
+use Rattle.sx_base.specs.Datum.{PlainDatum}
+use Rattle.sx_base.specs.Gives.{◌>>=◌}
+use Rattle.sx_base.specs.declared.fault.Fault.{Fault}
+use Rattle.sx_base.specs.declared.library.LibName.{LibName}
+use Rattle.sx_base.specs.declared.library.LibName.TheVariants as library
+use Rattle.sx_core.specs.declared.record.LibRecord.{LibRecord}
+use Rattle.sx_core_laws.specs.Follows.{names_of}
+use Rattle.sx_core_laws.specs.Words.{Among}
+use Rattle.sx_derived.specs.Derived.{derived_record}
+use Rattle.sx_eval.specs.Codes.{Codes}
+use Rattle.sx_expand_laws.specs.Serves.{AllServe}
+use Rattle.sx_forms.specs.Form.{library_body}
+use Rattle.sx_import.specs.Turns.{turns}
+use Rattle.sx_library.specs.Library.{expand_library}
+use Rattle.sx_library.specs.Loaded.{expand_found, expand_next}
+use Rattle.sx_load.specs.declared.found.Found.{Found}
+use Rattle.sx_load.specs.declared.found.Loading.{Loading}
+use Rattle.sx_load_laws.specs.Laws.{IsAt, NeedsAreClosed}
+use Rattle.sx_load_laws.proofs.ReferLemmas.{IsSound}
+use Rattle.sx_load_laws.proofs.RowLemmas.{at_cases}
+use Rattle.sx_run_laws.specs.Run.{Stands}
+use Rattle.sx_run_laws.proofs.PlaceLemmas.{needed_behind}
+use Rattle.sx_run_laws.proofs.BehindLemmas.{IsNew, library_stands, derived_stands}
+use Rattle.sx_kind_laws.specs.Kinds.{Tells}
+use Rattle.sx_stuck_laws.specs.Behind.{IsOfTexts, IsBehind, AllBehind}
+use Rattle.sx_steady_laws.proofs.Standing.{stands-behind}
+use Rattle.sx_run_laws.specs.Stuck.{IsOther}
+use Rattle.sx_run_laws.proofs.NamedFiles.{IsUser, AllUsers}
+use Rattle.sx_run_laws.proofs.OtherFaults.{AreRead, library-other, derived-other}
+use Rattle.sx_run_laws.proofs.PartBehind.{Behind, IsMadeBehind, AllMadeBehind, all-serve, all-behind, library-new}
+
+-- what a result gives, or it is at fault in another way
+abbrev pub Told : {A : Type 0} → (A → Type 0) → Result A Fault → Type 0
+Told P (Ok x) = P x
+Told P (Err f) = IsOther f.kind
+
+pub told-then : {A B : Type 0} (P : A → Type 0) (Q : B → Type 0) (r : Result A Fault) (go : A → Result B Fault) → Told P r → ((x : A) → P x → Told Q (go x)) → Told Q (r >>= go)
+told-then P Q (Ok x) go h k = k x h
+told-then P Q (Err f) go h k = h
+
+told-with : {A : Type 0} (P : A → Type 0) (r : Result A Fault) → Tells IsOther r → ((x : A) → r ≡ Ok x → P x) → Told P r
+told-with P (Ok x) h k = k x refl
+told-with P (Err f) h k = h
+
+no-text-derived : IsOfTexts library.Derived → ⊥
+no-text-derived (inl e) = absurd (cc)
+no-text-derived (inr e) = absurd (cc)
+
+pub no-text-program : (n : LibName) → n ≡ library.Program → IsOfTexts n → ⊥
+no-text-program n is (inl e) = let bad : library.Program ≡ library.Core = sym is ∙ e in absurd (cc)
+no-text-program n is (inr e) = let bad : library.Program ≡ library.Prelude = sym is ∙ e in absurd (cc)
+
+no-text-user : (n : LibName) → IsUser n → IsOfTexts n → ⊥
+no-text-user n u (inl e) = subst IsUser e u
+no-text-user n u (inr e) = subst IsUser e u
+
+-- a record that expansion leaves stands behind the others too
+is-behind : (records : List LibRecord) (n : LibName) (r : LibRecord) → AllBehind [] records → (Among (names_of records) n → ⊥) → (IsOfTexts n → ⊥) → Stands records n r → IsBehind records r
+is-behind records n r all new no_text st =
+    stands-behind records r all st.good st.keywords st.serves (λ a. new (subst (Among (names_of records)) st.named a)) (λ t. no_text (subst IsOfTexts st.named t))
+
+-- ---- the derived library
+
+pub record IsFirst (d : LibRecord) : Type 0 where
+  pub stands : Stands [] library.Derived d
+  pub behind : IsBehind [] d
+
+pub first-told : (prelude : Result Codes Fault) → AreRead prelude → Told IsFirst (derived_record prelude)
+first-told prelude read =
+    told-with IsFirst (derived_record prelude) (derived-other prelude read)
+    (λ d h. let st = derived_stands d prelude h in record { stands = st; behind = is-behind [] library.Derived d tt (λ a. elim a [ ]) no-text-derived st })
+
+module _ (prelude : Result Codes Fault) (read : AreRead prelude) (s : Loading) (sound : IsSound s) (users : AllUsers s.done) (d : LibRecord) (first : IsFirst d) where
+  -- ---- one library
+
+  -- what its record is, where it has one
+  pub record IsItsRecord (others : List LibRecord) (f : Found) (r : LibRecord) : Type 0 where
+    pub stands : Stands (Behind d others f) f.opened.form.name r
+    pub behind : IsBehind (Behind d others f) r
+
+  pub found-told : (others : List LibRecord) → AllMadeBehind s d others → (f : Found) → NeedsAreClosed s.done f → IsNew (Behind d others f) f.opened.form.name
+      → (IsOfTexts f.opened.form.name → ⊥) → (body : List PlainDatum) → Told (IsItsRecord others f) (expand_found prelude (d ∷ others) f body)
+  found-told others made f closed new no_text body =
+      subst (λ (rs : List LibRecord). Told (IsItsRecord others f) (expand_library prelude rs f.opened.path f.opened.form body)) (sym (needed_behind d others f.needs))
+      (told-with (IsItsRecord others f) (expand_library prelude (Behind d others f) f.opened.path f.opened.form body)
+      (library-other prelude read (Behind d others f) behind f.opened.form (record { new = new; earlier = serve }) no_text f.opened.path body)
+      (λ r h. let st = library_stands (Behind d others f) serve f.opened.path f.opened.form new body r prelude h in
+      record { stands = st; behind = is-behind (Behind d others f) f.opened.form.name r behind new no_text st }))
+    where
+      serve : AllServe [] (Behind d others f)
+      serve = all-serve s sound users d first.stands first.behind others made f closed
+
+      behind : AllBehind [] (Behind d others f)
+      behind = all-behind s sound users d first.stands first.behind others made f closed
+
+  -- ---- one after another
+
+  last-place : (xs : List LibRecord) (r : LibRecord) (j : ℕ) → length xs + suc j ≡ length (xs ++ r ∷ []) + j
+  last-place [] r j = omega arith
+  last-place (z ∷ xs) r j = let e = last-place xs r j in omega (arith, e)
+
+  -- the record is the last of them
+  made-more : (others : List LibRecord) → AllMadeBehind s d others → (file : List ℕ) (f : Found) → IsAt s.done (length others) file f → (r : LibRecord) → IsItsRecord others f r
+      → AllMadeBehind s d (others ++ r ∷ [])
+  made-more others made file f here r g i name x y at there = by (at_cases others r i y there)
+    where
+      by : (slice_get others i ≡ Some y) ⊎ ((i ≡ length others) × (r ≡ y)) → IsMadeBehind d (others ++ r ∷ []) x y
+      by (inl old) =
+          let m = made i name x y at old in
+          let parts : others ++ r ∷ [] ≡ m.before ++ (m.after ++ r ∷ []) = ap (λ (rs : List LibRecord). rs ++ r ∷ []) m.parts ∙ append_assoc m.before m.after (r ∷ []) in
+          record { before = m.before; after = m.after ++ r ∷ []; parts = parts; stands = m.stands; behind = m.behind }
+      by (inr e) =
+          let place : slice_get s.done (length others) ≡ Some (name, x) = subst (λ n. slice_get s.done n ≡ Some (name, x)) e.0 at in
+          let rows : ◌≡◌ {A = List ℕ × Found} (file, f) (name, x) = cc in
+          let same : f ≡ x = ap (λ (row : List ℕ × Found). row.1) rows in
+          subst (λ (z : LibRecord). IsMadeBehind d (others ++ r ∷ []) x z) e.1
+          (subst (λ (z : Found). IsMadeBehind d (others ++ r ∷ []) z r) same (record { before = others; after = r ∷ []; parts = refl; stands = g.stands; behind = g.behind }))
+
+  -- the records of a part of a run
+  pub record AreMade (records : List LibRecord) : Type 0 where
+    pub others : List LibRecord
+    pub parts : records ≡ d ∷ others
+    pub made : AllMadeBehind s d others
+
+  -- the rows from a place on
+  abbrev AreLeft : ℕ → List (List ℕ × Found) → Type 0
+  AreLeft k rows = (p : ℕ) → slice_get rows p ≡ slice_get s.done (k + p)
+
+  -- one more record
+  record IsNext (others : List LibRecord) (f : Found) (more : List LibRecord) : Type 0 where
+    last : LibRecord
+    parts : more ≡ d ∷ (others ++ last ∷ [])
+    gives : IsItsRecord others f last
+
+  pub rows-told : (rows : List (List ℕ × Found)) (others : List LibRecord) → AreLeft (length others) rows → AllMadeBehind s d others → Told AreMade (turns (expand_next prelude) (d ∷ others) rows)
+  rows-told [] others left made = record { others = others; parts = refl; made = made }
+  rows-told (row ∷ rows) others left made =
+      told-then (IsNext others row.1) AreMade (expand_next prelude (d ∷ others) row) (λ more. turns (expand_next prelude) more rows)
+      (told-then (IsItsRecord others row.1) (IsNext others row.1) (expand_found prelude (d ∷ others) row.1 body) (λ r. Ok (d ∷ (others ++ r ∷ [])))
+      (found-told others made row.1 closed (library-new s sound users d first.stands first.behind others made row.1 closed (length others) row.0 here)
+      (no-text-user row.1.opened.form.name (users (length others) row.0 row.1 here)) body)
+      (λ r g. record { last = r; parts = refl; gives = g }))
+      (λ more n.
+      subst (λ (rs : List LibRecord). Told AreMade (turns (expand_next prelude) rs rows)) (sym n.parts)
+      (rows-told rows (others ++ n.last ∷ []) (left-on n.last) (made-more others made row.0 row.1 here n.last n.gives)))
+    where
+      body : List PlainDatum
+      body = library_body row.1.opened.«data»
+
+      here : IsAt s.done (length others) row.0 row.1
+      here = let e : length others + zero ≡ length others = omega arith in let k = left zero in subst (λ n. slice_get s.done n ≡ Some row) e (sym k)
+
+      closed : NeedsAreClosed s.done row.1
+      closed = (sound.stand (length others) row.0 row.1 here).closed
+
+      left-on : (r : LibRecord) → AreLeft (length (others ++ r ∷ [])) rows
+      left-on r p = left (suc p) ∙ ap (slice_get s.done) (last-place others r p)

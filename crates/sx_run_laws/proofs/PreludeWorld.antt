@@ -1,0 +1,101 @@
+-- A world with the codes of the texts, as they are written out, is whole.
+use Rattle.std.proofs.Common.{◌≡◌, ◌==◌, ℕ, Bool, true, false, List, [], ◌∷◌, Option, Some, cond, map, refl, sym, subst, inl, inr}
+use Rattle.std.specs.Prelude.{IsTrue, is_some, ◌||◌}
+use Rattle.std.specs.Bool.{Decides}
+use Rattle.std.specs.List.{flat_map}
+use Rattle.std.proofs.lemmas.Bool.Decides.{Decides-or}
+use Rattle.std.specs.Cmp.{unsigned_Decides}
+use Rattle.sx_base.specs.Same.{same_library, same_library_decides}
+use Rattle.sx_base.specs.declared.library.LibName.TheVariants as library
+use Rattle.sx_base.specs.declared.name.CodeNo.{CodeNo}
+use Rattle.sx_core.specs.Core.{PlainCore, PlainCode}
+use Rattle.sx_core_laws.specs.Words.{Each, Among}
+use Rattle.sx_core_laws.specs.Parts.{code_numbers}
+use Rattle.sx_core_laws.specs.Scope.{Closed, closed}
+use Rattle.sx_core_laws.specs.WellMade.{IsWellMade, is_well_made, same_code}
+use Rattle.sx_core_laws.proofs.Decisions.{code_decides, once_decides, each_decides}
+use Rattle.sx_core_laws.proofs.ScopeLemmas.{closed_decides}
+use Rattle.sx_core_laws.proofs.WellMadeLemmas.{well_made_decides}
+use Rattle.sx_eval.specs.Codes.{Codes, code_at}
+use Rattle.sx_eval.specs.Procedures.{has_text}
+use Rattle.sx_given_laws.specs.Codes.{map_text, for_each_text, for_all_text, exists_text, filter_text, remp_text, find_text, memp_text, fold_left_text, fold_right_text}
+use Rattle.sx_given_laws.specs.Texts.{written_table}
+use Rattle.sx_value.specs.Cells.{is_found}
+use Rattle.sx_whole_laws.specs.Beginning.{text_code, HasText}
+use Rattle.sx_whole_laws.specs.WholeWorld.{WholeWorld}
+use Rattle.sx_whole_laws.proofs.Among.{each_at}
+use Rattle.sx_whole_laws.proofs.Beginnings.{first_worlds_whole}
+use Rattle.sx_stuck_laws.specs.Behind.{IsOfTexts}
+use Rattle.sx_steady_laws.specs.Libraries.{AreTexts}
+
+-- the texts, each as the procedure whose body it is
+abbrev texts : List PlainCore
+texts =
+    text_code 133 map_text ∷ text_code 110 for_each_text ∷ text_code 192 for_all_text ∷ text_code 193 exists_text ∷ text_code 194 filter_text ∷
+    text_code 198 remp_text ∷ text_code 191 find_text ∷ text_code 202 memp_text ∷ text_code 196 fold_left_text ∷ text_code 197 fold_right_text ∷ []
+
+-- ---- the op of a text is one of ten
+
+by-test : (t : Bool) (x : List ℕ) (r : Option (List ℕ)) (X : Type 0) → (t ≡ true → X) → (is_some r ≡ true → X) → is_some (cond t (Some x) r) ≡ true → X
+by-test true x r X k j h = k refl
+by-test false x r X k j h = j h
+
+no-more : (X : Type 0) → false ≡ true → X
+no-more X e = absurd (cc)
+
+is-op : (op k : ℕ) → (op == k) ≡ true → HasText texts k → HasText texts op
+is-op op k e a = subst (HasText texts) (sym ((unsigned_Decides op k).0 e)) a
+
+has-body : (op : ℕ) → has_text op ≡ true → HasText texts op
+unfolding has_text
+has-body op h =
+    by-test (op == 110) _ _ (HasText texts op) (λ e. is-op op 110 e (record { body = for_each_text; among = inr (inl refl); gives = tt })) (λ h.
+    by-test (op == 133) _ _ (HasText texts op) (λ e. is-op op 133 e (record { body = map_text; among = inl refl; gives = tt })) (λ h.
+    by-test (op == 191) _ _ (HasText texts op) (λ e. is-op op 191 e (record { body = find_text; among = inr (inr (inr (inr (inr (inr (inl refl)))))); gives = refl })) (λ h.
+    by-test (op == 192) _ _ (HasText texts op) (λ e. is-op op 192 e (record { body = for_all_text; among = inr (inr (inl refl)); gives = tt })) (λ h.
+    by-test (op == 193) _ _ (HasText texts op) (λ e. is-op op 193 e (record { body = exists_text; among = inr (inr (inr (inl refl))); gives = tt })) (λ h.
+    by-test (op == 194) _ _ (HasText texts op) (λ e. is-op op 194 e (record { body = filter_text; among = inr (inr (inr (inr (inl refl)))); gives = refl })) (λ h.
+    by-test (op == 196) _ _ (HasText texts op) (λ e. is-op op 196 e (record { body = fold_left_text; among = inr (inr (inr (inr (inr (inr (inr (inr (inl refl)))))))); gives = tt })) (λ h.
+    by-test (op == 197) _ _ (HasText texts op) (λ e. is-op op 197 e (record { body = fold_right_text; among = inr (inr (inr (inr (inr (inr (inr (inr (inr (inl refl))))))))); gives = tt })) (λ h.
+    by-test (op == 198) _ _ (HasText texts op) (λ e. is-op op 198 e (record { body = remp_text; among = inr (inr (inr (inr (inr (inl refl))))); gives = tt })) (λ h.
+    by-test (op == 202) _ _ (HasText texts op) (λ e. is-op op 202 e (record { body = memp_text; among = inr (inr (inr (inr (inr (inr (inr (inl refl))))))); gives = refl })) (λ h.
+    no-more (HasText texts op) h) h) h) h) h) h) h) h) h) h) h
+
+-- ---- each is closed and well made, and no two codes have one number
+
+all-closed : Each (Closed []) texts
+all-closed = (each_decides (closed []) (Closed []) (closed_decides []) texts).0 refl
+
+all-made : Each (IsWellMade []) texts
+all-made = (each_decides (is_well_made []) (IsWellMade []) (well_made_decides []) texts).0 refl
+
+texts-whole : WholeWorld (record { codes = written_table; globals = []; frames = [] }) []
+texts-whole = first_worlds_whole texts [] has-body all-closed all-made ((once_decides same_code code_decides (flat_map code_numbers texts)).0 refl)
+
+-- ---- names
+
+found-there : (codes : Codes) (n : CodeNo) → IsTrue (is_found (code_at codes n)) → Among (map (λ (e : CodeNo × PlainCode). e.0) codes) n
+found-there [] n h = absurd (cc)
+found-there (e ∷ codes) n h = by (same_code n e.0) refl h (found-there codes n)
+  where
+    by : (b : Bool) → same_code n e.0 ≡ b → IsTrue (is_found (cond b (Some e.1) (code_at codes n))) → (IsTrue (is_found (code_at codes n)) → Among (map (λ (e : CodeNo × PlainCode). e.0) codes) n)
+        → Among (map (λ (e : CodeNo × PlainCode). e.0) (e ∷ codes)) n
+    by true is k rest = inl ((code_decides n e.0).0 is)
+    by false is k rest = inr (rest k)
+
+abbrev is_text : CodeNo → Bool
+is_text n = same_library n.0.library library.Core || same_library n.0.library library.Prelude
+
+text-decides : (n : CodeNo) → Decides (is_text n) (IsOfTexts n.0.library)
+text-decides n =
+    Decides-or (same_library n.0.library library.Core) (same_library n.0.library library.Prelude) (same_library_decides n.0.library library.Core) (same_library_decides n.0.library library.Prelude)
+
+all-named : Each (λ (n : CodeNo). IsOfTexts n.0.library) (map (λ (e : CodeNo × PlainCode). e.0) written_table)
+all-named = (each_decides is_text (λ (n : CodeNo). IsOfTexts n.0.library) text-decides (map (λ (e : CodeNo × PlainCode). e.0) written_table)).0 refl
+
+texts-named : (n : CodeNo) → IsTrue (is_found (code_at written_table n)) → IsOfTexts n.0.library
+texts-named n h =
+    each_at (λ (m : CodeNo). IsOfTexts m.0.library) (map (λ (e : CodeNo × PlainCode). e.0) written_table) n all-named (found-there written_table n h)
+
+pub written-texts : AreTexts written_table
+written-texts = record { whole = texts-whole; named = texts-named }

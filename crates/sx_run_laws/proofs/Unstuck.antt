@@ -1,0 +1,128 @@
+-- No run gets stuck, where loading ends and where it stops.
+use Rattle.std.proofs.Common.{◌≡◌, ℕ, zero, ◌+◌, Bool, List, [], ◌∷◌, Option, Some, None, Result, Ok, Err, refl, sym, ap, subst, arith}
+use Rattle.std.specs.Prelude.{slice_get}
+use Rattle.sx_base.specs.Gives.{◌>>=◌}
+use Rattle.sx_base.specs.declared.fault.Fault.{Fault}
+use Rattle.sx_core.specs.declared.record.LibRecord.{LibRecord}
+use Rattle.sx_derived.specs.Derived.{derived_record}
+use Rattle.sx_eval.specs.Codes.{Codes}
+use Rattle.sx_forms.specs.Form.{program_body}
+use Rattle.sx_import.specs.Turns.{turns}
+use Rattle.sx_library.specs.Loaded.{expand_found, expand_next, all_records, planned_text, text_of}
+use Rattle.sx_load.specs.Load.{Loads, load}
+use Rattle.sx_load.specs.declared.found.Found.{Found}
+use Rattle.sx_load.specs.declared.found.Loading.{Loading}
+use Rattle.sx_load_laws.specs.Laws.{NeedsAreClosed}
+use Rattle.sx_load_laws.proofs.LoadLemmas.{loads_all, loads_until}
+use Rattle.sx_load_laws.proofs.ReferLemmas.{IsSound}
+use Rattle.sx_outside.specs.Contents.{Paths}
+use Rattle.sx_plan.specs.Planned.{plan_of}
+use Rattle.sx_prelude.specs.Prelude.{prelude_table}
+use Rattle.sx_run.specs.Whole.{source_of, loading_of, outcome_of, of_job, of_asked}
+use Rattle.sx_run.specs.Words.{job_asked}
+use Rattle.sx_run_laws.proofs.UserLemmas.{program_name}
+use Rattle.sx_words.specs.declared.job.Job.{Job}
+use Rattle.sx_kind_laws.specs.Kinds.{IsOfLoading, Tells}
+use Rattle.sx_kind_laws.specs.Laws.{LoadTells}
+use Rattle.sx_kind_laws.proofs.Loading.{loading-tells}
+use Rattle.sx_run_laws.specs.Stuck.{IsOther, TellsOther, RunsNeverStuck, WholeNeverStuck}
+use Rattle.sx_prelude_code_laws.proofs.Table.{table-is-written}
+use Rattle.sx_run_laws.proofs.PreludeWorld.{written-texts}
+use Rattle.sx_run_laws.proofs.NamedFiles.{AllUsers, users-all, users-until}
+use Rattle.sx_run_laws.proofs.OtherFaults.{AreRead, other-loading}
+use Rattle.sx_run_laws.proofs.OtherText.{text-other}
+use Rattle.sx_run_laws.proofs.PartBehind.{program-new}
+use Rattle.sx_run_laws.proofs.PartRows.{Told, told-then, no-text-program, IsFirst, first-told, IsItsRecord, found-told, AreMade, rows-told}
+
+abbrev Any : {A : Type 0} → A → Type 0
+Any x = Unit {0}
+
+tells : {A : Type 0} (r : Result A Fault) → Told Any r → Tells IsOther r
+tells (Ok x) h = tt
+tells (Err f) h = h
+
+as-told : {A : Type 0} (r : Result A Fault) → Tells IsOther r → Told Any r
+as-told (Ok x) h = tt
+as-told (Err f) h = h
+
+module _ (prelude : Result Codes Fault) (read : AreRead prelude) where
+  -- the records of the libraries that were loaded, and what comes of them
+  records-told : (s : Loading) → IsSound s → AllUsers s.done → (go : List LibRecord → Result (List ℕ) Fault)
+      → ((d : LibRecord) (first : IsFirst d) (sound : IsSound s) (users : AllUsers s.done) (records : List LibRecord) → AreMade prelude read s sound users d first records → Told Any (go records))
+      → Told Any (all_records prelude s.done >>= go)
+  records-told s sound users go next = by (derived_record prelude) (first-told prelude read)
+    where
+      by : (x : Result LibRecord Fault) → Told IsFirst x → Told Any ((x >>= (λ d. turns (expand_next prelude) (d ∷ []) s.done)) >>= go)
+      by (Err f) h = h
+      by (Ok d) h =
+          told-then (AreMade prelude read s sound users d h) Any (turns (expand_next prelude) (d ∷ []) s.done) go
+          (rows-told prelude read s sound users d h s.done [] (λ p. let e : p ≡ zero + p = omega arith in ap (slice_get s.done) e) (λ i file f r at there. absurd (cc)))
+          (λ records m. next d h sound users records m)
+
+  module _ (files : Paths) (roots : List (List ℕ)) (path : List ℕ) where
+    -- where loading ends
+    ends : (found : Found) (s : Loading) → load files roots path ≡ Ok (found, s) → Told Any (text_of prelude (Ok (found, s)))
+    unfolding text_of
+    ends found s h =
+        let l = loads_all files roots path found s h in
+        records-told s l.sound (users-all files roots path found s h) (λ records. expand_found prelude records found (program_body found.opened.«data») >>= (λ program. planned_text records program))
+        (λ d first sound users records m. program d first sound users records m)
+      where
+        closed : NeedsAreClosed s.done found
+        closed = (loads_all files roots path found s h).stands.closed
+
+        program : (d : LibRecord) (first : IsFirst d) (sound : IsSound s) (users : AllUsers s.done) (records : List LibRecord) → AreMade prelude read s sound users d first records
+            → Told Any (expand_found prelude records found (program_body found.opened.«data») >>= (λ program. planned_text records program))
+        program d first sound users records m =
+            let is = program_name files roots path found s h in
+            told-then (λ r. Unit {0}) Any (expand_found prelude records found (program_body found.opened.«data»)) (λ program. planned_text records program)
+            (subst (λ (rs : List LibRecord). Told (λ r. Unit {0}) (expand_found prelude rs found (program_body found.opened.«data»))) (sym m.parts)
+            (any (IsItsRecord prelude read s sound users d first m.others found) (expand_found prelude (d ∷ m.others) found (program_body found.opened.«data»))
+            (found-told prelude read s sound users d first m.others m.made found closed (program-new s sound users d first.stands first.behind m.others m.made found closed found.opened.form.name is)
+            (no-text-program found.opened.form.name is) (program_body found.opened.«data»))))
+            (λ r g. as-told (planned_text records r) (text-other records (plan_of records r) r))
+          where
+            any : (P : LibRecord → Type 0) (x : Result LibRecord Fault) → Told P x → Told (λ r. Unit {0}) x
+            any P (Ok r) k = tt
+            any P (Err f) k = k
+
+    -- where it stops
+    stops : (s : Loading) (f : Fault) → load files roots path ≡ Err (s, f) → Told Any (text_of prelude (Err (s, f)))
+    unfolding text_of
+    stops s f h =
+        records-told s (loads_until files roots path s f h) (users-until files roots path s f h) (λ records. Err f)
+        (λ d first sound users records m. other-loading f.kind (subst (λ (r : Loads (Found × Loading)). LoadTells IsOfLoading r) h (loading-tells files roots path)))
+
+    any-run : Told Any (text_of prelude (load files roots path))
+    any-run = by (load files roots path) refl
+      where
+        by : (x : Loads (Found × Loading)) → load files roots path ≡ x → Told Any (text_of prelude x)
+        by (Ok l) h = ends l.0 l.1 h
+        by (Err e) h = stops e.0 e.1 h
+
+-- the texts of the prelude come to the codes that are written out
+texts-read : AreRead prelude_table
+texts-read = subst AreRead (sym table-is-written) written-texts
+
+pub runs-never-stuck : RunsNeverStuck
+runs-never-stuck files roots path = tells (text_of prelude_table (load files roots path)) (any-run prelude_table texts-read files roots path)
+
+-- ---- the whole
+
+module _ (files : Paths) (words : List (List ℕ)) (job : Job) (asked : job_asked words ≡ Some job) where
+  outcome-other : (s : Loading) (r : Result (List ℕ) Fault) → text_of prelude_table (load files job.roots job.program) ≡ r → Tells IsOther r → TellsOther files words (outcome_of job.report s r)
+  outcome-other s (Ok text) e h = tt
+  outcome-other s (Err f) e h = record { job = job; asked = asked; told = f; gives = e; other = h; source = source_of s.sources f.span.file; is = refl }
+
+  job-other : TellsOther files words (of_job files job)
+  unfolding of_job
+  job-other =
+      let loaded = load files job.roots job.program in
+      outcome-other (loading_of loaded) (text_of prelude_table loaded) refl (runs-never-stuck files job.roots job.program)
+
+pub whole-never-stuck : WholeNeverStuck
+whole-never-stuck files words = by (job_asked words) refl
+  where
+    by : (o : Option Job) → job_asked words ≡ o → TellsOther files words (of_asked files o)
+    by None e = tt
+    by (Some job) e = job-other files words job e
