@@ -5,7 +5,6 @@ use Rattle.std.specs.Prelude.{◌⊎◌, slice_get, if◌then◌else◌}
 use Rattle.std.specs.List.{flat_map}
 use Rattle.std.specs.Map.{lookup}
 use Rattle.indexmap.specs.IndexMap.{insert_entry}
-use Rattle.sx_base.specs.declared.library.LibName.{LibName}
 use Rattle.sx_base.specs.declared.name.Label.{Label}
 use Rattle.sx_core.specs.Labels.{same_label}
 use Rattle.sx_core.specs.declared.binding.Binding.{Binding}
@@ -16,11 +15,11 @@ use Rattle.sx_core_laws.proofs.Decisions.{label_decides}
 use Rattle.sx_core_text.specs.CoreText.{Names}
 use Rattle.sx_core_text.specs.Naming.{with_index, with_name, with_names}
 use Rattle.sx_core_text.specs.Whole.{named_by, plan_names}
-use Rattle.sx_name_laws.specs.Variable.{Variable, IsVariable}
+use Rattle.sx_name_laws.specs.Variable.{Variable}
 use Rattle.sx_name_laws.specs.Variable as variables
-use Rattle.sx_name_laws.proofs.Telling.{names_tell}
+use Rattle.sx_name_laws.proofs.AnyName.{place_told}
 use Rattle.sx_core_grammar.specs.Names.{IsCalled, IsGenerated, AreGenerated, TellApart}
-use Rattle.sx_core_grammar.specs.Bound.{Bound, bound_by, bound_in, record_bindings, all_bindings, place, NamesAreGenerated, NamesTellApart}
+use Rattle.sx_core_grammar.specs.Bound.{Bound, bound_by, bound_in, record_bindings, all_bindings, place, IsTold, NamesAreGenerated, NamesTellApart}
 
 -- one list of bindings after the other
 names_append : (names : Names) (bs cs : List (Label × Binding)) → with_names names (bs ++ cs) ≡ with_names (with_names names bs) cs
@@ -143,52 +142,37 @@ insert_generated (r ∷ rs) k y g h = by_row (same_label k r.0) (insert_generate
   by_row true others = (g, h.1)
   by_row false others = (h.0, others)
 
-each_left : {A : Type 0} (P : A → Type 0) (xs ys : List A) → Each P (xs ++ ys) → Each P xs
-each_left P [] ys h = tt
-each_left P (x ∷ xs) ys h = (h.0, each_left P xs ys h.1)
-
-each_right : {A : Type 0} (P : A → Type 0) (xs ys : List A) → Each P (xs ++ ys) → Each P ys
-each_right P [] ys h = h
-each_right P (x ∷ xs) ys h = each_right P xs ys h.1
-
-abbrev Are : List Bound → Type 0
-Are bs = Each (λ (b : Bound). IsVariable b.variable) bs
-
-index_generated : (names : Names) (k : Label) (symbol : List ℕ) (index : Option ℕ) → Are (bound_by k symbol index) → AreGenerated names → AreGenerated (with_index names k symbol index)
-index_generated names k symbol None h good = good
-index_generated names k symbol (Some n) h good =
+index_generated : (names : Names) (k : Label) (symbol : List ℕ) (index : Option ℕ) → AreGenerated names → AreGenerated (with_index names k symbol index)
+index_generated names k symbol None good = good
+index_generated names k symbol (Some n) good =
     insert_generated names k (variables.name_of (record { library = k.0.library; symbol = symbol; number = n }))
-    (record { of = record { library = k.0.library; symbol = symbol; number = n }; variable = h.0; same = refl }) good
+    (record { of = record { library = k.0.library; symbol = symbol; number = n }; same = refl }) good
 
-binding_generated : (names : Names) (k : Label) (c : Binding) → Are (bound_in (k, c)) → AreGenerated names → AreGenerated (with_name names k c)
-binding_generated names k (binding.Variable v) h good = index_generated names k v.symbol v.index h good
-binding_generated names k (binding.PatternVariable level depth) h good = good
-binding_generated names k (binding.Macro level expression) h good = good
-binding_generated names k (binding.Core form) h good = good
-binding_generated names k (binding.Primitive o) h good = good
+binding_generated : (names : Names) (k : Label) (c : Binding) → AreGenerated names → AreGenerated (with_name names k c)
+binding_generated names k (binding.Variable v) good = index_generated names k v.symbol v.index good
+binding_generated names k (binding.PatternVariable level depth) good = good
+binding_generated names k (binding.Macro level expression) good = good
+binding_generated names k (binding.Core form) good = good
+binding_generated names k (binding.Primitive o) good = good
 
-names_generated : (names : Names) (cs : List (Label × Binding)) → Are (flat_map bound_in cs) → AreGenerated names → AreGenerated (with_names names cs)
-names_generated names [] h good = good
-names_generated names (c ∷ cs) h good =
-    names_generated (with_name names c.0 c.1) cs (each_right (λ (b : Bound). IsVariable b.variable) (bound_in c) (flat_map bound_in cs) h)
-    (binding_generated names c.0 c.1 (each_left (λ (b : Bound). IsVariable b.variable) (bound_in c) (flat_map bound_in cs) h) good)
+names_generated : (names : Names) (cs : List (Label × Binding)) → AreGenerated names → AreGenerated (with_names names cs)
+names_generated names [] good = good
+names_generated names (c ∷ cs) good = names_generated (with_name names c.0 c.1) cs (binding_generated names c.0 c.1 good)
 
 pub names_are_generated : NamesAreGenerated
-names_are_generated records plan program h =
-    subst AreGenerated (sym (all_names_are records plan program [])) (names_generated [] (all_bindings records plan program) h tt)
+names_are_generated records plan program = subst AreGenerated (sym (all_names_are records plan program [])) (names_generated [] (all_bindings records plan program) tt)
 
-same_places : (v w : Variable) → v ≡ w → ◌≡◌ {A = LibName × ℕ} (v.library, v.number) (w.library, w.number)
-same_places v w e = ap (λ (u : Variable). (u.library, u.number)) e
-
-apart : (cs : List (Label × Binding)) → Are (flat_map bound_in cs) → Once (map place (flat_map bound_in cs)) → TellApart (with_names [] cs)
+apart : (cs : List (Label × Binding)) → Each IsTold (flat_map bound_in cs) → Once (map place (flat_map bound_in cs)) → TellApart (with_names [] cs)
 apart cs h once l m x e f =
     let a = given_in cs l x e in
     let b = given_in cs m x f in
     let bs : List Bound = flat_map bound_in cs in
-    let is : IsVariable a.0.variable = among_each (λ (c : Bound). IsVariable c.variable) bs a.0 h a.1.0 in
-    let was : IsVariable b.0.variable = among_each (λ (c : Bound). IsVariable c.variable) bs b.0 h b.1.0 in
-    let told : a.0.variable ≡ b.0.variable = names_tell a.0.variable b.0.variable is was (a.1.1.name ∙ sym b.1.1.name) in
-    let same : a.0 ≡ b.0 = once_same place bs a.0 b.0 once a.1.0 b.1.0 (same_places a.0.variable b.0.variable told) in
+    let v = a.0.variable in
+    let w = b.0.variable in
+    let is : IsTold a.0 = among_each IsTold bs a.0 h a.1.0 in
+    let was : IsTold b.0 = among_each IsTold bs b.0 h b.1.0 in
+    let told = place_told v.library w.library v.symbol w.symbol v.number w.number is.0 was.0 is.1 was.1 (a.1.1.name ∙ sym b.1.1.name) in
+    let same : a.0 ≡ b.0 = once_same place bs a.0 b.0 once a.1.0 b.1.0 (λ i. (told.0 i, told.1 i)) in
     sym a.1.1.label ∙ ap (λ (c : Bound). c.label) same ∙ b.1.1.label
 
 pub names_tell_apart : NamesTellApart

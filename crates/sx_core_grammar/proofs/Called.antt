@@ -1,23 +1,18 @@
 -- The names of variables begin with a percent sign; those of primitives don't, and are no words of core text.
-use Rattle.std.proofs.Common.{◌≡◌, ℕ, zero, suc, ◌+◌, ◌<◌, Bool, true, false, List, [], ◌∷◌, ◌++◌, length, arith, refl, sym, ap, ◌∙◌, subst, Option, Some, None, get_or}
-use Rattle.std.specs.Prelude.{◌==◌, ◌&&◌, ◌||◌, not, decimal, codes, unwrap_or, if◌then◌else◌}
-use Rattle.std.specs.Char.{digit_value}
+use Rattle.std.proofs.Common.{◌≡◌, ℕ, zero, suc, ◌+◌, ◌<◌, Bool, true, false, List, [], ◌∷◌, length, arith, refl, sym, ap, ◌∙◌, subst, Option, Some, None, get_or}
+use Rattle.std.specs.Prelude.{◌==◌, ◌&&◌, ◌||◌, not, codes, unwrap_or, if◌then◌else◌}
 use Rattle.std.specs.Cmp.Lexicographic.{pointwise}
 use Rattle.std.specs.List.{list_all, list_any}
 use Rattle.std.specs.Map.{lookup}
-use Rattle.std.specs.Str.Parse.{AllDigits}
-use Rattle.std.proofs.lemmas.Bool.{and_parts, and_from}
+use Rattle.std.proofs.lemmas.Bool.{and_parts}
 use Rattle.std.proofs.lemmas.Bool.Decides.{nat_tests}
-use Rattle.std.proofs.lemmas.Fmt.{decimal_is_IsNumeral}
 use Rattle.sx_base.specs.Op.{name_count, is_keyword, op_text, op_named}
 use Rattle.sx_base.specs.OpNames.{op_names}
 use Rattle.sx_base.specs.declared.name.Label.{Label}
 use Rattle.sx_core.specs.Labels.{same_label}
 use Rattle.sx_core_text.specs.CoreText.{Names, name_of}
-use Rattle.sx_names.specs.Generated.{name_part, library_text}
-use Rattle.sx_name_laws.specs.Variable.{Variable, IsVariable}
-use Rattle.sx_name_laws.proofs.Words.{all_append, all_weaker}
-use Rattle.sx_name_laws.proofs.Telling.{is_path, is_word, part_word, library_path, name_is}
+use Rattle.sx_name_laws.proofs.AnyName.{rest_of_name, any_rest}
+use Rattle.sx_name_laws.proofs.Telling.{name_is}
 use Rattle.sx_printer.specs.Symbols.{symbol_text, is_subsequent}
 use Rattle.sx_core_grammar.specs.Names.{IsCalled, IsPrimitive, IsGenerated, AreGenerated}
 use Rattle.sx_core_grammar.proofs.Plain.{is_plain_name, plain_text}
@@ -95,31 +90,6 @@ primitive_free o h =
     let fourth = and_parts (not (is_define x)) (is_found o (op_named x)) third.1 in
     record { plain = first.0; free = denied (is_core_keyword x) second.0; apart = denied (is_generated x) third.0; undefined = denied (is_define x) fourth.0; found = found_is o (op_named x) fourth.1 }
 
--- what stands in a generated name may stand in an identifier behind its first character
-path_subsequent : (b : ℕ) → is_path b ≡ true → is_subsequent b ≡ true
-path_subsequent b h = grind (arith, nat_tests)
-
-word_subsequent : (b : ℕ) → is_word b ≡ true → is_subsequent b ≡ true
-word_subsequent b h = grind (arith, nat_tests)
-
-digit_subsequent : (b : ℕ) → digit_value b < 10 → is_subsequent b ≡ true
-digit_subsequent b h = grind (arith, nat_tests)
-
-digits_subsequent : (ds : List ℕ) → AllDigits 10 ds → list_all is_subsequent ds ≡ true
-digits_subsequent [] h = refl
-digits_subsequent (d ∷ ds) h = and_from (is_subsequent d) (list_all is_subsequent ds) (digit_subsequent d h.0) (digits_subsequent ds h.1)
-
-abbrev behind_percent : Variable → List ℕ
-behind_percent v = library_text v.library ++ (0x2F ∷ (name_part v.symbol ++ (0x2F ∷ decimal v.number)))
-
-rest_subsequent : (v : Variable) → IsVariable v → list_all is_subsequent (behind_percent v) ≡ true
-rest_subsequent v h =
-    let path = all_weaker is_path is_subsequent path_subsequent (library_text v.library) (library_path v.library h.0) in
-    let word = all_weaker is_word is_subsequent word_subsequent (name_part v.symbol) (part_word v.symbol h.1.0) in
-    let number = digits_subsequent (decimal v.number) ((decimal_is_IsNumeral v.number h.1.1).0.1) in
-    all_append is_subsequent (library_text v.library) (0x2F ∷ (name_part v.symbol ++ (0x2F ∷ decimal v.number))) path
-    (all_append is_subsequent (name_part v.symbol) (0x2F ∷ decimal v.number) word number)
-
 -- a generated name: a percent sign, and what may stand behind it
 pub record IsPercented (x : List ℕ) : Type 0 where
   pub bytes : List ℕ
@@ -127,7 +97,7 @@ pub record IsPercented (x : List ℕ) : Type 0 where
   pub good : list_all is_subsequent bytes ≡ true
 
 percented : (x : List ℕ) → IsGenerated x → IsPercented x
-percented x h = record { bytes = behind_percent h.of; same = h.same ∙ name_is h.of.library h.of.symbol h.of.number; good = rest_subsequent h.of h.variable }
+percented x h = record { bytes = rest_of_name h.of.library h.of.symbol h.of.number; same = h.same ∙ name_is h.of.library h.of.symbol h.of.number; good = any_rest h.of.library h.of.symbol h.of.number }
 
 percent_plain : (bs : List ℕ) → list_all is_subsequent bs ≡ true → is_plain_name (0x25 ∷ bs) ≡ true
 percent_plain bs h = rw h refl

@@ -10,7 +10,7 @@ use Rattle.sx_core.specs.declared.record.Line.{Line}
 use Rattle.sx_core_laws.specs.Words.{Each}
 use Rattle.sx_core_text.specs.CoreText.{Names, line_text, lines_text}
 use Rattle.sx_core_text.specs.Syntax.{Checked, written, line_checked, lines_checked}
-use Rattle.sx_core_text.specs.Whole.{record_checked, plan_checked, record_text, plan_text, all_names, all_text}
+use Rattle.sx_core_text.specs.Whole.{record_checked, plan_checked, record_text, plan_text, all_names, all_text, core_text}
 use Rattle.sx_grammar.specs.Reads.{Reads, SpellingsAre}
 use Rattle.sx_printer.specs.DatumText.{datum_text}
 use Rattle.sx_printer.specs.Symbols.{symbol_text}
@@ -80,12 +80,20 @@ plan_checked_is records (p ∷ ps) program h k =
     let q = checked_both (record_checked (slice_get records p)) (plan_checked records ps) h in
     checked_append (record_lines (slice_get records p)) (all_lines records ps program) (record_checked_is (slice_get records p) q.0) (plan_checked_is records ps program q.1 k)
 
--- each line is spelled
-record Spelled (names : Names) (ls : List Line) : Type 0 where
-  ds : List PlainDatum
-  spelled : SpellLines names ls ds
+-- where there is a text, each line was found to have one
+pub whole_checked : (records : List LibRecord) (plan : List ℕ) (program : LibRecord) (whole : List ℕ) → core_text records plan program ≡ Ok whole → lines_checked (all_lines records plan program) ≡ written
+whole_checked records plan program whole h =
+    let text = all_text (all_names records plan program) records plan program in
+    let p = bind_gives (plan_checked records plan) (lines_checked program.run >>= λ _. Ok text) whole h in
+    let q = bind_gives (lines_checked program.run) (Ok text) whole p.1 in
+    plan_checked_is records plan program p.0 q.0
 
-spell_lines : (names : Names) (ls : List Line) → lines_checked ls ≡ written → Each (IsLineSpellable names) ls → Spelled names ls
+-- each line is spelled
+pub record Spelled (names : Names) (ls : List Line) : Type 0 where
+  pub ds : List PlainDatum
+  pub spelled : SpellLines names ls ds
+
+pub spell_lines : (names : Names) (ls : List Line) → lines_checked ls ≡ written → Each (IsLineSpellable names) ls → Spelled names ls
 spell_lines names [] k h = record { ds = []; spelled = no_line }
 spell_lines names (l ∷ ls) k h =
     let c = checked_both (line_checked l) (lines_checked ls) k in
@@ -168,7 +176,7 @@ core_text_back spellings_are records plan program whole h =
     let ls : List Line = all_lines records plan program in
     let p = bind_gives (plan_checked records plan) (lines_checked program.run >>= λ _. Ok (all_text names records plan program)) whole h.given in
     let q = bind_gives (lines_checked program.run) (Ok (all_text names records plan program)) whole p.1 in
-    let lines = spell_lines names ls (plan_checked_is records plan program p.0 q.0) h.spellable in
+    let lines = spell_lines names ls (whole_checked records plan program whole h.given) h.spellable in
     let text : whole ≡ printed.lines_text (import_form ∷ lines.ds) =
     sym (ok_same (all_text names records plan program) whole q.1)
     ∙ append_assoc (codes "(import (rnrs))\n") (plan_text records names plan) (lines_text names program.run)

@@ -1,5 +1,5 @@
 -- The variables that get names, from what the labels of records are bound to.
-use Rattle.std.specs.Prelude.{ℕ, List, [], ◌∷◌, ◌++◌, map, Option, None, Some, slice_get}
+use Rattle.std.specs.Prelude.{ℕ, ◌<◌, ◌^◌, List, [], ◌∷◌, ◌++◌, map, Option, None, Some, slice_get}
 use Rattle.std.specs.List.{flat_map}
 use Rattle.sx_base.specs.declared.library.LibName.{LibName}
 use Rattle.sx_base.specs.declared.name.Label.{Label}
@@ -8,7 +8,7 @@ use Rattle.sx_core.specs.declared.binding.Binding.TheVariants as binding
 use Rattle.sx_core.specs.declared.record.LibRecord.{LibRecord}
 use Rattle.sx_core_laws.specs.Words.{Each, Among, Once}
 use Rattle.sx_core_text.specs.Whole.{all_names}
-use Rattle.sx_name_laws.specs.Variable.{Variable, IsVariable}
+use Rattle.sx_name_laws.specs.Variable.{Variable, IsNamed}
 use Rattle.sx_core_grammar.specs.Names.{AreGenerated, TellApart}
 use Rattle.sx_core_grammar.specs.Spellable.{HasName}
 
@@ -49,11 +49,14 @@ abbrev pub BoundHaveNames : Type 0
 BoundHaveNames = (records : List LibRecord) (plan : List ℕ) (program : LibRecord) (b : Bound) → Among (all_bound records plan program) b
     → HasName (all_names records plan program) b.label
 
--- names are generated ones where each is of a variable, and tell variables apart where no two share library and number
+-- a variable of the program or of a library that has a name, whose index is below 2^64
+abbrev pub IsTold : Bound → Type 0
+IsTold b = IsNamed b.variable.library × (b.variable.number < 2 ^ 64)
+
+-- names are generated ones, and tell such variables apart where no two share library and number
 abbrev pub NamesAreGenerated : Type 0
-NamesAreGenerated = (records : List LibRecord) (plan : List ℕ) (program : LibRecord) → Each (λ b. IsVariable b.variable) (all_bound records plan program)
-    → AreGenerated (all_names records plan program)
+NamesAreGenerated = (records : List LibRecord) (plan : List ℕ) (program : LibRecord) → AreGenerated (all_names records plan program)
 
 abbrev pub NamesTellApart : Type 0
-NamesTellApart = (records : List LibRecord) (plan : List ℕ) (program : LibRecord) → Each (λ b. IsVariable b.variable) (all_bound records plan program)
+NamesTellApart = (records : List LibRecord) (plan : List ℕ) (program : LibRecord) → Each IsTold (all_bound records plan program)
     → Once (map place (all_bound records plan program)) → TellApart (all_names records plan program)

@@ -6,7 +6,7 @@ use Rattle.sx_base.specs.declared.name.Label.{Label}
 use Rattle.sx_core.specs.Labels.{same_label}
 use Rattle.sx_core_laws.specs.Words.{Each}
 use Rattle.sx_core_text.specs.CoreText.{Names}
-use Rattle.sx_name_laws.specs.Variable.{Variable, IsVariable}
+use Rattle.sx_name_laws.specs.Variable.{Variable}
 use Rattle.sx_name_laws.specs.Variable as variables
 
 -- the variable of this label is called so
@@ -20,7 +20,6 @@ IsPrimitive o = (o < name_count) × (is_keyword o ≡ false)
 -- the generated name of a variable
 pub record IsGenerated (x : List ℕ) : Type 0 where
   pub of : Variable
-  pub variable : IsVariable of
   pub same : x ≡ variables.name_of of
 
 -- each name is a generated one

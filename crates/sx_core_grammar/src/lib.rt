@@ -64,8 +64,8 @@ pub fn core_text_tells_its_lines()
     spellings_are_read_by_the_grammar();
 }
 
-/// Each variable that is bound with an index has a name. These names are generated ones, where each is of a variable; and
-/// they tell variables apart, where no two of these share library and number.
+/// Each variable that is bound with an index has a name. These names are generated ones; and where no two of the variables share
+/// library and index, which is below 2^64, they tell them apart.
 pub fn names_are_told_by_bindings()
     ensures given { BoundHaveNames }
     ensures generated { NamesAreGenerated }

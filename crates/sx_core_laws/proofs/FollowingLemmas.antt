@@ -26,7 +26,7 @@ each_within ls ms (x ∷ xs) w h = (w x h.0, each_within ls ms xs w h.1)
 
 -- closed under some labels, and so under more
 mutual
-  closed_more : (ls ms : List Label) (c : PlainCore) → Within ls ms → Closed ls c → Closed ms c
+  pub closed_more : (ls ms : List Label) (c : PlainCore) → Within ls ms → Closed ls c → Closed ms c
   closed_more ls ms (quoted d) w h = tt
   closed_more ls ms (variable l) w h = w l h
   closed_more ls ms (primitive o) w h = tt

@@ -1,4 +1,4 @@
--- No primitive and no template is refused for want of fuel.
+-- No primitive and no template is refused for want of fuel, or for cells that don't fit.
 use Rattle.std.proofs.Common.{◌≡◌, ℕ, zero, suc, List, [], ◌∷◌, ◌++◌, Option, Some, None, Bool, true, false, Result, Ok, Err, subst, length, ◌+◌, ◌-◌, ◌^◌, if◌then◌else◌}
 use Rattle.std.specs.Prelude.{nat_eq, ◌==◌}
 use Rattle.sx_base.specs.Gives.{◌>>=◌}
@@ -40,14 +40,16 @@ use Rattle.sx_template.specs.Instance as instances
 use Rattle.sx_template.specs.Lengths.{agree, or_none}
 use Rattle.sx_template.specs.Measure as measures
 
+-- neither want of fuel nor cells that don't fit
 abbrev pub IsOther : FaultKind → Type 0
 IsOther kind.FuelSpent = ⊥
+IsOther kind.Stuck = ⊥
 IsOther _ = Unit {0}
 
 pub not_spent : (f : Bare) → IsOther f.kind → f ≡ fuel_spent → ⊥
 not_spent f h e = subst (λ (g : Bare). IsOther g.kind) e h
 
--- where it is refused, then not for want of fuel
+-- where it is refused, then for another cause
 abbrev pub Others : {A : Type 0} → Result A Bare → Type 0
 Others (Ok x) = Unit {0}
 Others (Err f) = IsOther f.kind

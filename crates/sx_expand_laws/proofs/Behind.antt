@@ -84,7 +84,7 @@ map-among g (x ∷ xs) y (inr a) = let k = map-among g xs y a in (k.0, (inr k.1.
 abbrev external : List ℕ × Label → List ℕ
 external e = e.0
 
-abbrev asked : List ℕ × Tree → List ℕ
+abbrev pub asked : List ℕ × Tree → List ℕ
 asked e = e.0
 
 export-named : (at : TopAt) (e : List ℕ × Tree) (s : State) → Gave (λ x t. x.0 ≡ e.0) (export at e s)
@@ -110,7 +110,7 @@ top-named go at es forms s =
     (λ d t k. gave-after (λ xs u. map external xs ≡ map asked es) (λ r v. export_names r ≡ map asked es) (exports at es t) (λ ls u. after (finish_all go 0 d.waiting u) (λ lines. give_record at ls lines)) (exports-named at es t)
     (λ xs u j. gave-after (λ ys v. Unit {0}) (λ r v. export_names r ≡ map asked es) (finish_all go 0 d.waiting u) (λ lines. give_record at xs lines) (gave-any (λ ys v. Unit {0}) (finish_all go 0 d.waiting u) (λ ys v. tt)) (λ ys v i. j)))
 
-record-named : (own : LibName) (path : List ℕ) (records : List LibRecord) (imports : List (List ℕ × Label)) (version : List ℕ) (place : Span) (es : List (List ℕ × Tree)) (forms : List Tree) (codes : Codes) (r : LibRecord)
+pub record-named : (own : LibName) (path : List ℕ) (records : List LibRecord) (imports : List (List ℕ × Label)) (version : List ℕ) (place : Span) (es : List (List ℕ × Tree)) (forms : List Tree) (codes : Codes) (r : LibRecord)
     → library_record (ready own path records imports codes) records version place es forms ≡ Ok r → export_names r ≡ map asked es
 record-named own path records imports version place es forms codes r e =
     by (top (inside records 602) (body_of (ready own path records imports codes) version place) es forms (started own records imports codes))

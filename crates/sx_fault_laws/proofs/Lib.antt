@@ -4,7 +4,6 @@ pub mod Lines
 pub mod Small
 pub mod Blocks
 pub mod GapFaults
-pub mod Elements
 pub mod StringFaults
 pub mod CharacterFaults
 pub mod BareTexts

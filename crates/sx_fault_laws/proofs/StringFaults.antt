@@ -13,7 +13,7 @@ use Rattle.sx_lexer.specs.Grammar.{Run, Element}
 use Rattle.sx_lexer.specs.Strings.{char_here, char_or_byte, simple_escape, letter_or_fault, hex_part, line_part, escape_part, line_or_char, string_part, string_from, string_at, string_lexeme, char_text}
 use Rattle.sx_lexer.specs.declared.token.Lexeme.{Lexeme}
 use Rattle.sx_lexer.proofs.BetweenLemmas.{not_equal, equal}
-use Rattle.sx_lexer.proofs.StringLemmas.{blanks_are, blanks_complete, differs}
+use Rattle.sx_lexer.proofs.StringLemmas.{blanks_are, blanks_complete, differs, part_complete, element_some}
 use Rattle.sx_spelling.specs.Escapes.{escape}
 use Rattle.sx_spelling.specs.Numbers.{digits_size}
 use Rattle.sx_spelling.specs.Source.{characters, piece}
@@ -24,7 +24,6 @@ use Rattle.sx_fault_laws.specs.Behind as behind
 use Rattle.sx_fault_laws.specs.Laws.{StringFaultsAre}
 use Rattle.sx_fault_laws.specs.Strings.{NextElement, BadElement}
 use Rattle.sx_fault_laws.specs.Strings as bad
-use Rattle.sx_fault_laws.proofs.Elements.{part_complete, element_some}
 use Rattle.sx_fault_laws.proofs.Tests.{Tells, told, blamed, follows, turned, branch, bind_err}
 
 not_zero : (n : ℕ) → n == 0 ≡ false → 0 < n

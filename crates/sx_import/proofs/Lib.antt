@@ -1,3 +1,6 @@
 pub mod TableLemmas
 pub mod TurnLemmas
 pub mod NameLemmas
+pub mod SharedLemmas
+pub mod FoundLemmas
+pub mod SourceLemmas

@@ -21,20 +21,9 @@ use Rattle.sx_import.proofs.TurnLemmas.{cons_at, got}
 abbrev pub is_absent : Labelled → NameAt → Bool
 is_absent names id = not (has_name names id.name)
 
--- names and identifiers alone, as pairs with nothing
-abbrev pub alone : Labelled → List (List ℕ × Unit {0})
-alone names = map (λ e. (e.0, tt)) names
-
+-- identifiers alone, as pairs with nothing
 abbrev pub asked_for : List NameAt → List (List ℕ × Unit {0})
 asked_for ids = map (λ id. (id.name, tt)) ids
-
-has-alone : (name : List ℕ) (names : Labelled) → is_some (value_of name (alone names)) ≡ has_name names name
-has-alone name [] = refl
-has-alone name (e ∷ es) = by (same_text name e.0) (has-alone name es)
-  where
-    by : (b : Bool) → is_some (value_of name (alone es)) ≡ has_name es name → is_some (cond b (Some tt) (value_of name (alone es))) ≡ is_some (cond b (Some e.1) (value_of name es))
-    by true h = refl
-    by false h = h
 
 has-asked : (name : List ℕ) (ids : List NameAt) → is_some (value_of name (asked_for ids)) ≡ is_among ids name
 has-asked name [] = refl
@@ -44,8 +33,8 @@ has-asked name (id ∷ ids) = by (same_text name id.name) (has-asked name ids)
     by true h = refl
     by false h = h
 
-pub has-table : (names : Labelled) (table : List (List ℕ × Unit {0})) → table ≡ put_all [] (alone names) → (name : List ℕ) → is_some (value_of name table) ≡ has_name names name
-has-table names table is name = ap (λ t. is_some (value_of name t)) is ∙ ap is_some (value-put_all name (alone names)) ∙ has-alone name names
+pub has-table : (names table : Labelled) → table ≡ put_all [] names → (name : List ℕ) → has_name table name ≡ has_name names name
+has-table names table is name = ap (λ t. is_some (value_of name t)) is ∙ ap is_some (value-put_all name names)
 
 pub among-table : (ids : List NameAt) (table : List (List ℕ × Unit {0})) → table ≡ put_all [] (asked_for ids) → (name : List ℕ) → is_some (value_of name table) ≡ is_among ids name
 among-table ids table is name = ap (λ t. is_some (value_of name t)) is ∙ ap is_some (value-put_all name (asked_for ids)) ∙ has-asked name ids
@@ -87,6 +76,14 @@ need_stops {A} names ids x (stops.Fault f) h = by (find (is_absent names) ids) h
     by None h = cc
     by (Some id) h = let e : missing_at id ≡ f = cc in ap Err e
 
+-- names that have the same as others need the same
+pub need_same : {A : Type 0} (others names : Labelled) (ids : List NameAt) (x : Result A Fault) → ((name : List ℕ) → has_name others name ≡ has_name names name) → need others ids x ≡ need names ids x
+need_same others names ids x h = ap (λ o. need_by o x) (same ids)
+  where
+    same : (ids : List NameAt) → find (is_absent others) ids ≡ find (is_absent names) ids
+    same [] = refl
+    same (id ∷ ids) = ap (λ b. cond (not b) (Some id) (find (is_absent others) ids)) (h id.name) ∙ ap (λ o. cond (not (has_name names id.name)) (Some id) o) (same ids)
+
 -- one more name, where it passes a test
 pub filter_on : (test : List ℕ × Label → Bool) (names : Labelled) (i : ℕ) (row : List ℕ × Label) (rows new whole : Labelled) → i < length names → row ≡ get_or names i row
     → new ≡ rows ++ (if test row then row ∷ [] else []) → rows ++ filter test (drop i names) ≡ whole → new ++ filter test (drop (i + 1) names) ≡ whole
@@ -110,14 +107,6 @@ join_over span all row label r there given =
     by false (Ok u) h = cc
     by false (Err stops.Memory) h = tt
     by false (Err (stops.Fault f)) h = let e : conflict span row.0 ≡ f = cc in ap Err e
-
--- a table only grows
-pub put_front : (rows : Labelled) (row : List ℕ × Label) → (tail : Labelled) × (put_first rows row ≡ rows ++ tail)
-put_front rows row = by (is_some (value_of row.0 rows))
-  where
-    by : (b : Bool) → (tail : Labelled) × (cond b rows (rows ++ row ∷ []) ≡ rows ++ tail)
-    by true = ([], sym (append-nil rows))
-    by false = (row ∷ [], refl)
 
 -- one more name of a table
 pub row_on : (names : Labelled) (i : ℕ) (row : List ℕ × Label) (rows : Labelled) → slice_get names i ≡ Some row → rows ++ drop i names ≡ names → (rows ++ row ∷ []) ++ drop (i + 1) names ≡ names

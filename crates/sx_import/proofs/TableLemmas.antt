@@ -29,7 +29,7 @@ put_new {V} m rows name value is h =
 pub put_kept : {V : Type 0} (rows : List (List ℕ × V)) (row : List ℕ × V) → is_some (value_of row.0 rows) ≡ true → rows ≡ put_first rows row
 put_kept {V} rows row h = sym (ap (λ b. cond {A = List (List ℕ × V)} b rows (rows ++ row ∷ [])) h)
 
-abbrev or_else : {A : Type 0} → Option A → Option A → Option A
+abbrev pub or_else : {A : Type 0} → Option A → Option A → Option A
 or_else None b = b
 or_else (Some a) b = Some a
 
@@ -37,7 +37,7 @@ or_else-assoc : {A : Type 0} (a b c : Option A) → or_else (or_else a b) c ≡ 
 or_else-assoc None b c = refl
 or_else-assoc (Some a) b c = refl
 
-value-append : {V : Type 0} (name : List ℕ) (es fs : List (List ℕ × V)) → value_of name (es ++ fs) ≡ or_else (value_of name es) (value_of name fs)
+pub value-append : {V : Type 0} (name : List ℕ) (es fs : List (List ℕ × V)) → value_of name (es ++ fs) ≡ or_else (value_of name es) (value_of name fs)
 value-append name [] fs = refl
 value-append name (e ∷ es) fs = by (same_text name e.0) (value-append name es fs)
   where

@@ -17,6 +17,9 @@
 //! `specs/Names`, in its order, or its first fault; only want of memory is free.
 #![tactic(auto)]
 
+mod found;
 pub mod names;
 pub mod set;
+pub mod shared;
+pub mod sources;
 pub mod table;

@@ -20,23 +20,7 @@ use sx_base::symbol::Symbol;
 /// Names, each once, and the labels that they stand for.
 pub type Names = Table<Label>;
 
-/// The names that an import set gives of a library with these exports. A name that it asks for and
-/// that isn't there is `ImportNameMissing`; one that would stand for two labels is `ImportConflict` at
-/// the set.
-#[tactic(auto, using(crate::proofs::TurnLemmas::bind_stops, crate::proofs::TurnLemmas::bind_ok))]
-pub fn import_names(
-    alloc: Global,
-    set: &ImportSet,
-    span: &Span,
-    exports: &[(Symbol, Label)],
-) -> Result<Items<(Symbol, Label)>, Stop>
-    ensures { Gives (λ names. names) result (import_names set.now span.now exports.now) }
-{
-    let names = joined(alloc, exports, span)?;
-    taken(alloc, names, set.steps.as_slice(), span)
-}
-
-fn taken(
+pub(crate) fn taken(
     alloc: Global,
     mut names: Items<(Symbol, Label)>,
     steps: &[Step],
@@ -110,16 +94,29 @@ fn need(alloc: Global, names: &[(Symbol, Label)], ids: &[NameAt]) -> Result<(), 
     ensures { Gives (λ u. u) result (need names.now ids.now (Ok tt)) }
 {
     let table = name_table(alloc, names)?;
+    need_in(alloc, &table, ids)
+}
+
+// The same, where the names are in a table.
+pub(crate) fn need_in(alloc: Global, table: &Names, ids: &[NameAt]) -> Result<(), Stop>
+    ensures { Gives (λ u. u) result (need table.now ids.now (Ok tt)) }
+{
     for id in ids {
-        if !has_name(&table, &id.name) {
+        if !is_name(table, &id.name) {
             return Err(missing_at(alloc, id));
         }
     }
     Ok(())
 }
 
+fn is_name(table: &Names, name: &Symbol) -> bool
+    ensures { result ≡ has_name table.now name.now }
+{
+    table.get(name).is_some()
+}
+
 // The identifiers that are renamed.
-fn sources(alloc: Global, renamings: &[Renaming]) -> Result<Items<NameAt>, Memory>
+pub(crate) fn sources(alloc: Global, renamings: &[Renaming]) -> Result<Items<NameAt>, Memory>
     ensures { IfOk result (λ ids. ids ≡ sources renamings.now) }
 {
     let mut ids = Items::new(alloc);
@@ -168,12 +165,12 @@ fn fault_made(alloc: Global, kind: FaultKind, span: &Span, name: &Symbol) -> Res
     Ok(Fault { kind, span, words })
 }
 
-fn name_table(alloc: Global, names: &[(Symbol, Label)]) -> Result<Table<()>, Memory>
-    ensures { IfOk result (λ table. (name : List ℕ) → is_some (value_of name table) ≡ has_name names.now name) }
+fn name_table(alloc: Global, names: &[(Symbol, Label)]) -> Result<Names, Memory>
+    ensures { IfOk result (λ table. (name : List ℕ) → has_name table name ≡ has_name names.now name) }
 {
     let mut table = Table::new(alloc);
-    for (name, _) in names {
-        table.put_first(name.share()?, ())?;
+    for (name, label) in names {
+        table.put_first(name.share()?, label.share()?)?;
     }
     Ok(table)
 }
@@ -198,7 +195,7 @@ fn new_name_table(alloc: Global, renamings: &[Renaming]) -> Result<Table<Symbol>
     Ok(table)
 }
 
-fn share_row(row: &(Symbol, Label)) -> Result<(Symbol, Label), Memory>
+pub(crate) fn share_row(row: &(Symbol, Label)) -> Result<(Symbol, Label), Memory>
     ensures { IfOk result (λ r. r ≡ row.now) }
 {
     let name = row.0.share()?;
@@ -221,7 +218,7 @@ fn add_if(
 }
 
 // The names that are among the identifiers'.
-fn kept(
+pub(crate) fn kept(
     alloc: Global,
     names: &[(Symbol, Label)],
     ids: &[NameAt],
@@ -237,7 +234,7 @@ fn kept(
 }
 
 // The names that aren't.
-fn left(
+pub(crate) fn left(
     alloc: Global,
     names: &[(Symbol, Label)],
     ids: &[NameAt],
@@ -252,7 +249,7 @@ fn left(
     Ok(rows)
 }
 
-fn prefixed(
+pub(crate) fn prefixed(
     alloc: Global,
     names: &[(Symbol, Label)],
     symbol: &Symbol,
@@ -275,7 +272,7 @@ fn with_prefix(alloc: Global, symbol: &Symbol, name: &Symbol) -> Result<Symbol, 
     Symbol::from_string(text)
 }
 
-fn renamed(
+pub(crate) fn renamed(
     alloc: Global,
     names: &[(Symbol, Label)],
     renamings: &[Renaming],
@@ -301,16 +298,28 @@ fn new_name(table: &Table<Symbol>, name: &Symbol) -> Result<Symbol, Memory>
 }
 
 // Names from a list in which some may come twice.
-fn joined(
+pub(crate) fn joined(
     alloc: Global,
     names: &[(Symbol, Label)],
     span: &Span,
 ) -> Result<Items<(Symbol, Label)>, Stop>
     ensures { Gives (λ rows. rows) result (joined span.now [] names.now) }
 {
+    let all = joined_table(alloc, names, span)?;
+    Ok(rows(alloc, &all)?)
+}
+
+// The same in a table.
+pub(crate) fn joined_table(
+    alloc: Global,
+    names: &[(Symbol, Label)],
+    span: &Span,
+) -> Result<Names, Stop>
+    ensures { Gives (λ rows. rows) result (joined span.now [] names.now) }
+{
     let mut all = Table::new(alloc);
     join_each(alloc, &mut all, names, span)?;
-    Ok(rows(alloc, &all)?)
+    Ok(all)
 }
 
 /// The names of a table, in order.
@@ -349,7 +358,7 @@ fn join_one(alloc: Global, all: &mut Names, row: &(Symbol, Label), span: &Span) 
     if let Some(label) = all.get(&row.0) {
         return join_again(alloc, label, row, span);
     }
-    all.put_first(row.0.share()?, row.1.share()?)?;
+    all.put_new(row.0.share()?, row.1.share()?)?;
     Ok(())
 }
 

@@ -2,8 +2,9 @@
 
 ghost use Rattle.std.specs.Map.{lookup};
 ghost use Rattle.std.specs.Option.{option_copied, option_map};
-ghost use Rattle.std.specs.Prelude.{◌≡◌, ℕ, List, [], ◌∷◌, ◌++◌, take, length, slice_get, None, Some, Ok, IfOk, OnOk, OnErr, if◌then◌else◌, is_some};
+ghost use Rattle.std.specs.Prelude.{◌≡◌, ◌≤◌, ℕ, List, [], ◌∷◌, ◌++◌, take, length, slice_get, None, Some, Ok, IfOk, OnOk, OnErr, if◌then◌else◌, is_some};
 ghost use Rattle.sx_import.specs.Table.{value_of, put_first, pair_now};
+ghost use Rattle.sx_import.specs.Shared.{place_of, IsOwn};
 
 use indexmap::IndexMap;
 use std::alloc::Global;
@@ -48,6 +49,21 @@ impl<V: Drop> Table<V> {
         self.rows.get(name)
     }
 
+    /// The place of a name. It takes no memory.
+    pub fn place_of(&self, name: &Symbol) -> Option<usize>
+        ensures { result ≡ place_of name.now self.now }
+    {
+        self.rows.get_index_of(name)
+    }
+
+    /// How many of so many names can be here, for each stands once.
+    pub fn at_most(&self, count: usize) -> usize
+        ensures fits { result ≤ count }
+        ensures own { IsOwn self.now }
+    {
+        count.min(self.rows.len())
+    }
+
     /// The name and value at a place.
     pub fn at(&self, place: usize) -> Option<(&Symbol, &V)>
         ensures { option_map pair_now result ≡ slice_get self.now place }
@@ -63,6 +79,18 @@ impl<V: Drop> Table<V> {
         if self.get(&name).is_some() {
             return Ok(());
         }
+        match self.rows.insert(name, value) {
+            Ok(_) => Ok(()),
+            Err(_) => Err(Memory),
+        }
+    }
+
+    /// Puts a value at the end under a name that has none. A refusal changes nothing.
+    pub fn put_new(&mut self, name: Symbol, value: V) -> Result<(), Memory>
+        requires { value_of name self.old ≡ None }
+        ensures ok { OnOk result (self.new ≡ self.old ++ (name, value) ∷ []) }
+        ensures err { OnErr result (self.new ≡ self.old) }
+    {
         match self.rows.insert(name, value) {
             Ok(_) => Ok(()),
             Err(_) => Err(Memory),

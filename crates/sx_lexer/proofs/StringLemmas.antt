@@ -224,7 +224,7 @@ module _ (file : List ℕ) (quote : ℕ) where
       let size_is : at + 1 + before + line_end rest + after - at ≡ 1 + before + line_end rest + after = omega arith in
       rw (equal (slice_index bytes 0) 0x5C first, e, not_equal (slice_index bytes 1) 0x78 x, here, less, ← is_rest, char, is_some (line_end rest) n, behind, size_is) refl
 
-  part_complete : (bytes : List ℕ) (at : ℕ) (char : Option ℕ) (size : ℕ) → Element bytes char size → string_part file quote bytes at ≡ Ok (piece char size)
+  pub part_complete : (bytes : List ℕ) (at : ℕ) (char : Option ℕ) (size : ℕ) → Element bytes char size → string_part file quote bytes at ≡ Ok (piece char size)
   part_complete _ at _ _ (Element.char bytes c size rest first e n) = char_complete bytes at c size rest first e n
   part_complete _ at _ _ (Element.line bytes first n) = line_complete bytes at first n
   part_complete _ at _ _ (Element.simple bytes c first e) = simple_complete bytes at c first e
@@ -232,7 +232,7 @@ module _ (file : List ℕ) (quote : ℕ) where
   part_complete _ at _ _ (Element.continued bytes rest before after c size ps first e x run is_rest n char run_after) =
       continued_complete bytes rest at before after c size ps first e x run is_rest n char run_after
 
-  element_some : (bytes : List ℕ) (char : Option ℕ) (size : ℕ) → Element bytes char size → (0 < size) × (0 < length bytes)
+  pub element_some : (bytes : List ℕ) (char : Option ℕ) (size : ℕ) → Element bytes char size → (0 < size) × (0 < length bytes)
   element_some _ _ _ (Element.char bytes c size rest first e n) = (first_some bytes c size rest e, some_bytes bytes (piece (Some c) size) rest e)
   element_some _ _ _ (Element.line bytes first n) = (n, line_some bytes n)
   element_some _ _ _ (Element.simple bytes c first e) = (omega arith, by_first bytes 0x5C (omega arith) first)

@@ -3,3 +3,4 @@ pub mod FirstLemmas
 pub mod NameLemmas
 pub mod PlaceLemmas
 pub mod LoadedLemmas
+pub mod SourceLemmas

@@ -3,3 +3,4 @@ pub mod Library
 pub mod Chosen
 pub mod Records
 pub mod Loaded
+pub mod Listed

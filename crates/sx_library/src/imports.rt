@@ -1,29 +1,37 @@
 //! The names that the imports of a form give.
 
-ghost use Rattle.std.specs.Prelude.{◌≡◌, [], IfOk, option_map, map};
-ghost use Rattle.sx_base.specs.Gives.{Gives};
+ghost use Rattle.std.specs.Prelude.{◌≡◌, [], true, IfOk, IfErr, OnOk, is_some, option_map, map};
+ghost use Rattle.sx_base.specs.Gives.{Gives, Stops};
+ghost use Rattle.sx_import.specs.Names.{Labelled, joined};
+ghost use Rattle.sx_import.specs.Sources.{names_in, AreEnough};
 ghost use Rattle.sx_import.specs.Turns.{turns};
 ghost use Rattle.sx_derived.specs.Derived.{relabelled_in};
 ghost use Rattle.sx_library.specs.Imports.{named, record_referred, record_exports, referred, refer, given_names, exported, import_into, form_names};
+ghost use Rattle.sx_library.specs.Listed.{AreListed};
 ghost use Rattle.sx_library.specs.Records.{needed_records};
 ghost use Rattle.sx_load.specs.Load.{fitting, builtin_version};
 
 use crate::records::Records;
+use indexmap::IndexMap;
 use std::alloc::Global;
 use sx_base::fault::{FaultKind, Stop};
 use sx_base::items::Items;
 use sx_base::library::LibName;
 use sx_base::memory::Memory;
 use sx_base::name::Label;
+use sx_base::span::Span;
 use sx_base::symbol::Symbol;
 use sx_builtin::exports::exports;
 use sx_core::record::LibRecord;
 use sx_derived::derived::relabelled;
 use sx_forms::set::Import;
-use sx_import::names::{Names, import_names, join_names};
+use sx_import::names::Names;
 use sx_import::set::ImportSet;
+use sx_import::shared::Exports;
+use sx_import::sources::{Sources, add_source, has_source, join_source};
 use sx_import::table::Table;
 use sx_load::refer::{VERSION, about, check_version, is_builtin};
+use sx_standing::share::share_library;
 
 /// The names that the imports of a form give, each once and in order, with their labels. First each library
 /// must be there in a version that fits, and then each name is looked for.
@@ -73,6 +81,7 @@ fn record_referred(alloc: Global, set: &ImportSet, one: Option<&LibRecord>) -> R
     }
 }
 
+#[tactic(auto, using(crate::proofs::SourceLemmas::no_names, crate::proofs::SourceLemmas::none_enough))]
 fn import_all(
     alloc: Global,
     records: &Records,
@@ -82,24 +91,62 @@ fn import_all(
     ensures { Gives (λ names. names) result (turns (import_into (needed_records records.now needs.now)) [] imports.now) }
 {
     let mut names = Table::new(alloc);
+    let mut sources = IndexMap::new(alloc);
     for import in imports {
-        import_into(alloc, records, needs, &mut names, import)?;
+        import_into(alloc, records, needs, &mut sources, &mut names, import)?;
     }
     Ok(names)
 }
 
+// The names of a library are listed with its first import set, and then each set asks the list.
 fn import_into(
     alloc: Global,
     records: &Records,
     needs: &[bool],
+    sources: &mut Sources,
     names: &mut Names,
     import: &Import,
 ) -> Result<(), Stop>
-    ensures { Gives (λ _. names.new) result (import_into (needed_records records.now needs.now) names.old import.now) }
+    requires listed { AreListed (needed_records records.now needs.now) sources.old.entries }
+    requires enough { AreEnough names.old sources.old.entries }
+    ensures names { Gives (λ _. names.new) result (import_into (needed_records records.now needs.now) names.old import.now) }
+    ensures listed { OnOk result (AreListed (needed_records records.now needs.now) sources.new.entries) }
+    ensures enough { OnOk result (AreEnough names.new sources.new.entries) }
 {
-    let exports = exported(alloc, records, needs, &import.set.library)?;
-    let more = import_names(alloc, &import.set, &import.span, exports.as_slice())?;
-    join_names(alloc, names, more.as_slice(), &import.span)
+    list_source(
+        alloc,
+        records,
+        needs,
+        sources,
+        &import.set.library,
+        &import.span,
+    )?;
+    join_source(alloc, sources, names, &import.set, &import.span)
+}
+
+// Lists the names of a library, unless they are listed.
+fn list_source(
+    alloc: Global,
+    records: &Records,
+    needs: &[bool],
+    sources: &mut Sources,
+    library: &LibName,
+    span: &Span,
+) -> Result<(), Stop>
+    requires { AreListed (needed_records records.now needs.now) sources.old.entries }
+    ensures stop { IfErr result (λ stop. Stops stop (joined span.now [] (exported (needed_records records.now needs.now) library.now))) }
+    ensures listed { OnOk result (AreListed (needed_records records.now needs.now) sources.new.entries) }
+    ensures there { OnOk result (is_some (names_in library.now sources.new.entries) ≡ true) }
+    ensures enough { OnOk result ((all : Labelled) → AreEnough all sources.old.entries → AreEnough all sources.new.entries) }
+{
+    if has_source(sources, library) {
+        return Ok(());
+    }
+    let exports = exported(alloc, records, needs, library)?;
+    let exports = Exports::new(alloc, exports.as_slice(), span)?;
+    let name = share_library(alloc, library)?;
+    add_source(alloc, sources, name, exports)?;
+    Ok(())
 }
 
 fn exported(

@@ -20,7 +20,7 @@ use Rattle.sx_run_laws.proofs.RunLemmas.{same_place, all_records_stand}
 
 -- ---- lists
 
-get_among : (rs : List LibRecord) (i : ℕ) (r : LibRecord) → slice_get rs i ≡ Some r → Among rs r
+pub get_among : (rs : List LibRecord) (i : ℕ) (r : LibRecord) → slice_get rs i ≡ Some r → Among rs r
 get_among [] i r h = absurd (cc)
 get_among (x ∷ rs) zero r h = let same : r ≡ x = cc in inl same
 get_among (x ∷ rs) (suc i) r h = inr (get_among rs i r h)

@@ -58,7 +58,7 @@ each_filter P keep (x ∷ xs) h = by (keep x) (each_filter P keep xs h.1)
     by true rest = (h.0, rest)
     by false rest = rest
 
-found_among : {A : Type 0} (p : A → Bool) (xs : List A) (x : A) → find p xs ≡ Some x → Among xs x
+pub found_among : {A : Type 0} (p : A → Bool) (xs : List A) (x : A) → find p xs ≡ Some x → Among xs x
 found_among p [] x h = absurd (cc)
 found_among {A} p (y ∷ ys) x h = by (p y) (found_among p ys x) h
   where
@@ -168,7 +168,7 @@ given_labels (library.User parts) names h = by (library_named parts) h
     by None h = absurd (cc)
     by (Some l) h = let same : library_exports l ≡ names = cc in subst (λ (es : Labelled). Each IsGivenLabel es) same (all_given (library_numbers l))
 
-each_label : (P : Label → Type 0) (es : Labelled) → Each P (map (λ (e : List ℕ × Label). e.1) es) → LabelsAre P es
+pub each_label : (P : Label → Type 0) (es : Labelled) → Each P (map (λ (e : List ℕ × Label). e.1) es) → LabelsAre P es
 each_label P [] h = tt
 each_label P (e ∷ es) h = (h.0, each_label P es h.1)
 

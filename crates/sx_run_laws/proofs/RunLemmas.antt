@@ -29,7 +29,7 @@ use Rattle.sx_run_laws.proofs.PlaceLemmas.{marked_from, first_records, needed_be
 use Rattle.sx_run_laws.proofs.MadeLemmas.{IsMade, all_made}
 use Rattle.sx_run_laws.proofs.BehindLemmas.{IsNew, library_stands, derived_stands}
 
-below_next : (p k : ℕ) → p < suc k → (p < k) ⊎ (p ≡ k)
+pub below_next : (p k : ℕ) → p < suc k → (p < k) ⊎ (p ≡ k)
 below_next zero zero h = inr refl
 below_next zero (suc k) h = inl (omega arith)
 below_next (suc p) zero h = absurd (omega (arith, h))

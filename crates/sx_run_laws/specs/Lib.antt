@@ -1,1 +1,9 @@
 pub mod Run
+pub mod Bound
+pub mod Expansion
+pub mod Fitting
+pub mod Names
+pub mod Written
+pub mod Once
+pub mod Known
+pub mod Following

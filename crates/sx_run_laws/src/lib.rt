@@ -33,8 +33,15 @@
 //! and no two of its variables share library and index. The first promise gives all that the law of sx_text_laws
 //! asks of the records.
 //!
+//! More stand in modules of their own: `by_name`, that the text is closed and bound once by the names in it; `follow`,
+//! that the records follow one another; and `memory`, that want of memory hides no other cause.
+//!
 //! Nothing is computed here: each function stands for the law that it ensures.
 #![tactic(auto)]
+
+pub mod by_name;
+pub mod follow;
+pub mod memory;
 
 ghost use Rattle.sx_run_laws.specs.Run.{RecordsStand, RunsAreClosedOnce};
 

@@ -1,8 +1,14 @@
 use Rattle.std.proofs.Common.{◌≡◌, [], drop}
+use Rattle.sx_import.specs.Sources.{AreEnough}
 use Rattle.sx_import.specs.Turns.{turns}
-use Rattle.sx_library.specs.Records.{needed_records}
 use Rattle.sx_library.specs.Imports.{import_into}
+use Rattle.sx_library.specs.Listed.{AreListed}
+use Rattle.sx_library.specs.Records.{needed_records}
 use Rattle.sx_library.proofs.imports.import_all.Given as goal
 
 abbrev pub invariant-loop-import : goal.invariant-loop-import
-invariant-loop-import l = turns (import_into (needed_records l.records l.needs)) l.names (drop l.import-index l.imports) ≡ turns (import_into (needed_records l.records l.needs)) [] l.imports
+invariant-loop-import l = record {
+  so_far : turns (import_into (needed_records l.records l.needs)) l.names (drop l.import-index l.imports) ≡ turns (import_into (needed_records l.records l.needs)) [] l.imports;
+  listed : AreListed (needed_records l.records l.needs) l.sources.entries;
+  enough : AreEnough l.names l.sources.entries;
+}

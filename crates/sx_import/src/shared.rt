@@ -1,0 +1,259 @@
+//! The names of a library, which many import sets of a form share.
+//!
+//! `(import (only (m) a) (only (m) b) (m) (except (m) c))` asks four times for names of `(m)`, which are listed once. An
+//! `only` finds its names by their places, and `(m)` and `(except (m) c)` join only what no set before has joined: so
+//! each costs as much as what it names.
+
+ghost use Rattle.std.specs.Prelude.{◌≡◌, ℕ, List, [], ◌∷◌, ◌++◌, Ok, IfOk, OnOk, IfSome};
+ghost use Rattle.sx_base.specs.Gives.{Gives};
+ghost use Rattle.sx_import.specs.Names.{Labelled, need, only, except, joined, step_names, sources, renamed};
+ghost use Rattle.sx_import.specs.Shared.{steps_joined, IsEnough, IsEnoughIf};
+ghost use Rattle.sx_import.specs.declared.set.Step.TheVariants as word;
+
+use crate::found::found;
+use crate::names::{
+    Names, join_names, joined, joined_table, kept, left, need_in, prefixed, renamed, rows, sources,
+    taken,
+};
+use crate::set::{NameAt, Renaming, Step};
+use std::alloc::Global;
+use std::marker::Model;
+use sx_base::fault::Stop;
+use sx_base::items::Items;
+use sx_base::name::Label;
+use sx_base::span::Span;
+use sx_base::symbol::Symbol;
+
+/// The names that a library exports, each once, in order and by name.
+#[derive(Drop)]
+pub struct Exports {
+    rows: Items<(Symbol, Label)>,
+    names: Names,
+}
+
+impl Model for Exports {
+    ghost use Rattle.std.specs.Prelude.{◌≡◌, List, ℕ};
+    ghost use Rattle.sx_base.specs.declared.name.Label.{Label};
+
+    ghost Value = { List (List ℕ × Label) };
+
+    ghost view = { λ e. e.names };
+
+    ghost invariant = { λ e. e.rows ≡ e.names };
+}
+
+impl Exports {
+    /// The names of a list in which some may come twice. One that stands for two labels is `ImportConflict` at a set.
+    pub fn new(alloc: Global, names: &[(Symbol, Label)], span: &Span) -> Result<Exports, Stop>
+        ensures { Gives (λ e. e) result (joined span.now [] names.now) }
+    {
+        let names = joined_table(alloc, names, span)?;
+        let rows = rows(alloc, &names)?;
+        Ok(Exports { rows, names })
+    }
+
+    /// The names in order.
+    pub fn rows(&self) -> &[(Symbol, Label)]
+        ensures { result.now ≡ self.now }
+    {
+        self.rows.as_slice()
+    }
+
+    /// The names, to be found.
+    pub fn names(&self) -> &Names
+        ensures { result.now ≡ self.now }
+    {
+        &self.names
+    }
+}
+
+#[tactic(auto, using(crate::proofs::NameLemmas::need_met, crate::proofs::NameLemmas::need_stops))]
+fn only(alloc: Global, exports: &Exports, ids: &[NameAt]) -> Result<Items<(Symbol, Label)>, Stop>
+    ensures { Gives (λ names. names) result (need exports.now ids.now (Ok (only ids.now exports.now))) }
+{
+    need_in(alloc, exports.names(), ids)?;
+    Ok(found(alloc, exports.names(), ids)?)
+}
+
+#[tactic(auto, using(crate::proofs::NameLemmas::need_met, crate::proofs::NameLemmas::need_stops))]
+fn except(alloc: Global, exports: &Exports, ids: &[NameAt]) -> Result<Items<(Symbol, Label)>, Stop>
+    ensures { Gives (λ names. names) result (need exports.now ids.now (Ok (except ids.now exports.now))) }
+{
+    need_in(alloc, exports.names(), ids)?;
+    Ok(left(alloc, exports.rows(), ids)?)
+}
+
+#[tactic(auto, using(crate::proofs::NameLemmas::need_met, crate::proofs::NameLemmas::need_stops))]
+fn rename(
+    alloc: Global,
+    exports: &Exports,
+    renamings: &[Renaming],
+    span: &Span,
+) -> Result<Items<(Symbol, Label)>, Stop>
+    ensures { Gives (λ names. names) result (need exports.now (sources renamings.now) (joined span.now [] (renamed renamings.now exports.now))) }
+{
+    let ids = sources(alloc, renamings)?;
+    need_in(alloc, exports.names(), ids.as_slice())?;
+    let names = renamed(alloc, exports.rows(), renamings)?;
+    joined(alloc, names.as_slice(), span)
+}
+
+// What the innermost word leaves of the names of a library.
+fn first_names(
+    alloc: Global,
+    exports: &Exports,
+    step: &Step,
+    span: &Span,
+) -> Result<Items<(Symbol, Label)>, Stop>
+    ensures { Gives (λ names. names) result (step_names span.now exports.now step.now) }
+{
+    match step {
+        Step::Only(ids) => only(alloc, exports, ids.as_slice()),
+        Step::Except(ids) => except(alloc, exports, ids.as_slice()),
+        Step::Prefix(symbol) => Ok(prefixed(alloc, exports.rows(), symbol)?),
+        Step::Rename(renamings) => rename(alloc, exports, renamings.as_slice(), span),
+    }
+}
+
+// The names that a step and others leave, joined to those of a form.
+#[tactic(auto, using(crate::proofs::SharedLemmas::first_stops, crate::proofs::SharedLemmas::first_gives))]
+fn join_others(
+    alloc: Global,
+    all: &mut Names,
+    exports: &Exports,
+    step: &Step,
+    others: &[Step],
+    span: &Span,
+) -> Result<(), Stop>
+    ensures { Gives (λ _. all.new) result (steps_joined span.now all.old exports.now (step.now ∷ others.now)) }
+{
+    let names = first_names(alloc, exports, step, span)?;
+    join_taken(alloc, all, names, others, span)
+}
+
+#[tactic(auto, using(crate::proofs::TurnLemmas::bind_stops, crate::proofs::TurnLemmas::bind_ok))]
+fn join_taken(
+    alloc: Global,
+    all: &mut Names,
+    names: Items<(Symbol, Label)>,
+    steps: &[Step],
+    span: &Span,
+) -> Result<(), Stop>
+    ensures { Gives (λ _. all.new) result (steps_joined span.now all.old names steps.now) }
+{
+    let names = taken(alloc, names, steps, span)?;
+    join_names(alloc, all, names.as_slice(), span)
+}
+
+// All names of a library, joined to those of a form.
+fn join_whole(
+    alloc: Global,
+    all: &mut Names,
+    exports: &Exports,
+    fresh: &[(Symbol, Label)],
+    span: &Span,
+) -> Result<Option<Items<(Symbol, Label)>>, Stop>
+    requires { IsEnough all.old exports.now fresh.now }
+    ensures names { Gives (λ _. all.new) result (joined span.now all.old exports.now) }
+    ensures front { OnOk result ((tail : Labelled) × (all.new ≡ all.old ++ tail)) }
+    ensures fresh { IfOk result (λ f. IsEnoughIf all.new exports.now f) }
+{
+    if fresh.is_empty() {
+        return Ok(None);
+    }
+    join_names(alloc, all, fresh, span)?;
+    Ok(Some(Items::new(alloc)))
+}
+
+// All but some names of a library, joined to those of a form.
+fn join_but(
+    alloc: Global,
+    all: &mut Names,
+    exports: &Exports,
+    fresh: &[(Symbol, Label)],
+    ids: &[NameAt],
+    span: &Span,
+) -> Result<Option<Items<(Symbol, Label)>>, Stop>
+    requires { IsEnough all.old exports.now fresh.now }
+    ensures names { Gives (λ _. all.new) result (joined span.now all.old (except ids.now exports.now)) }
+    ensures front { OnOk result ((tail : Labelled) × (all.new ≡ all.old ++ tail)) }
+    ensures fresh { IfOk result (λ f. IsEnoughIf all.new exports.now f) }
+{
+    if fresh.is_empty() {
+        return Ok(None);
+    }
+    let rest = kept(alloc, fresh, ids)?;
+    let more = left(alloc, fresh, ids)?;
+    join_names(alloc, all, more.as_slice(), span)?;
+    Ok(Some(rest))
+}
+
+#[tactic(auto, using(crate::proofs::NameLemmas::need_met, crate::proofs::NameLemmas::need_stops))]
+fn join_except(
+    alloc: Global,
+    all: &mut Names,
+    exports: &Exports,
+    fresh: &[(Symbol, Label)],
+    ids: &[NameAt],
+    span: &Span,
+) -> Result<Option<Items<(Symbol, Label)>>, Stop>
+    requires { IsEnough all.old exports.now fresh.now }
+    ensures names { Gives (λ _. all.new) result (need exports.now ids.now (joined span.now all.old (except ids.now exports.now))) }
+    ensures front { OnOk result ((tail : Labelled) × (all.new ≡ all.old ++ tail)) }
+    ensures fresh { IfOk result (λ f. IsEnoughIf all.new exports.now f) }
+{
+    need_in(alloc, exports.names(), ids)?;
+    join_but(alloc, all, exports, fresh, ids, span)
+}
+
+// The names that a set leaves out, where it does nothing else.
+fn left_out<'a>(step: &'a Step, others: &[Step]) -> Option<&'a Items<NameAt>>
+    ensures { IfSome result (λ ids. step.now ∷ others.now ≡ word.Except ids.now ∷ []) }
+{
+    match step {
+        Step::Except(ids) => { if others.is_empty() { Some(ids) } else { None } }
+        Step::Only(_) | Step::Prefix(_) | Step::Rename(_) => None,
+    }
+}
+
+fn join_steps(
+    alloc: Global,
+    all: &mut Names,
+    exports: &Exports,
+    fresh: &[(Symbol, Label)],
+    step: &Step,
+    others: &[Step],
+    span: &Span,
+) -> Result<Option<Items<(Symbol, Label)>>, Stop>
+    requires { IsEnough all.old exports.now fresh.now }
+    ensures names { Gives (λ _. all.new) result (steps_joined span.now all.old exports.now (step.now ∷ others.now)) }
+    ensures front { OnOk result ((tail : Labelled) × (all.new ≡ all.old ++ tail)) }
+    ensures fresh { IfOk result (λ f. IsEnoughIf all.new exports.now f) }
+{
+    if let Some(ids) = left_out(step, others) {
+        return join_except(alloc, all, exports, fresh, ids.as_slice(), span);
+    }
+    join_others(alloc, all, exports, step, others, span)?;
+    Ok(None)
+}
+
+/// Joins the names that an import set with these steps gives of a library to those of a form. `fresh` is enough of the
+/// library's names to join all; the answer is what is enough then, where that changes.
+pub fn join_set(
+    alloc: Global,
+    all: &mut Names,
+    exports: &Exports,
+    fresh: &[(Symbol, Label)],
+    steps: &[Step],
+    span: &Span,
+) -> Result<Option<Items<(Symbol, Label)>>, Stop>
+    requires { IsEnough all.old exports.now fresh.now }
+    ensures names { Gives (λ _. all.new) result (steps_joined span.now all.old exports.now steps.now) }
+    ensures front { OnOk result ((tail : Labelled) × (all.new ≡ all.old ++ tail)) }
+    ensures fresh { IfOk result (λ f. IsEnoughIf all.new exports.now f) }
+{
+    match steps.split_first() {
+        None => join_whole(alloc, all, exports, fresh, span),
+        Some((step, others)) => join_steps(alloc, all, exports, fresh, step, others, span),
+    }
+}

@@ -1,0 +1,9 @@
+pub mod Tells
+pub mod Gaps
+pub mod Strings
+pub mod Tokens
+pub mod Machine
+pub mod Reading
+pub mod Forms
+pub mod Imports
+pub mod Loading

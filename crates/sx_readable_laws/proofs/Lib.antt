@@ -1,0 +1,14 @@
+pub mod Texts
+pub mod Trees
+pub mod Reading
+pub mod Read
+pub mod Calls
+pub mod Storing
+pub mod Matches
+pub mod Variables
+pub mod Instances
+pub mod Meaning
+pub mod Data
+pub mod Families
+pub mod Codes
+pub mod Stages

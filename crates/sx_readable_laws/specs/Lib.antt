@@ -1,0 +1,5 @@
+pub mod Readable
+pub mod Integers
+pub mod Outcome
+pub mod Laws
+pub mod Stages

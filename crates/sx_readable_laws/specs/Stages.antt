@@ -1,0 +1,41 @@
+-- Stages on which all can be written and read back, and uses of keywords there.
+use Rattle.std.specs.Prelude.{◌≡◌, List, Option, None, Some, Ok}
+use Rattle.sx_base.specs.declared.name.FrameNo.{FrameNo}
+use Rattle.sx_base.specs.declared.name.Label.{Label}
+use Rattle.sx_base.specs.declared.span.Span.{Span}
+use Rattle.sx_tree.specs.Tree.{Tree}
+use Rattle.sx_core.specs.Core.{PlainCore}
+use Rattle.sx_core.specs.declared.record.LibRecord.{LibRecord}
+use Rattle.sx_value.specs.Cells.{Each}
+use Rattle.sx_stage.specs.Stage.{PlainStage}
+use Rattle.sx_stage.specs.Transformers.{finish_keyword}
+use Rattle.sx_stage.specs.Uses.{used}
+use Rattle.sx_stage.specs.declared.keyword.Keyword.{Keyword}
+use Rattle.sx_stage.specs.declared.keyword.Keyword.TheVariants as keyword
+use Rattle.sx_readable_laws.specs.Readable.{ReadableTree, ReadableValue, ReadableCells, ReadableCore, ReadableCodes, ReadableGlobals, ReadableLines}
+
+-- the expression of a keyword, where it is there
+abbrev pub ReadableExpression : Option PlainCore → Type 0
+ReadableExpression None = Unit {0}
+ReadableExpression (Some c) = ReadableCore c
+
+abbrev pub ReadableKeyword : Keyword → Type 0
+ReadableKeyword (keyword.Waiting place) = Unit {0}
+ReadableKeyword (keyword.Kept e v) = ReadableExpression e × ReadableValue v
+
+-- the lines of libraries, which are evaluated on demand
+abbrev pub ReadableRecords : List LibRecord → Type 0
+ReadableRecords rs = Each (λ (r : LibRecord). ReadableLines r.run) rs
+
+pub record ReadableStage (g : PlainStage) : Type 0 where
+  pub cells : ReadableCells g.cells
+  pub codes : ReadableCodes g.codes
+  pub globals : ReadableGlobals g.globals
+  pub keywords : Each (λ (k : Label × Keyword). ReadableKeyword k.1) g.keywords
+
+-- So it is when a keyword was used, and the form that its transformer gives can be read; and so it is when a keyword's expression was
+-- evaluated.
+pub record UsesMakeReadables : Type 0 where
+  pub uses : (place : Span) (rs : List LibRecord) (t : Tree) (l : Label) (e : Option PlainCore) (f : Option FrameNo) (g h : PlainStage) (u : Tree) → ReadableStage g → ReadableRecords rs → ReadableExpression e → ReadableTree t
+      → used place rs t l e f g ≡ Ok (u, h) → ReadableTree u × ReadableStage h
+  pub definitions : (place : Span) (rs : List LibRecord) (l : Label) (c : PlainCore) (g h : PlainStage) → ReadableStage g → ReadableRecords rs → ReadableCore c → finish_keyword place rs l c g ≡ Ok (tt, h) → ReadableStage h

@@ -1,0 +1,41 @@
+//! Want of memory hides no other cause.
+//!
+//! Where memory runs out, a call answers `Memory`, and its contract promises nothing else then. Some calls
+//! answer `Memory`, too, where what they are given is of no use: where a table of the run is to take a second
+//! record of one library, or a frame two rows with one symbol and the same marks, or where a frame of another
+//! library is to be bound in. Each such call says so. Here it is told that no run meets this.
+//!
+//! ```text
+//! (import (only (a) x) (only (b) x))    one name for two labels: a conflict, told before any frame is made
+//! (define x 1) (define x 2)             a second binder: a fault at its place, and no row comes of it
+//! ```
+//!
+//! Three things bring this about. A frame is bound in by its own library alone, while that is expanded, and
+//! each bind is told from a second binder first; so the rows of a record, which are those of its frames, can
+//! be bound again one after another. Import sets give each name once. And no two libraries of a run have one
+//! name, as the laws of records say.
+//!
+//! What is not told here stands in `docs/PROVED.md`.
+
+ghost use Rattle.sx_run_laws.specs.Expansion.{OwnFramesAreBound, NewLabelsAreUnbound, StartsAreNumbered, RecordsAreOnceOver};
+ghost use Rattle.sx_run_laws.specs.Fitting.{RecordsFit, ExpansionsBegin};
+
+/// Expansion binds in frames of its own library alone, and a bind that goes through is no second binder. So the rows of
+/// a record are bound again without a second binder, and it binds no label twice.
+pub fn expansion_binds_once()
+    ensures frames { OwnFramesAreBound }
+    ensures records { RecordsAreOnceOver }
+{}
+
+/// No label is bound that is made later: the next name of a library is that of no label that is bound.
+pub fn new_labels_are_unbound()
+    ensures forms { NewLabelsAreUnbound }
+    ensures starts { StartsAreNumbered }
+{}
+
+/// Each record of a run can be put into the tables of the run, and where the expansion of a library begins, its
+/// frame is new and its names come once.
+pub fn runs_fit()
+    ensures records { RecordsFit }
+    ensures starts { ExpansionsBegin }
+{}
