@@ -13,3 +13,4 @@ pub mod FoldRightRows
 pub mod MapRows
 pub mod VisitRows
 pub mod OneList
+pub mod Values
