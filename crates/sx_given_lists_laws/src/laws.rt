@@ -9,7 +9,7 @@ ghost use Rattle.sx_value.specs.declared.cell.Cell.{Cell};
 ghost use Rattle.sx_value.specs.declared.value.Value.{Value};
 ghost use Rattle.sx_given_laws.specs.Calls.{End, CallEnds, Calls};
 ghost use Rattle.sx_given_laws.specs.InTurn as given;
-ghost use Rattle.sx_given_laws.specs.Given.{built_in};
+ghost use Rattle.sx_given_laws.specs.Given.{built_in, ForAlls, Existences, FoldsLeft, FoldsRight};
 ghost use Rattle.sx_given_laws.specs.Texts.{HasTexts};
 ghost use Rattle.sx_given_lists_laws.specs.Done.{MapDid, VisitDid};
 ghost use Rattle.sx_given_lists_laws.specs.RowCalls.{AllEnd, AllGive, ForAll, ForAllEnds, ForAllGives, Exists, ExistsEnds, ExistsGives, FoldLeft, FoldLeftEnds, FoldLeftGives, FoldRight, FoldRightEnds, FoldRightGives};
@@ -87,11 +87,22 @@ pub fn fold_right_goes_from_the_right()
         CallEnds w (built_in 197) (f ∷ z ∷ l ∷ more) s r t → FoldRight w f z rows s r t }
 {}
 
-/// Whenever `for-all`, `exists` or `fold-right` gives a value of one list, it has called its procedure on the elements as
-/// `sx_given_laws` says of it.
-pub fn one_list_is_asked_so()
-    ensures for_all { (w : PlainSetting) (f l : Value) (xs : List Value) (s t : State) (v : Value) → HasTexts w → IsList s.cells xs l → Calls w (built_in 192) (f ∷ l ∷ []) s v t → given.ForAll w f xs s v t }
-    ensures exists { (w : PlainSetting) (f l : Value) (xs : List Value) (s t : State) (v : Value) → HasTexts w → IsList s.cells xs l → Calls w (built_in 193) (f ∷ l ∷ []) s v t → given.Exists w f xs s v t }
-    ensures fold_right { (w : PlainSetting) (f z l : Value) (xs : List Value) (s t : State) (v : Value) → HasTexts w → IsList s.cells xs l → Calls w (built_in 197) (f ∷ z ∷ l ∷ []) s v t →
-        given.FoldRight w f z xs s v t }
+/// Of one list `for-all` gives `#f` at the first answer that is `#f`, else the last answer, and `#t` of the empty list; `exists` gives
+/// the first answer that is not `#f`, else the last, and `#f` of the empty list (R6RS libraries 3). And whenever one gives a value
+/// it has done so.
+pub fn one_list_is_asked_in_order()
+    ensures all { (w : PlainSetting) (f l : Value) (xs : List Value) (s : State) → HasTexts w → IsList s.cells xs l → given.ForAllGives w f xs s → ForAlls w (built_in 192) (f ∷ l ∷ []) f xs s }
+    ensures all_only { (w : PlainSetting) (f l : Value) (xs : List Value) (s t : State) (v : Value) → HasTexts w → IsList s.cells xs l → Calls w (built_in 192) (f ∷ l ∷ []) s v t → given.ForAll w f xs s v t }
+    ensures exists { (w : PlainSetting) (f l : Value) (xs : List Value) (s : State) → HasTexts w → IsList s.cells xs l → given.SearchGives w f xs s → Existences w (built_in 193) (f ∷ l ∷ []) f xs s }
+    ensures exists_only { (w : PlainSetting) (f l : Value) (xs : List Value) (s t : State) (v : Value) → HasTexts w → IsList s.cells xs l → Calls w (built_in 193) (f ∷ l ∷ []) s v t → given.Exists w f xs s v t }
+{}
+
+/// Of one list `fold-left` calls its procedure on a value and the first element, then on what that gave and the second, and so on;
+/// `fold-right` on the last element and a value, then on the element before and what that gave, and so on to the first. Each gives what
+/// the last call gave (R6RS libraries 3). And whenever one gives a value it has done so.
+pub fn one_list_is_folded()
+    ensures left { (w : PlainSetting) (f z l : Value) (xs : List Value) (s : State) → HasTexts w → IsList s.cells xs l → given.FoldLeftGives w f z xs s → FoldsLeft w (built_in 196) (f ∷ z ∷ l ∷ []) f z xs s }
+    ensures left_only { (w : PlainSetting) (f z l : Value) (xs : List Value) (s t : State) (v : Value) → HasTexts w → IsList s.cells xs l → Calls w (built_in 196) (f ∷ z ∷ l ∷ []) s v t → given.FoldLeft w f z xs s v t }
+    ensures right { (w : PlainSetting) (f z l : Value) (xs : List Value) (s : State) → HasTexts w → IsList s.cells xs l → given.FoldRightGives w f z xs s → FoldsRight w (built_in 197) (f ∷ z ∷ l ∷ []) f z xs s }
+    ensures right_only { (w : PlainSetting) (f z l : Value) (xs : List Value) (s t : State) (v : Value) → HasTexts w → IsList s.cells xs l → Calls w (built_in 197) (f ∷ z ∷ l ∷ []) s v t → given.FoldRight w f z xs s v t }
 {}
