@@ -43,3 +43,5 @@ pub mod OtherText
 pub mod PartBehind
 pub mod PartRows
 pub mod Unstuck
+pub mod HygienicForms
+pub mod HygienicRuns

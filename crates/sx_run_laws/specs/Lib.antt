@@ -10,3 +10,4 @@ pub mod Once
 pub mod Known
 pub mod Following
 pub mod Stuck
+pub mod Hygienic

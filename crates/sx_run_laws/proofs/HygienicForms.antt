@@ -1,0 +1,92 @@
+-- Before a run, no leaf has a mark: the forms of files have none, and the codes of the texts have no leaves.
+use Rattle.std.proofs.Common.{◌≡◌, ℕ, List, [], ◌∷◌, ◌++◌, Result, Ok, Err, refl, sym, subst, ◌∙◌}
+use Rattle.sx_base.specs.Datum.{PlainDatum, atom, symbol, pair, vector}
+use Rattle.sx_base.specs.declared.fault.Bare.{Bare}
+use Rattle.sx_base.specs.declared.fault.Fault.{Fault}
+use Rattle.sx_base.specs.declared.span.Span.{Span}
+use Rattle.sx_derived.specs.Derived.{forms_of}
+use Rattle.sx_derived.specs.Derived as of_derived
+use Rattle.sx_derived.specs.Names as derived_names
+use Rattle.sx_eval.specs.Codes.{Codes}
+use Rattle.sx_fresh_expansion_laws.specs.RecordMarks.{WasRead}
+use Rattle.sx_fresh_laws.specs.Leaves.{TreeHolds, CodesHold}
+use Rattle.sx_fresh_laws.proofs.Eachs.{each_and}
+use Rattle.sx_fresh_laws.proofs.Trees.{OkHolds, within_holds}
+use Rattle.sx_given_laws.specs.Texts.{written_table}
+use Rattle.sx_library.specs.Library.{placed, tree_at, trees_at}
+use Rattle.sx_prelude.specs.Prelude.{at_place, prelude_table}
+use Rattle.sx_prelude_code_laws.proofs.Table.{table-is-written}
+use Rattle.sx_readable_expansion_laws.proofs.Shapes.{then-holds}
+use Rattle.sx_reader.specs.Read.{data_of, file_nesting}
+use Rattle.sx_tree.specs.Context.{LeafContext, blank}
+use Rattle.sx_tree.specs.Leaves.{tree_of}
+use Rattle.sx_tree.specs.Measures.{within}
+use Rattle.sx_tree.specs.Tree.{Tree}
+use Rattle.sx_value.specs.Cells.{Each}
+use Rattle.sx_run_laws.specs.Hygienic.{CodesHaveNoLeaves, FormsWereRead}
+
+-- Codes.
+
+no-leaves : (P : LeafContext → Type 0) → CodesHold P written_table
+no-leaves P = tt
+
+one-answer : {A : Type 0} (r : Result A Fault) (x y : A) → r ≡ Ok x → r ≡ Ok y → x ≡ y
+one-answer r x y e h = cc
+
+pub codes-without : CodesHaveNoLeaves
+codes-without P table e = subst (CodesHold P) (one-answer prelude_table written_table table table-is-written e) (no-leaves P)
+
+-- Forms.
+
+datum-read : (d : PlainDatum) → WasRead (tree_of blank d)
+datum-read (atom s x) = tt
+datum-read (symbol s x) = refl
+datum-read (pair s d e) = (datum-read d, datum-read e)
+datum-read (vector s d) = datum-read d
+
+limited-read : (d : PlainDatum) → OkHolds WasRead (within (tree_of blank d))
+limited-read d = within_holds (λ c. c ≡ blank) (tree_of blank d) (datum-read d)
+
+tree-at-read : (place : Span) (d : PlainDatum) → OkHolds WasRead (tree_at place d)
+tree-at-read place d = by (within (tree_of blank d)) (limited-read d)
+  where
+    by : (r : Result Tree Bare) → OkHolds WasRead r → OkHolds WasRead (placed place d r)
+    by (Ok t) k = k
+    by (Err f) k = tt
+
+trees-read : (place : Span) (done : List Tree) (ds : List PlainDatum) → Each WasRead done → OkHolds (Each WasRead) (trees_at place done ds)
+trees-read place done [] h = h
+trees-read place done (d ∷ ds) h =
+    then-holds WasRead (Each WasRead) (tree_at place d) (λ t. trees_at place (done ++ t ∷ []) ds) (tree-at-read place d) (λ t j. trees-read place (done ++ t ∷ []) ds (each_and WasRead done t h j))
+
+pub ok-holds : {A : Type 0} (P : A → Type 0) (r : Result A Fault) (x : A) → OkHolds P r → r ≡ Ok x → P x
+ok-holds P (Ok y) x h e = let same : y ≡ x = cc in subst P same h
+ok-holds P (Err f) x h e = absurd (cc)
+
+pub forms-read : FormsWereRead
+forms-read place body forms e = ok-holds (Each WasRead) (trees_at place [] body) forms (trees-read place [] body tt) e
+
+-- Those of the derived library.
+
+placed-read : (place : Span) (d : PlainDatum) → OkHolds WasRead (at_place place (within (tree_of blank d)))
+placed-read place d = by (within (tree_of blank d)) (limited-read d)
+  where
+    by : (r : Result Tree Bare) → OkHolds WasRead r → OkHolds WasRead (at_place place r)
+    by (Ok t) k = k
+    by (Err f) k = tt
+
+derived-trees : (done : List Tree) (ds : List PlainDatum) → Each WasRead done → OkHolds (Each WasRead) (of_derived.trees done ds)
+derived-trees done [] h = h
+derived-trees done (d ∷ ds) h =
+    then-holds WasRead (Each WasRead) (of_derived.tree_at d) (λ t. of_derived.trees (done ++ t ∷ []) ds) (placed-read derived_names.start d) (λ t j. derived-trees (done ++ t ∷ []) ds (each_and WasRead done t h j))
+
+abbrev Any : List PlainDatum → Type 0
+Any ds = Unit {0}
+
+any-data : (r : Result (List PlainDatum) Fault) → OkHolds Any r
+any-data (Ok ds) = tt
+any-data (Err f) = tt
+
+pub derived-read : (text : List ℕ) → OkHolds (Each WasRead) (forms_of text)
+unfolding forms_of
+derived-read text = then-holds Any (Each WasRead) (data_of derived_names.path text file_nesting) (of_derived.trees []) (any-data (data_of derived_names.path text file_nesting)) (λ ds k. derived-trees [] ds tt)

@@ -1,0 +1,303 @@
+-- Every record of a run is hygienic.
+use Rattle.std.proofs.Common.{◌≡◌, ℕ, zero, suc, ◌+◌, ◌<◌, Bool, true, false, List, [], ◌∷◌, ◌++◌, length, map, Option, Some, None, Result, Ok, Err, refl, sym, ap, subst, ◌∙◌, inl, inr, arith}
+use Rattle.std.specs.Prelude.{slice_get}
+use Rattle.sx_base.specs.Datum.{PlainDatum}
+use Rattle.sx_base.specs.Gives.{◌>>=◌}
+use Rattle.sx_base.specs.declared.fault.Fault.{Fault}
+use Rattle.sx_base.specs.declared.library.LibName.{LibName}
+use Rattle.sx_base.specs.declared.library.LibName.TheVariants as library
+use Rattle.sx_base.specs.declared.name.FrameNo.{FrameNo}
+use Rattle.sx_base.specs.declared.name.Mark.{Mark}
+use Rattle.sx_builtin.specs.Exports.{derived}
+use Rattle.sx_builtin.specs.declared.derived.TheConstants.{DERIVED_SOURCE}
+use Rattle.sx_core.specs.declared.record.LibRecord.{LibRecord}
+use Rattle.sx_core_laws.specs.Follows.{names_of}
+use Rattle.sx_core_laws.specs.Words as words
+use Rattle.sx_derived.specs.Derived.{forms_of, record_of, derived_record}
+use Rattle.sx_derived.specs.Names as derived_names
+use Rattle.sx_eval.specs.Codes.{Codes}
+use Rattle.sx_expand.specs.Expanding.{library_record}
+use Rattle.sx_forms.specs.Form.{library_body, program_body}
+use Rattle.sx_forms.specs.declared.form.LibraryForm.{LibraryForm}
+use Rattle.sx_fresh_expansion_laws.specs.Events.{HasEvents}
+use Rattle.sx_fresh_expansion_laws.specs.Known.{libraries_of, IsNewAmong}
+use Rattle.sx_fresh_expansion_laws.specs.RecordMarks.{IsOfOne, IsFrameOfOne, HasOnly, RecordHasOnly, WasRead}
+use Rattle.sx_fresh_expansion_laws.proofs.Once.{events-wider}
+use Rattle.sx_fresh_expansion_laws.proofs.Recorded.{events-stay}
+use Rattle.sx_fresh_expansion_laws.proofs.Standing.{bindings-wider}
+use Rattle.sx_fresh_laws.specs.Leaves.{CodesHold}
+use Rattle.sx_fresh_laws.proofs.Eachs.{each_mapped}
+use Rattle.sx_fresh_laws.proofs.Trees.{OkHolds}
+use Rattle.sx_fresh_laws.proofs.Wider.{lines_wider}
+use Rattle.sx_hygiene_laws.specs.Marked.{Among}
+use Rattle.sx_import.specs.Names.{Labelled}
+use Rattle.sx_library.specs.Imports.{form_names}
+use Rattle.sx_library.specs.Library.{export_tree, trees_at, expander_of, expand_library}
+use Rattle.sx_library.specs.Records.{needed_records}
+use Rattle.sx_load.specs.Found.{places_from, needed}
+use Rattle.sx_load.specs.declared.found.Found.{Found}
+use Rattle.sx_load.specs.declared.found.Loading.{Loading}
+use Rattle.sx_load_laws.specs.Laws.{IsAt, NeedsAreClosed}
+use Rattle.sx_outside.specs.Contents.{Paths}
+use Rattle.sx_prelude.specs.Prelude.{prelude_table}
+use Rattle.sx_reference_laws.proofs.Recording.{records-hygienic}
+use Rattle.sx_standing.specs.Start.{or_skip, records_at}
+use Rattle.sx_tree.specs.Context.{LeafContext, blank}
+use Rattle.sx_tree.specs.Tree.{Tree}
+use Rattle.sx_tree.specs.declared.frame_row.FrameRow.{FrameRow}
+use Rattle.sx_value.specs.Cells.{Each}
+use Rattle.sx_run_laws.specs.Hygienic.{IsHygienicBehind, IsHygienicDerived, AllHygienic, RunsAreHygienic}
+use Rattle.sx_run_laws.specs.Run.{IsRun, Stands}
+use Rattle.sx_run_laws.proofs.BehindLemmas.{IsNew}
+use Rattle.sx_run_laws.proofs.HygienicForms.{codes-without, forms-read, ok-holds, derived-read}
+use Rattle.sx_run_laws.proofs.MadeLemmas.{IsMade, all_made}
+use Rattle.sx_run_laws.proofs.NameLemmas.{IsNamed, named_among}
+use Rattle.sx_run_laws.proofs.PlaceLemmas.{marked_from, first_records, needed_behind, low_behind}
+use Rattle.sx_run_laws.proofs.RunLemmas as runs
+use Rattle.sx_run_laws.proofs.UserLemmas.{IsUser, user_at}
+
+-- Names.
+
+in-words : (rs : List LibRecord) (n : LibName) → Among (map (λ (r : LibRecord). r.name) rs) n → words.Among (names_of rs) n
+in-words [] n a = elim a [ ]
+in-words (r ∷ rs) n (inl e) = inl e
+in-words (r ∷ rs) n (inr a) = inr (in-words rs n a)
+
+name-there : (rs : List LibRecord) (r : LibRecord) → words.Among rs r → Among (map (λ (r : LibRecord). r.name) rs) r.name
+name-there [] r a = elim a [ ]
+name-there (x ∷ rs) r (inl e) = inl (ap (λ (y : LibRecord). y.name) e)
+name-there (x ∷ rs) r (inr a) = inr (name-there rs r a)
+
+each-among : {A : Type 0} (P : A → Type 0) (xs : List A) → ((x : A) → words.Among xs x → P x) → Each P xs
+each-among P [] h = tt
+each-among P (x ∷ xs) h = (h x (inl refl), each-among P xs (λ y a. h y (inr a)))
+
+-- what is marked is among the records at marked places
+marked-there : (records : List LibRecord) (k : ℕ) (ms : List Bool) (p : ℕ) (r : LibRecord) → slice_get ms p ≡ Some true → slice_get records (k + p) ≡ Some r → words.Among (records_at records (places_from k ms)) r
+unfolding places_from
+marked-there records k [] p r h e = absurd (cc)
+marked-there records k (false ∷ ms) zero r h e = absurd (cc)
+marked-there records k (false ∷ ms) (suc p) r h e = let next : k + suc p ≡ suc k + p = omega arith in marked-there records (suc k) ms p r h (subst (λ i. slice_get records i ≡ Some r) next e)
+marked-there records k (true ∷ ms) zero r h e = by (slice_get records k) (let same : k + zero ≡ k = omega arith in subst (λ i. slice_get records i ≡ Some r) same e)
+  where
+    by : (o : Option LibRecord) → o ≡ Some r → words.Among (or_skip o (records_at records (places_from (suc k) ms))) r
+    by None i = absurd (cc)
+    by (Some x) i = let same : r ≡ x = cc in inl same
+marked-there records k (true ∷ ms) (suc p) r h e = by (slice_get records k) (let next : k + suc p ≡ suc k + p = omega arith in marked-there records (suc k) ms p r h (subst (λ i. slice_get records i ≡ Some r) next e))
+  where
+    by : (o : Option LibRecord) → words.Among (records_at records (places_from (suc k) ms)) r → words.Among (or_skip o (records_at records (places_from (suc k) ms))) r
+    by None a = a
+    by (Some x) a = inr a
+
+-- Marks of more libraries.
+
+abbrev Has : List LibName → LibRecord → Type 0
+Has libs r = RecordHasOnly HasEvents libs r
+
+module _ (few many : List LibName) (within : (n : LibName) → Among few n → Among many n) where
+  leaf-wider : (c : LeafContext) → HasOnly HasEvents few c → HasOnly HasEvents many c
+  leaf-wider c h = events-wider (IsOfOne few) (IsOfOne many) (IsFrameOfOne few) (IsFrameOfOne many) (λ m k. within m.0.library k) (λ f k. within f.0.library k) c h
+
+  record-wider : (r : LibRecord) → Has few r → Has many r
+  record-wider r h = record {
+    run = lines_wider (HasOnly HasEvents few) (HasOnly HasEvents many) leaf-wider r.run h.run;
+    bindings = bindings-wider (HasOnly HasEvents few) (HasOnly HasEvents many) leaf-wider r.bindings h.bindings;
+    frames = each_mapped (λ (f : FrameRow). Each (IsOfOne few) f.marks) (λ (f : FrameRow). Each (IsOfOne many) f.marks)
+        (λ f k. each_mapped (IsOfOne few) (IsOfOne many) (λ m i. within m.0.library i) f.marks k) r.frames h.frames;
+  }
+
+-- One library.
+
+abbrev HasNoLeaves : Result Codes Fault → Type 1
+HasNoLeaves prelude = (P : LeafContext → Type 0) (table : Codes) → prelude ≡ Ok table → CodesHold P table
+
+module _ (prelude : Result Codes Fault) (without : HasNoLeaves prelude) where
+  abbrev Both : List LibRecord → List ℕ → LibraryForm → List PlainDatum → LibRecord → Type 0
+  Both records path form body r = IsHygienicBehind prelude records path form body r × Has (form.name ∷ libraries_of records) r
+
+  both-made : (records : List LibRecord) (path : List ℕ) (form : LibraryForm) (body : List PlainDatum) (r : LibRecord) → IsNewAmong (libraries_of records) form.name → Each (Has (libraries_of records)) records
+      → expand_library prelude records path form body ≡ Ok r → Both records path form body r
+  unfolding expand_library
+  both-made records path form body r new before h = by-names (form_names records form.imports) refl h
+    where
+      by-codes : (names : Labelled) (forms : List Tree) → form_names records form.imports ≡ Ok names → trees_at form.name_span [] body ≡ Ok forms → (x : Result Codes Fault) → prelude ≡ x
+          → (expander_of x form.name path records names >>= (λ e. library_record e records form.version form.name_span (map export_tree form.exports) forms)) ≡ Ok r → Both records path form body r
+      by-codes names forms named read (Ok table) e h =
+          let codes = without (HasOnly HasEvents (libraries_of records)) table e in
+          let was = forms-read form.name_span body forms read in
+          (record {
+            names = names;
+            named = named;
+            forms = forms;
+            read = read;
+            table = table;
+            given = e;
+            right = records-hygienic form.name path records names form.version form.name_span (map export_tree form.exports) forms table r new before codes was h;
+          }, events-stay.records form.name path records names form.version form.name_span (map export_tree form.exports) forms table r new before codes was h)
+      by-codes names forms named read (Err f) e h = absurd (cc)
+
+      by-forms : (names : Labelled) → form_names records form.imports ≡ Ok names → (x : Result (List Tree) Fault) → trees_at form.name_span [] body ≡ x
+          → (x >>= (λ forms. expander_of prelude form.name path records names >>= (λ e. library_record e records form.version form.name_span (map export_tree form.exports) forms))) ≡ Ok r → Both records path form body r
+      by-forms names named (Ok forms) read h = by-codes names forms named read prelude refl h
+      by-forms names named (Err f) read h = absurd (cc)
+
+      by-names : (x : Result Labelled Fault) → form_names records form.imports ≡ x
+          → (x >>= (λ names. trees_at form.name_span [] body >>= (λ forms. expander_of prelude form.name path records names >>= (λ e. library_record e records form.version form.name_span (map export_tree form.exports) forms)))) ≡ Ok r
+          → Both records path form body r
+      by-names (Ok names) named h = by-forms names named (trees_at form.name_span [] body) refl h
+      by-names (Err f) named h = absurd (cc)
+
+  -- The derived library.
+
+  abbrev First : LibRecord → Type 0
+  First d = IsHygienicDerived prelude d × Has (library.Derived ∷ libraries_of []) d
+
+  derived-new : IsNewAmong (libraries_of []) library.Derived
+  derived-new (inl e) = absurd (cc)
+  derived-new (inr a) = elim a [ ]
+
+  from-forms : (d : LibRecord) (table : Codes) (forms : List Tree) → forms_of DERIVED_SOURCE.now ≡ Ok forms → prelude ≡ Ok table → record_of table forms ≡ Ok d → First d
+  unfolding record_of
+  from-forms d table forms read given h =
+      let codes = without (HasOnly HasEvents (libraries_of [])) table given in
+      let was = ok-holds (Each WasRead) (forms_of DERIVED_SOURCE.now) forms (derived-read DERIVED_SOURCE.now) read in
+      (record {
+        forms = forms;
+        read = read;
+        table = table;
+        given = given;
+        right = records-hygienic library.Derived derived_names.path [] derived_names.names [] derived_names.start (derived_names.exports_of derived) forms table d derived-new tt codes was h;
+      }, events-stay.records library.Derived derived_names.path [] derived_names.names [] derived_names.start (derived_names.exports_of derived) forms table d derived-new tt codes was h)
+
+  derived-made : (d : LibRecord) → derived_record prelude ≡ Ok d → First d
+  unfolding derived_record
+  derived-made d h = by-forms (forms_of DERIVED_SOURCE.now) refl h
+    where
+      by-codes : (forms : List Tree) → forms_of DERIVED_SOURCE.now ≡ Ok forms → (x : Result Codes Fault) → prelude ≡ x → (x >>= (λ table. record_of table forms)) ≡ Ok d → First d
+      by-codes forms read (Ok table) e h = from-forms d table forms read e h
+      by-codes forms read (Err f) e h = absurd (cc)
+
+      by-forms : (x : Result (List Tree) Fault) → forms_of DERIVED_SOURCE.now ≡ x → (x >>= (λ forms. prelude >>= (λ table. record_of table forms))) ≡ Ok d → First d
+      by-forms (Ok forms) read h = by-codes forms read prelude refl h
+      by-forms (Err f) read h = absurd (cc)
+
+  -- One library after another.
+
+  module _ (files : Paths) (roots : List (List ℕ)) (path : List ℕ) (found : Found) (s : Loading) (records : List LibRecord) (program : LibRecord)
+      (run : IsRun prelude files roots path found s records program) (m : IsMade prelude s.done records) where
+    abbrev Behind : Found → List LibRecord
+    Behind f = m.derived ∷ records_at m.others (needed f)
+
+    stands : (i : ℕ) (file : List ℕ) (f : Found) (r : LibRecord) → IsAt s.done i file f → slice_get m.others i ≡ Some r → Stands (Behind f) f.opened.form.name r
+    stands i = runs.stands_at prelude files roots path found s records program run m i
+
+    first-named : m.derived.name ≡ library.Derived
+    first-named = (runs.first prelude files roots path found s records program run m).named
+
+    first-made : First m.derived
+    first-made = derived-made m.derived m.made
+
+    -- the record at a place
+    abbrev HoldsAt : ℕ → Type 0
+    HoldsAt i = (file : List ℕ) (f : Found) (r : LibRecord) → IsAt s.done i file f → slice_get m.others i ≡ Some r → Both (Behind f) f.opened.path f.opened.form (library_body f.opened.«data») r
+
+    module _ (f : Found) (closed : NeedsAreClosed s.done f) (earlier : (i : ℕ) → i < f.place → HoldsAt i) where
+      derived-here : Has (libraries_of (Behind f)) m.derived
+      derived-here = record-wider (library.Derived ∷ libraries_of []) (libraries_of (Behind f)) within m.derived first-made.1
+        where
+          within : (n : LibName) → Among (library.Derived ∷ libraries_of []) n → Among (libraries_of (Behind f)) n
+          within n (inl e) = inr (inl (e ∙ sym first-named))
+          within n (inr (inl e)) = inl e
+          within n (inr (inr a)) = elim a [ ]
+
+      needed-here : (x : LibRecord) → words.Among (records_at m.others (needed f)) x → Has (libraries_of (Behind f)) x
+      needed-here x a =
+          let y = marked_from m.others zero f.needs x a in
+          let same : zero + y.place ≡ y.place = omega arith in
+          by y.place (subst (λ p. slice_get m.others p ≡ Some x) same y.there) y.marked
+        where
+          by : (p : ℕ) → slice_get m.others p ≡ Some x → slice_get f.needs p ≡ Some true → Has (libraries_of (Behind f)) x
+          by p there marked = record-wider (g.opened.form.name ∷ libraries_of (Behind g)) (libraries_of (Behind f)) within x (earlier p n.before n.file g x n.there there).1
+            where
+              n = closed p marked
+
+              g : Found
+              g = (closed p marked).library
+
+              named-in : (k : LibName) → IsNamed (records_at m.others (needed g)) k → Among (libraries_of (Behind f)) k
+              named-in k i =
+                  let z = marked_from m.others zero g.needs i.record_of i.among in
+                  inr (inr (subst (Among (map (λ (r : LibRecord). r.name) (records_at m.others (needed f)))) i.name
+                  (name-there (records_at m.others (needed f)) i.record_of (marked-there m.others zero f.needs z.place i.record_of ((closed p marked).also z.place z.marked) z.there))))
+
+              within : (k : LibName) → Among (g.opened.form.name ∷ libraries_of (Behind g)) k → Among (libraries_of (Behind f)) k
+              within k (inl e) =
+                  let st = stands p (closed p marked).file g x (closed p marked).there there in
+                  inr (inr (subst (Among (map (λ (r : LibRecord). r.name) (records_at m.others (needed f)))) (st.named ∙ sym e) (name-there (records_at m.others (needed f)) x a)))
+              within k (inr (inl e)) = inl e
+              within k (inr (inr (inl e))) = inr (inl e)
+              within k (inr (inr (inr b))) = named-in k (named_among (records_at m.others (needed g)) k (in-words (records_at m.others (needed g)) k b))
+
+      behind-here : Each (Has (libraries_of (Behind f))) (Behind f)
+      behind-here = (derived-here, each-among (Has (libraries_of (Behind f))) (records_at m.others (needed f)) needed-here)
+
+    new-among : (rs : List LibRecord) (n : LibName) → (n ≡ library.Core → ⊥) → IsNew rs n → IsNewAmong (libraries_of rs) n
+    new-among rs n other new (inl e) = other e
+    new-among rs n other new (inr a) = new (in-words rs n a)
+
+    module _ (i : ℕ) (earlier : (j : ℕ) → j < i → HoldsAt j) (file : List ℕ) (f : Found) (at : IsAt s.done i file f) where
+      whole = runs.whole prelude files roots path found s records program run m
+
+      closed : NeedsAreClosed s.done f
+      closed = (whole.sound.stand i file f at).closed
+
+      place : f.place ≡ i
+      place = whole.sound.once.in_order i file f at
+
+      no-core : f.opened.form.name ≡ library.Core → ⊥
+      no-core e = subst IsUser e (user_at files roots path found s run.loaded i file f at)
+
+      holds-here : (r : LibRecord) → slice_get m.others i ≡ Some r → Both (Behind f) f.opened.path f.opened.form (library_body f.opened.«data») r
+      holds-here r there =
+          let x = m.each i file f r at there in
+          let many = x.many in
+          let is_at = place in
+          let low : (p : ℕ) → slice_get (true ∷ f.needs) p ≡ Some true → zero + p < length x.before =
+          low_behind (length x.before) f.needs (λ p h. let l = (closed p h).before in omega (arith, l, many, is_at)) (omega (arith, many)) in
+          let same : needed_records x.before (true ∷ f.needs) ≡ Behind f =
+          sym (first_records x.before x.after zero (true ∷ f.needs) low) ∙ ap (λ (rs : List LibRecord). needed_records rs (true ∷ f.needs)) (sym x.parts) ∙ needed_behind m.derived m.others f.needs in
+          both-made (Behind f) f.opened.path f.opened.form (library_body f.opened.«data») r
+          (new-among (Behind f) f.opened.form.name no-core (runs.is_new prelude files roots path found s records program run m i (λ j l. stands j) file f at))
+          (behind-here f closed (λ j l. earlier j (omega (arith, l, is_at))))
+          (subst (λ (rs : List LibRecord). expand_library prelude rs f.opened.path f.opened.form (library_body f.opened.«data») ≡ Ok r) same x.made)
+
+    holds-below : (n i : ℕ) → i < n → HoldsAt i
+    holds-below zero i less = absurd (omega (arith, less))
+    holds-below (suc n) i less = λ file f r at there. holds-here i (λ j l. holds-below n j (omega (arith, l, less))) file f at r there
+
+    holds-at : (i : ℕ) → HoldsAt i
+    holds-at i = holds-below (suc i) i (omega arith)
+
+    program-holds : Both (Behind found) found.opened.path found.opened.form (program_body found.opened.«data») program
+    program-holds =
+        let named = runs.program_is prelude files roots path found s records program run m in
+        let closed = (runs.whole prelude files roots path found s records program run m).stands.closed in
+        let same : needed_records records (true ∷ found.needs) ≡ Behind found = ap (λ (rs : List LibRecord). needed_records rs (true ∷ found.needs)) m.parts ∙ needed_behind m.derived m.others found.needs in
+        both-made (Behind found) found.opened.path found.opened.form (program_body found.opened.«data») program
+        (new-among (Behind found) found.opened.form.name (λ e. let bad : library.Program ≡ library.Core = sym named ∙ e in absurd (cc)) (runs.program_new prelude files roots path found s records program run m))
+        (behind-here found closed (λ j l. holds-at j))
+        (subst (λ (rs : List LibRecord). expand_library prelude rs found.opened.path found.opened.form (program_body found.opened.«data») ≡ Ok program) same run.expanded)
+
+    all-hygienic : AllHygienic prelude found s records program
+    all-hygienic = record {
+      derived = m.derived;
+      others = m.others;
+      parts = m.parts;
+      first = first-made.0;
+      each = λ i file f r at there. (holds-at i file f r at there).0;
+      last = program-holds.0;
+    }
+
+pub runs-hygienic : RunsAreHygienic
+runs-hygienic files roots path found s records program run =
+    all-hygienic prelude_table (λ P table e. codes-without P table e) files roots path found s records program run (all_made prelude_table s.done records run.recorded)

@@ -1,0 +1,76 @@
+-- Every record of a run is hygienic.
+use Rattle.std.specs.Prelude.{◌≡◌, ℕ, List, [], ◌∷◌, map, Some, Result, Ok, slice_get}
+use Rattle.sx_base.specs.Datum.{PlainDatum}
+use Rattle.sx_base.specs.declared.fault.Fault.{Fault}
+use Rattle.sx_base.specs.declared.library.LibName.TheVariants as library
+use Rattle.sx_base.specs.declared.span.Span.{Span}
+use Rattle.sx_builtin.specs.Exports.{derived}
+use Rattle.sx_builtin.specs.declared.derived.TheConstants.{DERIVED_SOURCE}
+use Rattle.sx_core.specs.declared.record.LibRecord.{LibRecord}
+use Rattle.sx_derived.specs.Derived.{forms_of}
+use Rattle.sx_derived.specs.Names as derived_names
+use Rattle.sx_eval.specs.Codes.{Codes}
+use Rattle.sx_expand.specs.Expanding.{ready, body_of}
+use Rattle.sx_forms.specs.Form.{library_body, program_body}
+use Rattle.sx_forms.specs.declared.form.LibraryForm.{LibraryForm}
+use Rattle.sx_fresh_laws.specs.Leaves.{CodesHold}
+use Rattle.sx_fresh_expansion_laws.specs.Known.{libraries_of}
+use Rattle.sx_fresh_expansion_laws.specs.RecordMarks.{WasRead}
+use Rattle.sx_import.specs.Names.{Labelled}
+use Rattle.sx_library.specs.Imports.{form_names}
+use Rattle.sx_library.specs.Library.{export_tree, trees_at}
+use Rattle.sx_load.specs.Found.{needed}
+use Rattle.sx_load.specs.declared.found.Found.{Found}
+use Rattle.sx_load.specs.declared.found.Loading.{Loading}
+use Rattle.sx_load_laws.specs.Laws.{IsAt}
+use Rattle.sx_outside.specs.Contents.{Paths}
+use Rattle.sx_prelude.specs.Prelude.{prelude_table}
+use Rattle.sx_reference_laws.specs.Records.{RunIsRight}
+use Rattle.sx_standing.specs.Start.{started, records_at}
+use Rattle.sx_tree.specs.Context.{LeafContext}
+use Rattle.sx_tree.specs.Tree.{Tree}
+use Rattle.sx_value.specs.Cells.{Each}
+use Rattle.sx_run_laws.specs.Run.{IsRun}
+
+-- The codes of the texts that this implementation has, have no leaves: whatever is asked of leaves, holds of them.
+abbrev pub CodesHaveNoLeaves : Type 0
+CodesHaveNoLeaves = (P : LeafContext → Type 0) (table : Codes) → prelude_table ≡ Ok table → CodesHold P table
+
+-- the forms of a file have neither marks nor stamps
+abbrev pub FormsWereRead : Type 0
+FormsWereRead = (place : Span) (body : List PlainDatum) (forms : List Tree) → trees_at place [] body ≡ Ok forms → Each WasRead forms
+
+-- A library is expanded behind these records: what its imports name is known, the forms of its body are trees; and the references of its record
+-- are those of identifiers of this expansion, each of which names what it stood for, and both sentences of hygiene hold of it.
+pub record IsHygienicBehind (prelude : Result Codes Fault) (records : List LibRecord) (path : List ℕ) (form : LibraryForm) (body : List PlainDatum) (r : LibRecord) : Type 0 where
+  pub names : Labelled
+  pub named : form_names records form.imports ≡ Ok names
+  pub forms : List Tree
+  pub read : trees_at form.name_span [] body ≡ Ok forms
+  pub table : Codes
+  pub given : prelude ≡ Ok table
+  pub right : RunIsRight (libraries_of records) form.name records (started form.name records names table) (body_of (ready form.name path records names table) form.version form.name_span) (map export_tree form.exports) forms r
+
+-- so is the derived library, behind none
+pub record IsHygienicDerived (prelude : Result Codes Fault) (r : LibRecord) : Type 0 where
+  pub forms : List Tree
+  pub read : forms_of DERIVED_SOURCE.now ≡ Ok forms
+  pub table : Codes
+  pub given : prelude ≡ Ok table
+  pub right : RunIsRight (libraries_of []) library.Derived [] (started library.Derived [] derived_names.names table) (body_of (ready library.Derived derived_names.path [] derived_names.names table) [] derived_names.start) (derived_names.exports_of derived) forms r
+
+-- The records of the derived library, of libraries that were loaded, and of the program.
+pub record AllHygienic (prelude : Result Codes Fault) (found : Found) (s : Loading) (records : List LibRecord) (program : LibRecord) : Type 0 where
+  pub derived : LibRecord
+  pub others : List LibRecord
+  pub parts : records ≡ derived ∷ others
+  pub first : IsHygienicDerived prelude derived
+  -- each library, behind those that it needs
+  pub each : (i : ℕ) (file : List ℕ) (f : Found) (r : LibRecord) → IsAt s.done i file f → slice_get others i ≡ Some r
+      → IsHygienicBehind prelude (derived ∷ records_at others (needed f)) f.opened.path f.opened.form (library_body f.opened.«data») r
+  pub last : IsHygienicBehind prelude (derived ∷ records_at others (needed found)) found.opened.path found.opened.form (program_body found.opened.«data») program
+
+-- So it is in every run.
+abbrev pub RunsAreHygienic : Type 0
+RunsAreHygienic = (files : Paths) (roots : List (List ℕ)) (path : List ℕ) (found : Found) (s : Loading) (records : List LibRecord) (program : LibRecord)
+    → IsRun prelude_table files roots path found s records program → AllHygienic prelude_table found s records program

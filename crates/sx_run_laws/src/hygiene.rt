@@ -1,0 +1,36 @@
+//! Every record of a run is hygienic.
+//!
+//! A reference names what its identifier stood for where it stood, and no use of a keyword captures what it didn't introduce:
+//!
+//! ```text
+//! m.sls    (library (m) (export my-or) (import (rnrs))
+//!            (define-syntax my-or (syntax-rules () ((_ a b) (let ((t a)) (if t t b))))))
+//! p.sps    (import (rnrs) (m))
+//!          (lambda (t) (my-or #f t))              (lambda (t.1) (let ((t.2 #f)) (if t.2 t.2 t.1)))
+//! ```
+//!
+//! Expansion promises this of one library (sx_reference_laws), where the marks in the records before it are of their libraries, where the
+//! codes of the texts have no others, where its forms have neither marks nor stamps, and where its name is new. Here it is told that in a
+//! run all this holds, so that each record is hygienic, and the program's, with no premise but that it was loaded and expanded. Four
+//! things bring this about.
+//!
+//! - The codes of the texts that this implementation has are those that are written out, and these have no leaves at all.
+//! - The forms of a file, and of the derived library, are data, whose trees have blank leaves.
+//! - A record has marks of its own library and of those behind which it was expanded; what a needed library needs is needed, so those
+//!   are among the libraries that any later library is expanded behind.
+//! - No two libraries of a run have one name.
+//!
+//! Here are no calls to make: each function stands for the law that it ensures.
+
+ghost use Rattle.sx_run_laws.specs.Hygienic.{CodesHaveNoLeaves, FormsWereRead, RunsAreHygienic};
+
+/// The codes of the texts have no leaves, and the forms of files have blank ones.
+pub fn nothing_is_marked_before()
+    ensures codes { CodesHaveNoLeaves }
+    ensures forms { FormsWereRead }
+{}
+
+/// In every run the record of the derived library, of each library that was loaded, and of the program is hygienic.
+pub fn runs_are_hygienic()
+    ensures { RunsAreHygienic }
+{}
