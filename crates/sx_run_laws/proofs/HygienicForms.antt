@@ -1,15 +1,18 @@
 -- Before a run, no leaf has a mark: the forms of files have none, and the codes of the texts have no leaves.
-use Rattle.std.proofs.Common.{◌≡◌, ℕ, List, [], ◌∷◌, ◌++◌, Result, Ok, Err, refl, sym, subst, ◌∙◌}
+use Rattle.std.proofs.Common.{◌≡◌, ℕ, true, List, [], ◌∷◌, ◌++◌, Option, Some, None, Result, Ok, Err, refl, subst}
+use Rattle.std.specs.Prelude.{is_some}
 use Rattle.sx_base.specs.Datum.{PlainDatum, atom, symbol, pair, vector}
 use Rattle.sx_base.specs.declared.fault.Bare.{Bare}
 use Rattle.sx_base.specs.declared.fault.Fault.{Fault}
 use Rattle.sx_base.specs.declared.span.Span.{Span}
+use Rattle.sx_core.specs.Core.{PlainCore, quoted, variable, primitive, one_armed, two_armed, assignment, sequence, procedure, letrec, call, instance, matching}
+use Rattle.sx_core.specs.Core.{PlainCores, none, more, PlainInits, no_init, init, PlainCases, no_case, case}
 use Rattle.sx_derived.specs.Derived.{forms_of}
 use Rattle.sx_derived.specs.Derived as of_derived
 use Rattle.sx_derived.specs.Names as derived_names
 use Rattle.sx_eval.specs.Codes.{Codes}
 use Rattle.sx_fresh_expansion_laws.specs.RecordMarks.{WasRead}
-use Rattle.sx_fresh_laws.specs.Leaves.{TreeHolds, CodesHold}
+use Rattle.sx_fresh_laws.specs.Leaves.{CoreHolds, CoresHold, InitsHold, CasesHold, CodesHold}
 use Rattle.sx_fresh_laws.proofs.Eachs.{each_and}
 use Rattle.sx_fresh_laws.proofs.Trees.{OkHolds, within_holds}
 use Rattle.sx_given_laws.specs.Texts.{written_table}
@@ -18,23 +21,64 @@ use Rattle.sx_prelude.specs.Prelude.{at_place, prelude_table}
 use Rattle.sx_prelude_code_laws.proofs.Table.{table-is-written}
 use Rattle.sx_readable_expansion_laws.proofs.Shapes.{then-holds}
 use Rattle.sx_reader.specs.Read.{data_of, file_nesting}
-use Rattle.sx_tree.specs.Context.{LeafContext, blank}
+use Rattle.sx_tree.specs.Context.{blank}
 use Rattle.sx_tree.specs.Leaves.{tree_of}
 use Rattle.sx_tree.specs.Measures.{within}
 use Rattle.sx_tree.specs.Tree.{Tree}
 use Rattle.sx_value.specs.Cells.{Each}
-use Rattle.sx_run_laws.specs.Hygienic.{CodesHaveNoLeaves, FormsWereRead}
+use Rattle.sx_run_laws.specs.Hygienic.{IsNoLeaf, CodesHaveNoLeaves, FormsWereRead}
 
 -- Codes.
 
-no-leaves : (P : LeafContext → Type 0) → CodesHold P written_table
-no-leaves P = tt
+abbrev both : {A B : Type 0} → Option A → Option B → Option (A × B)
+both (Some x) (Some y) = Some (x, y)
+both (Some x) None = None
+both None o = None
+
+-- whether there are none, where code has neither templates nor patterns
+abbrev mutual
+  core-without : (c : PlainCore) → Option (CoreHolds IsNoLeaf c)
+  core-without (quoted d) = Some tt
+  core-without (variable l) = Some tt
+  core-without (primitive o) = Some tt
+  core-without (one_armed c d) = both (core-without c) (core-without d)
+  core-without (two_armed c d e) = both (core-without c) (both (core-without d) (core-without e))
+  core-without (assignment l c) = core-without c
+  core-without (sequence cs) = cores-without cs
+  core-without (procedure n cs p) = cases-without cs
+  core-without (letrec o is c) = both (inits-without is) (core-without c)
+  core-without (call c cs) = both (core-without c) (cores-without cs)
+  core-without (instance t s) = None
+  core-without (matching c cs s) = None
+
+  cores-without : (cs : PlainCores) → Option (CoresHold IsNoLeaf cs)
+  cores-without none = Some tt
+  cores-without (more c cs) = both (core-without c) (cores-without cs)
+
+  inits-without : (is : PlainInits) → Option (InitsHold IsNoLeaf is)
+  inits-without no_init = Some tt
+  inits-without (init l c is) = both (core-without c) (inits-without is)
+
+  cases-without : (cs : PlainCases) → Option (CasesHold IsNoLeaf cs)
+  cases-without no_case = Some tt
+  cases-without (case f c cs) = both (core-without c) (cases-without cs)
+
+abbrev table-without : (cs : Codes) → Option (CodesHold IsNoLeaf cs)
+table-without [] = Some tt
+table-without (c ∷ cs) = both (cases-without c.1.cases) (table-without cs)
+
+there : {A : Type 0} (o : Option A) → is_some o ≡ true → A
+there (Some x) h = x
+there None h = absurd (cc)
+
+no-leaves : CodesHold IsNoLeaf written_table
+no-leaves = there (table-without written_table) refl
 
 one-answer : {A : Type 0} (r : Result A Fault) (x y : A) → r ≡ Ok x → r ≡ Ok y → x ≡ y
 one-answer r x y e h = cc
 
 pub codes-without : CodesHaveNoLeaves
-codes-without P table e = subst (CodesHold P) (one-answer prelude_table written_table table table-is-written e) (no-leaves P)
+codes-without table e = subst (CodesHold IsNoLeaf) (one-answer prelude_table written_table table table-is-written e) no-leaves
 
 -- Forms.
 

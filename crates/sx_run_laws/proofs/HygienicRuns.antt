@@ -28,7 +28,7 @@ use Rattle.sx_fresh_expansion_laws.proofs.Standing.{bindings-wider}
 use Rattle.sx_fresh_laws.specs.Leaves.{CodesHold}
 use Rattle.sx_fresh_laws.proofs.Eachs.{each_mapped}
 use Rattle.sx_fresh_laws.proofs.Trees.{OkHolds}
-use Rattle.sx_fresh_laws.proofs.Wider.{lines_wider}
+use Rattle.sx_fresh_laws.proofs.Wider.{codes_wider, lines_wider}
 use Rattle.sx_hygiene_laws.specs.Marked.{Among}
 use Rattle.sx_import.specs.Names.{Labelled}
 use Rattle.sx_library.specs.Imports.{form_names}
@@ -37,7 +37,8 @@ use Rattle.sx_library.specs.Records.{needed_records}
 use Rattle.sx_load.specs.Found.{places_from, needed}
 use Rattle.sx_load.specs.declared.found.Found.{Found}
 use Rattle.sx_load.specs.declared.found.Loading.{Loading}
-use Rattle.sx_load_laws.specs.Laws.{IsAt, NeedsAreClosed}
+use Rattle.sx_load_laws.specs.Laws.{IsAt, IsNeeded, NeedsAreClosed}
+use Rattle.sx_load_laws.proofs.LoadLemmas.{IsWhole}
 use Rattle.sx_outside.specs.Contents.{Paths}
 use Rattle.sx_prelude.specs.Prelude.{prelude_table}
 use Rattle.sx_reference_laws.proofs.Recording.{records-hygienic}
@@ -46,7 +47,7 @@ use Rattle.sx_tree.specs.Context.{LeafContext, blank}
 use Rattle.sx_tree.specs.Tree.{Tree}
 use Rattle.sx_tree.specs.declared.frame_row.FrameRow.{FrameRow}
 use Rattle.sx_value.specs.Cells.{Each}
-use Rattle.sx_run_laws.specs.Hygienic.{IsHygienicBehind, IsHygienicDerived, AllHygienic, RunsAreHygienic}
+use Rattle.sx_run_laws.specs.Hygienic.{IsNoLeaf, IsHygienicBehind, IsHygienicDerived, AllHygienic, RunsAreHygienic}
 use Rattle.sx_run_laws.specs.Run.{IsRun, Stands}
 use Rattle.sx_run_laws.proofs.BehindLemmas.{IsNew}
 use Rattle.sx_run_laws.proofs.HygienicForms.{codes-without, forms-read, ok-holds, derived-read}
@@ -108,8 +109,12 @@ module _ (few many : List LibName) (within : (n : LibName) → Among few n → A
 
 -- One library.
 
-abbrev HasNoLeaves : Result Codes Fault → Type 1
-HasNoLeaves prelude = (P : LeafContext → Type 0) (table : Codes) → prelude ≡ Ok table → CodesHold P table
+abbrev HasNoLeaves : Result Codes Fault → Type 0
+HasNoLeaves prelude = (table : Codes) → prelude ≡ Ok table → CodesHold IsNoLeaf table
+
+-- so whatever is asked of leaves, holds of them
+any-held : (P : LeafContext → Type 0) (table : Codes) → CodesHold IsNoLeaf table → CodesHold P table
+any-held P table h = codes_wider IsNoLeaf P (λ c k. elim k [ ]) table h
 
 module _ (prelude : Result Codes Fault) (without : HasNoLeaves prelude) where
   abbrev Both : List LibRecord → List ℕ → LibraryForm → List PlainDatum → LibRecord → Type 0
@@ -123,17 +128,19 @@ module _ (prelude : Result Codes Fault) (without : HasNoLeaves prelude) where
       by-codes : (names : Labelled) (forms : List Tree) → form_names records form.imports ≡ Ok names → trees_at form.name_span [] body ≡ Ok forms → (x : Result Codes Fault) → prelude ≡ x
           → (expander_of x form.name path records names >>= (λ e. library_record e records form.version form.name_span (map export_tree form.exports) forms)) ≡ Ok r → Both records path form body r
       by-codes names forms named read (Ok table) e h =
-          let codes = without (HasOnly HasEvents (libraries_of records)) table e in
-          let was = forms-read form.name_span body forms read in
-          (record {
-            names = names;
-            named = named;
-            forms = forms;
-            read = read;
-            table = table;
-            given = e;
-            right = records-hygienic form.name path records names form.version form.name_span (map export_tree form.exports) forms table r new before codes was h;
-          }, events-stay.records form.name path records names form.version form.name_span (map export_tree form.exports) forms table r new before codes was h)
+          let codes = any-held (HasOnly HasEvents (libraries_of records)) table (without table e) in
+          let was = forms-read form.name_span body forms read in (
+            record {
+              names = names;
+              named = named;
+              forms = forms;
+              read = read;
+              table = table;
+              given = e;
+              right = records-hygienic form.name path records names form.version form.name_span (map export_tree form.exports) forms table r new before codes was h;
+            },
+            events-stay.records form.name path records names form.version form.name_span (map export_tree form.exports) forms table r new before codes was h,
+          )
       by-codes names forms named read (Err f) e h = absurd (cc)
 
       by-forms : (names : Labelled) → form_names records form.imports ≡ Ok names → (x : Result (List Tree) Fault) → trees_at form.name_span [] body ≡ x
@@ -159,15 +166,17 @@ module _ (prelude : Result Codes Fault) (without : HasNoLeaves prelude) where
   from-forms : (d : LibRecord) (table : Codes) (forms : List Tree) → forms_of DERIVED_SOURCE.now ≡ Ok forms → prelude ≡ Ok table → record_of table forms ≡ Ok d → First d
   unfolding record_of
   from-forms d table forms read given h =
-      let codes = without (HasOnly HasEvents (libraries_of [])) table given in
-      let was = ok-holds (Each WasRead) (forms_of DERIVED_SOURCE.now) forms (derived-read DERIVED_SOURCE.now) read in
-      (record {
-        forms = forms;
-        read = read;
-        table = table;
-        given = given;
-        right = records-hygienic library.Derived derived_names.path [] derived_names.names [] derived_names.start (derived_names.exports_of derived) forms table d derived-new tt codes was h;
-      }, events-stay.records library.Derived derived_names.path [] derived_names.names [] derived_names.start (derived_names.exports_of derived) forms table d derived-new tt codes was h)
+      let codes = any-held (HasOnly HasEvents (libraries_of [])) table (without table given) in
+      let was = ok-holds (Each WasRead) (forms_of DERIVED_SOURCE.now) forms (derived-read DERIVED_SOURCE.now) read in (
+        record {
+          forms = forms;
+          read = read;
+          table = table;
+          given = given;
+          right = records-hygienic library.Derived derived_names.path [] derived_names.names [] derived_names.start (derived_names.exports_of derived) forms table d derived-new tt codes was h;
+        },
+        events-stay.records library.Derived derived_names.path [] derived_names.names [] derived_names.start (derived_names.exports_of derived) forms table d derived-new tt codes was h,
+      )
 
   derived-made : (d : LibRecord) → derived_record prelude ≡ Ok d → First d
   unfolding derived_record
@@ -219,6 +228,7 @@ module _ (prelude : Result Codes Fault) (without : HasNoLeaves prelude) where
           by : (p : ℕ) → slice_get m.others p ≡ Some x → slice_get f.needs p ≡ Some true → Has (libraries_of (Behind f)) x
           by p there marked = record-wider (g.opened.form.name ∷ libraries_of (Behind g)) (libraries_of (Behind f)) within x (earlier p n.before n.file g x n.there there).1
             where
+              n : IsNeeded s.done f p
               n = closed p marked
 
               g : Found
@@ -246,6 +256,7 @@ module _ (prelude : Result Codes Fault) (without : HasNoLeaves prelude) where
     new-among rs n other new (inr a) = new (in-words rs n a)
 
     module _ (i : ℕ) (earlier : (j : ℕ) → j < i → HoldsAt j) (file : List ℕ) (f : Found) (at : IsAt s.done i file f) where
+      whole : IsWhole (found, s)
       whole = runs.whole prelude files roots path found s records program run m
 
       closed : NeedsAreClosed s.done f
@@ -300,4 +311,4 @@ module _ (prelude : Result Codes Fault) (without : HasNoLeaves prelude) where
 
 pub runs-hygienic : RunsAreHygienic
 runs-hygienic files roots path found s records program run =
-    all-hygienic prelude_table (λ P table e. codes-without P table e) files roots path found s records program run (all_made prelude_table s.done records run.recorded)
+    all-hygienic prelude_table codes-without files roots path found s records program run (all_made prelude_table s.done records run.recorded)

@@ -32,9 +32,13 @@ use Rattle.sx_tree.specs.Tree.{Tree}
 use Rattle.sx_value.specs.Cells.{Each}
 use Rattle.sx_run_laws.specs.Run.{IsRun}
 
--- The codes of the texts that this implementation has, have no leaves: whatever is asked of leaves, holds of them.
+-- there is no leaf of which this holds
+abbrev pub IsNoLeaf : LeafContext → Type 0
+IsNoLeaf c = ⊥
+
+-- The codes of the texts that this implementation has, have no leaves.
 abbrev pub CodesHaveNoLeaves : Type 0
-CodesHaveNoLeaves = (P : LeafContext → Type 0) (table : Codes) → prelude_table ≡ Ok table → CodesHold P table
+CodesHaveNoLeaves = (table : Codes) → prelude_table ≡ Ok table → CodesHold IsNoLeaf table
 
 -- the forms of a file have neither marks nor stamps
 abbrev pub FormsWereRead : Type 0
