@@ -1,18 +1,15 @@
 -- In a part of a run, as far as it came, the records fit, and the next expansion begins as it should.
 use Rattle.std.proofs.Common.{◌≡◌, ℕ, zero, suc, ◌+◌, ◌<◌, true, List, [], ◌∷◌, ◌++◌, length, Some, Result, Ok, Err, refl, sym, ap, subst, ◌∙◌, arith, append_assoc, append-nil}
 use Rattle.std.specs.Prelude.{slice_get}
-use Rattle.sx_base.specs.Datum.{PlainDatum}
 use Rattle.sx_base.specs.Gives.{◌>>=◌}
 use Rattle.sx_base.specs.declared.fault.Fault.{Fault}
 use Rattle.sx_base.specs.declared.library.LibName.{LibName}
 use Rattle.sx_base.specs.declared.library.LibName.TheVariants as library
 use Rattle.sx_core.specs.declared.record.LibRecord.{LibRecord}
-use Rattle.sx_core_laws.specs.Follows.{names_of}
-use Rattle.sx_core_laws.specs.Words.{Each, Among}
+use Rattle.sx_core_laws.specs.Words.{Each}
 use Rattle.sx_derived.specs.Derived.{derived_record}
 use Rattle.sx_derived.specs.Names as derived_library
 use Rattle.sx_eval.specs.Codes.{Codes}
-use Rattle.sx_expand_laws.specs.Serves.{AllServe}
 use Rattle.sx_expand_laws.proofs.Fresh.{each-append}
 use Rattle.sx_forms.specs.Form.{library_body}
 use Rattle.sx_import.specs.Names.{Labelled}
@@ -32,7 +29,7 @@ use Rattle.sx_load_laws.proofs.RowLemmas.{at_first}
 use Rattle.sx_outside.specs.Contents.{Paths}
 use Rattle.sx_run.specs.Whole.{loading_of}
 use Rattle.sx_run_laws.specs.Fitting.{Fits, AllFit, Begins}
-use Rattle.sx_run_laws.specs.Parts.{IsPart, PartsFit, PartsBegin, ProgramsBegin, DerivedBegins}
+use Rattle.sx_run_laws.specs.Parts.{PartsFit, PartsBegin, ProgramsBegin, DerivedBegins}
 use Rattle.sx_run_laws.specs.Run.{Stands}
 use Rattle.sx_run_laws.proofs.BehindLemmas.{IsNew, library_stands, derived_stands}
 use Rattle.sx_run_laws.proofs.Derived.{derived-names-once}

@@ -15,6 +15,9 @@
 //! be bound again one after another. Import sets give each name once. And no two libraries of a run have one
 //! name, as the laws of records say.
 //!
+//! A run may be at fault in a file that isn't found, or in a form of its third library. What was made before is put down
+//! in the same way, so the same is told of each part of a run, as far as it came.
+//!
 //! What is not told here stands in `docs/PROVED.md`.
 
 ghost use Rattle.sx_run_laws.specs.Expansion.{OwnFramesAreBound, NewLabelsAreUnbound, StartsAreNumbered, RecordsAreOnceOver};
