@@ -42,6 +42,7 @@ pub mod OtherFaults
 pub mod OtherText
 pub mod PartBehind
 pub mod PartRows
+pub mod PartFits
 pub mod Unstuck
 pub mod HygienicForms
 pub mod HygienicRuns
