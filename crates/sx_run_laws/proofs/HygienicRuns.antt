@@ -1,5 +1,5 @@
 -- Every record of a run is hygienic.
-use Rattle.std.proofs.Common.{◌≡◌, ℕ, zero, suc, ◌+◌, ◌<◌, Bool, true, false, List, [], ◌∷◌, ◌++◌, length, map, Option, Some, None, Result, Ok, Err, refl, sym, ap, subst, ◌∙◌, inl, inr, arith}
+use Rattle.std.proofs.Common.{◌≡◌, ℕ, zero, suc, ◌+◌, ◌<◌, Bool, true, false, List, [], ◌∷◌, ◌++◌, length, map, Option, Some, None, Result, Ok, Err, refl, sym, ap, subst, ◌∙◌, inl, inr, arith, append-nil}
 use Rattle.std.specs.Prelude.{slice_get}
 use Rattle.sx_base.specs.Datum.{PlainDatum}
 use Rattle.sx_base.specs.Gives.{◌>>=◌}
@@ -33,12 +33,15 @@ use Rattle.sx_hygiene_laws.specs.Marked.{Among}
 use Rattle.sx_import.specs.Names.{Labelled}
 use Rattle.sx_library.specs.Imports.{form_names}
 use Rattle.sx_library.specs.Library.{export_tree, trees_at, expander_of, expand_library}
+use Rattle.sx_library.specs.Loaded.{all_records, expand_found}
 use Rattle.sx_library.specs.Records.{needed_records}
 use Rattle.sx_load.specs.Found.{places_from, needed}
 use Rattle.sx_load.specs.declared.found.Found.{Found}
 use Rattle.sx_load.specs.declared.found.Loading.{Loading}
 use Rattle.sx_load_laws.specs.Laws.{IsAt, IsNeeded, NeedsAreClosed}
-use Rattle.sx_load_laws.proofs.LoadLemmas.{IsWhole}
+use Rattle.sx_load_laws.proofs.LoadLemmas.{loads_all}
+use Rattle.sx_load_laws.proofs.ReferLemmas.{IsSound}
+use Rattle.sx_load_laws.proofs.RowLemmas.{at_first}
 use Rattle.sx_outside.specs.Contents.{Paths}
 use Rattle.sx_prelude.specs.Prelude.{prelude_table}
 use Rattle.sx_reference_laws.proofs.Recording.{records-hygienic}
@@ -47,15 +50,18 @@ use Rattle.sx_tree.specs.Context.{LeafContext, blank}
 use Rattle.sx_tree.specs.Tree.{Tree}
 use Rattle.sx_tree.specs.declared.frame_row.FrameRow.{FrameRow}
 use Rattle.sx_value.specs.Cells.{Each}
-use Rattle.sx_run_laws.specs.Hygienic.{IsNoLeaf, IsHygienicBehind, IsHygienicDerived, AllHygienic, RunsAreHygienic}
-use Rattle.sx_run_laws.specs.Run.{IsRun, Stands}
+use Rattle.sx_run_laws.specs.Hygienic.{IsNoLeaf, IsHygienicBehind, IsHygienicDerived, PartIsHygienic, PartsAreHygienic, RunsAreHygienic}
 use Rattle.sx_run_laws.proofs.BehindLemmas.{IsNew}
 use Rattle.sx_run_laws.proofs.HygienicForms.{codes-without, forms-read, ok-holds, derived-read}
 use Rattle.sx_run_laws.proofs.MadeLemmas.{IsMade, all_made}
 use Rattle.sx_run_laws.proofs.NameLemmas.{IsNamed, named_among}
 use Rattle.sx_run_laws.proofs.PlaceLemmas.{marked_from, first_records, needed_behind, low_behind}
-use Rattle.sx_run_laws.proofs.RunLemmas as runs
-use Rattle.sx_run_laws.proofs.UserLemmas.{IsUser, user_at}
+use Rattle.sx_run_laws.proofs.NamedFiles.{IsUser, AllUsers, users-all}
+use Rattle.sx_run_laws.proofs.PartBehind.{Behind, AllMadeBehind, library-new, program-new}
+use Rattle.sx_run_laws.proofs.PartFits.{IsLoaded, loaded-is, parts-are}
+use Rattle.sx_run_laws.proofs.PartRows.{IsFirst}
+use Rattle.sx_run_laws.proofs.RunLemmas.{same_place}
+use Rattle.sx_run_laws.proofs.UserLemmas.{program_name}
 
 -- Names.
 
@@ -89,6 +95,17 @@ marked-there records k (true ∷ ms) (suc p) r h e = by (slice_get records k) (l
     by : (o : Option LibRecord) → words.Among (records_at records (places_from (suc k) ms)) r → words.Among (or_skip o (records_at records (places_from (suc k) ms))) r
     by None a = a
     by (Some x) a = inr a
+
+-- Lists.
+
+one-there : {A : Type 0} (xs : List A) (i : ℕ) (x y : A) → slice_get xs i ≡ Some x → slice_get xs i ≡ Some y → x ≡ y
+one-there xs i x y e h = cc
+
+same-head : (x y : LibRecord) (xs ys : List LibRecord) → x ∷ xs ≡ y ∷ ys → x ≡ y
+same-head x y xs ys e = cc
+
+same-tail : (x y : LibRecord) (xs ys : List LibRecord) → x ∷ xs ≡ y ∷ ys → xs ≡ ys
+same-tail x y xs ys e = cc
 
 -- Marks of more libraries.
 
@@ -192,41 +209,39 @@ module _ (prelude : Result Codes Fault) (without : HasNoLeaves prelude) where
 
   -- One library after another.
 
-  module _ (files : Paths) (roots : List (List ℕ)) (path : List ℕ) (found : Found) (s : Loading) (records : List LibRecord) (program : LibRecord)
-      (run : IsRun prelude files roots path found s records program) (m : IsMade prelude s.done records) where
-    abbrev Behind : Found → List LibRecord
-    Behind f = m.derived ∷ records_at m.others (needed f)
-
-    stands : (i : ℕ) (file : List ℕ) (f : Found) (r : LibRecord) → IsAt s.done i file f → slice_get m.others i ≡ Some r → Stands (Behind f) f.opened.form.name r
-    stands i = runs.stands_at prelude files roots path found s records program run m i
-
-    first-named : m.derived.name ≡ library.Derived
-    first-named = (runs.first prelude files roots path found s records program run m).named
-
+  module _ (s : Loading) (sound : IsSound s) (users : AllUsers s.done) (rows left : List (List ℕ × Found)) (records : List LibRecord) (parts : s.done ≡ rows ++ left)
+      (m : IsMade prelude rows records) (first : IsFirst m.derived) (made : AllMadeBehind s m.derived m.others) where
     first-made : First m.derived
     first-made = derived-made m.derived m.made
 
     -- the record at a place
     abbrev HoldsAt : ℕ → Type 0
-    HoldsAt i = (file : List ℕ) (f : Found) (r : LibRecord) → IsAt s.done i file f → slice_get m.others i ≡ Some r → Both (Behind f) f.opened.path f.opened.form (library_body f.opened.«data») r
+    HoldsAt i = (file : List ℕ) (f : Found) (r : LibRecord) → IsAt s.done i file f → slice_get m.others i ≡ Some r
+        → Both (Behind m.derived m.others f) f.opened.path f.opened.form (library_body f.opened.«data») r
 
     module _ (f : Found) (closed : NeedsAreClosed s.done f) (earlier : (i : ℕ) → i < f.place → HoldsAt i) where
-      derived-here : Has (libraries_of (Behind f)) m.derived
-      derived-here = record-wider (library.Derived ∷ libraries_of []) (libraries_of (Behind f)) within m.derived first-made.1
+      abbrev here : List LibRecord
+      here = records_at m.others (needed f)
+
+      abbrev libs : List LibName
+      libs = libraries_of (Behind m.derived m.others f)
+
+      derived-here : Has libs m.derived
+      derived-here = record-wider (library.Derived ∷ libraries_of []) libs within m.derived first-made.1
         where
-          within : (n : LibName) → Among (library.Derived ∷ libraries_of []) n → Among (libraries_of (Behind f)) n
-          within n (inl e) = inr (inl (e ∙ sym first-named))
+          within : (n : LibName) → Among (library.Derived ∷ libraries_of []) n → Among libs n
+          within n (inl e) = inr (inl (e ∙ sym first.stands.named))
           within n (inr (inl e)) = inl e
           within n (inr (inr a)) = elim a [ ]
 
-      needed-here : (x : LibRecord) → words.Among (records_at m.others (needed f)) x → Has (libraries_of (Behind f)) x
+      needed-here : (x : LibRecord) → words.Among here x → Has libs x
       needed-here x a =
           let y = marked_from m.others zero f.needs x a in
           let same : zero + y.place ≡ y.place = omega arith in
           by y.place (subst (λ p. slice_get m.others p ≡ Some x) same y.there) y.marked
         where
-          by : (p : ℕ) → slice_get m.others p ≡ Some x → slice_get f.needs p ≡ Some true → Has (libraries_of (Behind f)) x
-          by p there marked = record-wider (g.opened.form.name ∷ libraries_of (Behind g)) (libraries_of (Behind f)) within x (earlier p n.before n.file g x n.there there).1
+          by : (p : ℕ) → slice_get m.others p ≡ Some x → slice_get f.needs p ≡ Some true → Has libs x
+          by p there marked = record-wider (g.opened.form.name ∷ libraries_of (Behind m.derived m.others g)) libs within x (earlier p n.before n.file g x n.there there).1
             where
               n : IsNeeded s.done f p
               n = closed p marked
@@ -234,51 +249,54 @@ module _ (prelude : Result Codes Fault) (without : HasNoLeaves prelude) where
               g : Found
               g = (closed p marked).library
 
-              named-in : (k : LibName) → IsNamed (records_at m.others (needed g)) k → Among (libraries_of (Behind f)) k
+              named-in : (k : LibName) → IsNamed (records_at m.others (needed g)) k → Among libs k
               named-in k i =
                   let z = marked_from m.others zero g.needs i.record_of i.among in
-                  inr (inr (subst (Among (map (λ (r : LibRecord). r.name) (records_at m.others (needed f)))) i.name
-                  (name-there (records_at m.others (needed f)) i.record_of (marked-there m.others zero f.needs z.place i.record_of ((closed p marked).also z.place z.marked) z.there))))
+                  inr (inr (subst (Among (map (λ (r : LibRecord). r.name) here)) i.name
+                  (name-there here i.record_of (marked-there m.others zero f.needs z.place i.record_of ((closed p marked).also z.place z.marked) z.there))))
 
-              within : (k : LibName) → Among (g.opened.form.name ∷ libraries_of (Behind g)) k → Among (libraries_of (Behind f)) k
+              within : (k : LibName) → Among (g.opened.form.name ∷ libraries_of (Behind m.derived m.others g)) k → Among libs k
               within k (inl e) =
-                  let st = stands p (closed p marked).file g x (closed p marked).there there in
-                  inr (inr (subst (Among (map (λ (r : LibRecord). r.name) (records_at m.others (needed f)))) (st.named ∙ sym e) (name-there (records_at m.others (needed f)) x a)))
+                  let st = (made p (closed p marked).file g x (closed p marked).there there).stands in
+                  inr (inr (subst (Among (map (λ (r : LibRecord). r.name) here)) (st.named ∙ sym e) (name-there here x a)))
               within k (inr (inl e)) = inl e
               within k (inr (inr (inl e))) = inr (inl e)
               within k (inr (inr (inr b))) = named-in k (named_among (records_at m.others (needed g)) k (in-words (records_at m.others (needed g)) k b))
 
-      behind-here : Each (Has (libraries_of (Behind f))) (Behind f)
-      behind-here = (derived-here, each-among (Has (libraries_of (Behind f))) (records_at m.others (needed f)) needed-here)
+      behind-here : Each (Has libs) (Behind m.derived m.others f)
+      behind-here = (derived-here, each-among (Has libs) here needed-here)
 
     new-among : (rs : List LibRecord) (n : LibName) → (n ≡ library.Core → ⊥) → IsNew rs n → IsNewAmong (libraries_of rs) n
     new-among rs n other new (inl e) = other e
     new-among rs n other new (inr a) = new (in-words rs n a)
 
     module _ (i : ℕ) (earlier : (j : ℕ) → j < i → HoldsAt j) (file : List ℕ) (f : Found) (at : IsAt s.done i file f) where
-      whole : IsWhole (found, s)
-      whole = runs.whole prelude files roots path found s records program run m
-
       closed : NeedsAreClosed s.done f
-      closed = (whole.sound.stand i file f at).closed
+      closed = (sound.stand i file f at).closed
 
       place : f.place ≡ i
-      place = whole.sound.once.in_order i file f at
+      place = sound.once.in_order i file f at
 
       no-core : f.opened.form.name ≡ library.Core → ⊥
-      no-core e = subst IsUser e (user_at files roots path found s run.loaded i file f at)
+      no-core e = subst IsUser e (users i file f at)
 
-      holds-here : (r : LibRecord) → slice_get m.others i ≡ Some r → Both (Behind f) f.opened.path f.opened.form (library_body f.opened.«data») r
+      row-there : (r : LibRecord) → slice_get m.others i ≡ Some r → IsAt rows i file f
+      row-there r there =
+          let y = same_place m.others rows i r m.as_many there in
+          let e : slice_get s.done i ≡ Some y.0 = subst (λ (xs : List (List ℕ × Found)). slice_get xs i ≡ Some y.0) (sym parts) (at_first rows left i y.0 y.1) in
+          subst (λ (z : List ℕ × Found). slice_get rows i ≡ Some z) (one-there s.done i y.0 (file, f) e at) y.1
+
+      holds-here : (r : LibRecord) → slice_get m.others i ≡ Some r → Both (Behind m.derived m.others f) f.opened.path f.opened.form (library_body f.opened.«data») r
       holds-here r there =
-          let x = m.each i file f r at there in
+          let x = m.each i file f r (row-there r there) there in
           let many = x.many in
           let is_at = place in
           let low : (p : ℕ) → slice_get (true ∷ f.needs) p ≡ Some true → zero + p < length x.before =
           low_behind (length x.before) f.needs (λ p h. let l = (closed p h).before in omega (arith, l, many, is_at)) (omega (arith, many)) in
-          let same : needed_records x.before (true ∷ f.needs) ≡ Behind f =
+          let same : needed_records x.before (true ∷ f.needs) ≡ Behind m.derived m.others f =
           sym (first_records x.before x.after zero (true ∷ f.needs) low) ∙ ap (λ (rs : List LibRecord). needed_records rs (true ∷ f.needs)) (sym x.parts) ∙ needed_behind m.derived m.others f.needs in
-          both-made (Behind f) f.opened.path f.opened.form (library_body f.opened.«data») r
-          (new-among (Behind f) f.opened.form.name no-core (runs.is_new prelude files roots path found s records program run m i (λ j l. stands j) file f at))
+          both-made (Behind m.derived m.others f) f.opened.path f.opened.form (library_body f.opened.«data») r
+          (new-among (Behind m.derived m.others f) f.opened.form.name no-core (library-new s sound users m.derived first.stands first.behind m.others made f closed i file at))
           (behind-here f closed (λ j l. earlier j (omega (arith, l, is_at))))
           (subst (λ (rs : List LibRecord). expand_library prelude rs f.opened.path f.opened.form (library_body f.opened.«data») ≡ Ok r) same x.made)
 
@@ -289,26 +307,64 @@ module _ (prelude : Result Codes Fault) (without : HasNoLeaves prelude) where
     holds-at : (i : ℕ) → HoldsAt i
     holds-at i = holds-below (suc i) i (omega arith)
 
-    program-holds : Both (Behind found) found.opened.path found.opened.form (program_body found.opened.«data») program
-    program-holds =
-        let named = runs.program_is prelude files roots path found s records program run m in
-        let closed = (runs.whole prelude files roots path found s records program run m).stands.closed in
-        let same : needed_records records (true ∷ found.needs) ≡ Behind found = ap (λ (rs : List LibRecord). needed_records rs (true ∷ found.needs)) m.parts ∙ needed_behind m.derived m.others found.needs in
-        both-made (Behind found) found.opened.path found.opened.form (program_body found.opened.«data») program
-        (new-among (Behind found) found.opened.form.name (λ e. let bad : library.Program ≡ library.Core = sym named ∙ e in absurd (cc)) (runs.program_new prelude files roots path found s records program run m))
+    program-holds : (found : Found) → NeedsAreClosed s.done found → found.opened.form.name ≡ library.Program → (body : List PlainDatum) (program : LibRecord) → expand_found prelude records found body ≡ Ok program
+        → Both (Behind m.derived m.others found) found.opened.path found.opened.form body program
+    program-holds found closed named body program h =
+        let same : needed_records records (true ∷ found.needs) ≡ Behind m.derived m.others found =
+        ap (λ (rs : List LibRecord). needed_records rs (true ∷ found.needs)) m.parts ∙ needed_behind m.derived m.others found.needs in
+        both-made (Behind m.derived m.others found) found.opened.path found.opened.form body program
+        (new-among (Behind m.derived m.others found) found.opened.form.name (λ e. let bad : library.Program ≡ library.Core = sym named ∙ e in absurd (cc))
+        (program-new s sound users m.derived first.stands first.behind m.others made found closed found.opened.form.name named))
         (behind-here found closed (λ j l. holds-at j))
-        (subst (λ (rs : List LibRecord). expand_library prelude rs found.opened.path found.opened.form (program_body found.opened.«data») ≡ Ok program) same run.expanded)
+        (subst (λ (rs : List LibRecord). expand_library prelude rs found.opened.path found.opened.form body ≡ Ok program) same h)
 
-    all-hygienic : AllHygienic prelude found s records program
+    abbrev all-hygienic : PartIsHygienic prelude rows records
     all-hygienic = record {
       derived = m.derived;
       others = m.others;
       parts = m.parts;
-      first = first-made.0;
-      each = λ i file f r at there. (holds-at i file f r at there).0;
-      last = program-holds.0;
+      as_many = m.as_many;
+      all = record {
+        first = first-made.0;
+        each = λ i file f r at there.
+            (holds-at i file f r (subst (λ (xs : List (List ℕ × Found)). slice_get xs i ≡ Some (file, f)) (sym parts) (at_first rows left i (file, f) at)) there).0;
+      };
     }
+
+-- A part of a run, as far as it came.
+
+record IsMadeSo (prelude : Result Codes Fault) (s : Loading) (rows : List (List ℕ × Found)) (records : List LibRecord) : Type 0 where
+  made : IsMade prelude rows records
+  first : IsFirst made.derived
+  behind : AllMadeBehind s made.derived made.others
+
+made-so : (prelude : Result Codes Fault) (s : Loading) (sound : IsSound s) (users : AllUsers s.done) (rows left : List (List ℕ × Found)) (records : List LibRecord) → s.done ≡ rows ++ left → all_records prelude rows ≡ Ok records
+    → IsMadeSo prelude s rows records
+made-so prelude s sound users rows left records parts recorded =
+    let m = all_made prelude rows records recorded in
+    let p = parts-are s sound users prelude rows left records parts recorded in
+    let e = sym p.so.parts ∙ m.parts in
+    record {
+      made = m;
+      first = subst IsFirst (same-head p.derived m.derived p.so.others m.others e) p.first;
+      behind = subst (λ (d : LibRecord). AllMadeBehind s d m.others) (same-head p.derived m.derived p.so.others m.others e)
+          (subst (λ (os : List LibRecord). AllMadeBehind s p.derived os) (same-tail p.derived m.derived p.so.others m.others e) p.so.made);
+    }
+
+pub parts-hygienic : PartsAreHygienic
+parts-hygienic files roots path s rows left records part =
+    let l = subst IsLoaded part.loaded (loaded-is files roots path) in
+    let x = made-so prelude_table s l.sound l.users rows left records part.parts part.recorded in
+    all-hygienic prelude_table codes-without s l.sound l.users rows left records part.parts x.made x.first x.behind
 
 pub runs-hygienic : RunsAreHygienic
 runs-hygienic files roots path found s records program run =
-    all-hygienic prelude_table codes-without files roots path found s records program run (all_made prelude_table s.done records run.recorded)
+    let all = loads_all files roots path found s run.loaded in
+    let users = users-all files roots path found s run.loaded in
+    let end = sym (append-nil s.done) in
+    let x = made-so prelude_table s all.sound users s.done [] records end run.recorded in
+    record {
+      libraries = all-hygienic prelude_table codes-without s all.sound users s.done [] records end x.made x.first x.behind;
+      last = (program-holds prelude_table codes-without s all.sound users s.done [] records end x.made x.first x.behind found all.stands.closed
+          (program_name files roots path found s run.loaded) (program_body found.opened.«data») program run.expanded).0;
+    }

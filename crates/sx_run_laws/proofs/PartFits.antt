@@ -150,11 +150,11 @@ module _ (s : Loading) (sound : IsSound s) (users : AllUsers s.done) (d : LibRec
   -- ---- one after another
 
   -- so many records behind that of the derived library
-  record AreSo (count : ℕ) (records : List LibRecord) : Type 0 where
-    others : List LibRecord
-    parts : records ≡ d ∷ others
+  pub record AreSo (count : ℕ) (records : List LibRecord) : Type 0 where
+    pub others : List LibRecord
+    pub parts : records ≡ d ∷ others
     many : length others ≡ count
-    made : AllMadeBehind s d others
+    pub made : AllMadeBehind s d others
     fine : Each IsFine (d ∷ others)
     fit : AllFit [] (d ∷ others)
 
@@ -189,12 +189,12 @@ module _ (s : Loading) (sound : IsSound s) (users : AllUsers s.done) (d : LibRec
 -- ---- a part of a run
 
 module _ (s : Loading) (sound : IsSound s) (users : AllUsers s.done) where
-  record PartsAre (count : ℕ) (records : List LibRecord) : Type 0 where
-    derived : LibRecord
-    first : IsFirst derived
-    so : AreSo s sound users derived first count records
+  pub record PartsAre (count : ℕ) (records : List LibRecord) : Type 0 where
+    pub derived : LibRecord
+    pub first : IsFirst derived
+    pub so : AreSo s sound users derived first count records
 
-  parts-are : (prelude : Result Codes Fault) (rows left : List (List ℕ × Found)) (records : List LibRecord) → s.done ≡ rows ++ left → all_records prelude rows ≡ Ok records → PartsAre (length rows) records
+  pub parts-are : (prelude : Result Codes Fault) (rows left : List (List ℕ × Found)) (records : List LibRecord) → s.done ≡ rows ++ left → all_records prelude rows ≡ Ok records → PartsAre (length rows) records
   parts-are prelude rows left records parts h = by (derived_record prelude) refl h
     where
       by : (x : Result LibRecord Fault) → derived_record prelude ≡ x → (x >>= (λ d. turns (expand_next prelude) (d ∷ []) rows)) ≡ Ok records → PartsAre (length rows) records
@@ -245,11 +245,11 @@ module _ (s : Loading) (sound : IsSound s) (users : AllUsers s.done) where
 
 -- ---- as far as loading came
 
-record IsLoaded (s : Loading) : Type 0 where
-  sound : IsSound s
-  users : AllUsers s.done
+pub record IsLoaded (s : Loading) : Type 0 where
+  pub sound : IsSound s
+  pub users : AllUsers s.done
 
-loaded-is : (files : Paths) (roots : List (List ℕ)) (path : List ℕ) → IsLoaded (loading_of (load files roots path))
+pub loaded-is : (files : Paths) (roots : List (List ℕ)) (path : List ℕ) → IsLoaded (loading_of (load files roots path))
 loaded-is files roots path = by (load files roots path) refl
   where
     by : (x : Loads (Found × Loading)) → load files roots path ≡ x → IsLoaded (loading_of x)

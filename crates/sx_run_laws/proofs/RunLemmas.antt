@@ -57,14 +57,14 @@ module _ (prelude : Result Codes Fault) (files : Paths) (roots : List (List ℕ)
   abbrev others : List LibRecord
   others = m.others
 
-  pub first : Stands [] library.Derived d
+  first : Stands [] library.Derived d
   first = derived_stands d prelude m.made
 
   -- the records that a library stands behind
   abbrev Behind : Found → List LibRecord
   Behind f = d ∷ records_at others (needed f)
 
-  pub whole : IsWhole (found, s)
+  whole : IsWhole (found, s)
   whole = loads_all files roots path found s run.loaded
 
   -- the record at a place stands
@@ -171,7 +171,7 @@ module _ (prelude : Result Codes Fault) (files : Paths) (roots : List (List ℕ)
   -- ---- the record of a library
 
   module _ (i : ℕ) (earlier : (j : ℕ) → j < i → StandsAt j) (file : List ℕ) (f : Found) (at : IsAt s.done i file f) where
-    pub closed : NeedsAreClosed s.done f
+    closed : NeedsAreClosed s.done f
     closed = (whole.sound.stand i file f at).closed
 
     place : f.place ≡ i
@@ -189,7 +189,7 @@ module _ (prelude : Result Codes Fault) (files : Paths) (roots : List (List ℕ)
         let less = x.before in
         absurd (omega (arith, less, places_same, place))
 
-    pub is_new : IsNew (Behind f) f.opened.form.name
+    is_new : IsNew (Behind f) f.opened.form.name
     is_new = new_behind f closed before f.opened.form.name (user_no_derived f.opened.form.name (user_at files roots path found s run.loaded i file f at)) is_other
 
     stands_here : (r : LibRecord) → slice_get others i ≡ Some r → Stands (Behind f) f.opened.form.name r
@@ -207,12 +207,12 @@ module _ (prelude : Result Codes Fault) (files : Paths) (roots : List (List ℕ)
   stands_below zero i less = absurd (omega (arith, less))
   stands_below (suc n) i less = λ file f r at there. stands_here i (λ j l. stands_below n j (omega (arith, l, less))) file f at r there
 
-  pub stands_at : (i : ℕ) → StandsAt i
+  stands_at : (i : ℕ) → StandsAt i
   stands_at i = stands_below (suc i) i (omega arith)
 
   -- ---- the record of the program
 
-  pub program_is : found.opened.form.name ≡ library.Program
+  program_is : found.opened.form.name ≡ library.Program
   program_is = program_name files roots path found s run.loaded
 
   program_other : Among (names_of (records_at others (needed found))) found.opened.form.name → ⊥
@@ -220,7 +220,7 @@ module _ (prelude : Result Codes Fault) (files : Paths) (roots : List (List ℕ)
       let x = needed_as found whole.stands.closed (λ j less. stands_at j) found.opened.form.name a in
       user_no_program x.library_there.opened.form.name (user_at files roots path found s run.loaded x.place x.file x.library_there x.there) (x.name ∙ program_is)
 
-  pub program_new : IsNew (Behind found) found.opened.form.name
+  program_new : IsNew (Behind found) found.opened.form.name
   program_new = new_behind found whole.stands.closed (λ j less. stands_at j) found.opened.form.name (λ e. let bad : library.Program ≡ library.Derived = sym program_is ∙ e in absurd (cc)) program_other
 
   program_stands : Stands (Behind found) library.Program program

@@ -1,5 +1,5 @@
 -- Every record of a run is hygienic.
-use Rattle.std.specs.Prelude.{◌≡◌, ℕ, List, [], ◌∷◌, map, Some, Result, Ok, slice_get}
+use Rattle.std.specs.Prelude.{◌≡◌, ℕ, List, [], ◌∷◌, map, length, Some, Result, Ok, slice_get}
 use Rattle.sx_base.specs.Datum.{PlainDatum}
 use Rattle.sx_base.specs.declared.fault.Fault.{Fault}
 use Rattle.sx_base.specs.declared.library.LibName.TheVariants as library
@@ -30,6 +30,7 @@ use Rattle.sx_standing.specs.Start.{started, records_at}
 use Rattle.sx_tree.specs.Context.{LeafContext}
 use Rattle.sx_tree.specs.Tree.{Tree}
 use Rattle.sx_value.specs.Cells.{Each}
+use Rattle.sx_run_laws.specs.Parts.{IsPart}
 use Rattle.sx_run_laws.specs.Run.{IsRun}
 
 -- there is no leaf of which this holds
@@ -63,18 +64,31 @@ pub record IsHygienicDerived (prelude : Result Codes Fault) (r : LibRecord) : Ty
   pub given : prelude ≡ Ok table
   pub right : RunIsRight (libraries_of []) library.Derived [] (started library.Derived [] derived_names.names table) (body_of (ready library.Derived derived_names.path [] derived_names.names table) [] derived_names.start) (derived_names.exports_of derived) forms r
 
--- The records of the derived library, of libraries that were loaded, and of the program.
-pub record AllHygienic (prelude : Result Codes Fault) (found : Found) (s : Loading) (records : List LibRecord) (program : LibRecord) : Type 0 where
+-- The records of the derived library and of libraries, each behind those that it needs.
+pub record AllHygienic (prelude : Result Codes Fault) (rows : List (List ℕ × Found)) (derived : LibRecord) (others : List LibRecord) : Type 0 where
+  pub first : IsHygienicDerived prelude derived
+  pub each : (i : ℕ) (file : List ℕ) (f : Found) (r : LibRecord) → IsAt rows i file f → slice_get others i ≡ Some r
+      → IsHygienicBehind prelude (derived ∷ records_at others (needed f)) f.opened.path f.opened.form (library_body f.opened.«data») r
+
+-- those of a part of a run
+pub record PartIsHygienic (prelude : Result Codes Fault) (rows : List (List ℕ × Found)) (records : List LibRecord) : Type 0 where
   pub derived : LibRecord
   pub others : List LibRecord
   pub parts : records ≡ derived ∷ others
-  pub first : IsHygienicDerived prelude derived
-  -- each library, behind those that it needs
-  pub each : (i : ℕ) (file : List ℕ) (f : Found) (r : LibRecord) → IsAt s.done i file f → slice_get others i ≡ Some r
-      → IsHygienicBehind prelude (derived ∷ records_at others (needed f)) f.opened.path f.opened.form (library_body f.opened.«data») r
-  pub last : IsHygienicBehind prelude (derived ∷ records_at others (needed found)) found.opened.path found.opened.form (program_body found.opened.«data») program
+  pub as_many : length others ≡ length rows
+  pub all : AllHygienic prelude rows derived others
+
+-- and those of a run, with that of the program
+pub record RunIsHygienic (prelude : Result Codes Fault) (found : Found) (s : Loading) (records : List LibRecord) (program : LibRecord) : Type 0 where
+  pub libraries : PartIsHygienic prelude s.done records
+  pub last : IsHygienicBehind prelude (libraries.derived ∷ records_at libraries.others (needed found)) found.opened.path found.opened.form (program_body found.opened.«data») program
+
+-- So it is in every part of a run, also where a later library is at fault.
+abbrev pub PartsAreHygienic : Type 0
+PartsAreHygienic = (files : Paths) (roots : List (List ℕ)) (path : List ℕ) (s : Loading) (first left : List (List ℕ × Found)) (records : List LibRecord)
+    → IsPart prelude_table files roots path s first left records → PartIsHygienic prelude_table first records
 
 -- So it is in every run.
 abbrev pub RunsAreHygienic : Type 0
 RunsAreHygienic = (files : Paths) (roots : List (List ℕ)) (path : List ℕ) (found : Found) (s : Loading) (records : List LibRecord) (program : LibRecord)
-    → IsRun prelude_table files roots path found s records program → AllHygienic prelude_table found s records program
+    → IsRun prelude_table files roots path found s records program → RunIsHygienic prelude_table found s records program

@@ -11,8 +11,8 @@
 //!
 //! Expansion promises this of one library (sx_reference_laws), where the marks in the records before it are of their libraries, where the
 //! codes of the texts have no others, where its forms have neither marks nor stamps, and where its name is new. Here it is told that in a
-//! run all this holds, so that each record is hygienic, and the program's, with no premise but that it was loaded and expanded. Four
-//! things bring this about.
+//! run all this holds, so that each record is hygienic, and the program's, with no premise but that it was loaded and expanded; and so is
+//! each that was made where a later library, or the program, is at fault. Four things bring this about.
 //!
 //! - The codes of the texts that this implementation has are those that are written out, and these have no leaves at all.
 //! - The forms of a file, and of the derived library, are data, whose trees have blank leaves.
@@ -22,7 +22,7 @@
 //!
 //! Here are no calls to make: each function stands for the law that it ensures.
 
-ghost use Rattle.sx_run_laws.specs.Hygienic.{CodesHaveNoLeaves, FormsWereRead, RunsAreHygienic};
+ghost use Rattle.sx_run_laws.specs.Hygienic.{CodesHaveNoLeaves, FormsWereRead, PartsAreHygienic, RunsAreHygienic};
 
 /// The codes of the texts have no leaves, and the forms of files have blank ones.
 pub fn nothing_is_marked_before()
@@ -30,7 +30,9 @@ pub fn nothing_is_marked_before()
     ensures forms { FormsWereRead }
 {}
 
-/// In every run the record of the derived library, of each library that was loaded, and of the program is hygienic.
+/// In every run the record of the derived library, of each library that was loaded, and of the program is hygienic; and in
+/// a part of a run, as far as it came, each that was made.
 pub fn runs_are_hygienic()
-    ensures { RunsAreHygienic }
+    ensures runs { RunsAreHygienic }
+    ensures parts { PartsAreHygienic }
 {}
