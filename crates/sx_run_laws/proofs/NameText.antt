@@ -1,16 +1,17 @@
 -- A generated name tells its library and its number, and is read as it is, whatever its symbol is.
 use Rattle.std.proofs.Common.{◌≡◌, ℕ, zero, suc, ◌+◌, ◌<◌, ◌^◌, ◌/◌, ◌%◌, Bool, true, false, List, [], ◌∷◌, ◌++◌, drop, arith, refl, sym, ap, ◌∙◌, subst, if◌then◌else◌}
-use Rattle.std.specs.Prelude.{◌==◌, decimal, nat_lt}
+use Rattle.std.specs.Prelude.{◌==◌, nat_lt}
 use Rattle.std.specs.Fmt.{digit_glyph, digits_onto, digits}
 use Rattle.std.specs.List.{flat_map, list_all}
 use Rattle.std.specs.Str.{chars}
 use Rattle.std.proofs.Math.Nat.{mod-lt}
 use Rattle.std.proofs.lemmas.Bool.{and_from}
 use Rattle.std.proofs.lemmas.Bool.Decides.{nat_tests}
-use Rattle.std.proofs.lemmas.Fmt.{decimal_injective, decimal_is_IsNumeral}
 use Rattle.sx_base.specs.Hex.{hex}
 use Rattle.sx_base.specs.declared.library.LibName.{LibName}
+use Rattle.sx_names.specs.Decimal.{number_text}
 use Rattle.sx_names.specs.Generated.{is_plain, name_char, name_part, library_text, generated_name}
+use Rattle.sx_names.proofs.Decimal.{number_injective, number_reads}
 use Rattle.sx_round.proofs.Chars.{branch}
 use Rattle.sx_name_laws.specs.Variable.{IsNamed}
 use Rattle.sx_name_laws.proofs.Reading.{path_subsequent, word_subsequent, digits_subsequent, read_itself}
@@ -57,25 +58,25 @@ part_word x = chars_word (chars x)
 
 -- A name.
 
-module _ (l m : LibName) (x y : List ℕ) (n k : ℕ) (named : IsNamed l) (other : IsNamed m) (small : n < 2 ^ 64) (less : k < 2 ^ 64) where
+module _ (l m : LibName) (x y : List ℕ) (n k : ℕ) (named : IsNamed l) (other : IsNamed m) where
   -- one name is of one library and one number
   pub names_tell : generated_name l x n ≡ generated_name m y k → (l ≡ m) × (n ≡ k)
   names_tell e =
       let whole = ap (λ (w : List ℕ). drop 1 w) (sym (name_is l x n) ∙ e ∙ name_is m y k) in
-      let first = cut is_path (library_text l) (library_text m) (0x2F ∷ (name_part x ++ (0x2F ∷ decimal n))) (0x2F ∷ (name_part y ++ (0x2F ∷ decimal k))) (library_path l named) (library_path m other) refl refl whole in
-      let second = cut is_word (name_part x) (name_part y) (0x2F ∷ decimal n) (0x2F ∷ decimal k) (part_word x) (part_word y) refl refl (ap (λ (w : List ℕ). drop 1 w) first.1) in
-      (library_same l m named other first.0, decimal_injective n k small less (ap (λ (w : List ℕ). drop 1 w) second.1))
+      let first = cut is_path (library_text l) (library_text m) (0x2F ∷ (name_part x ++ (0x2F ∷ number_text n))) (0x2F ∷ (name_part y ++ (0x2F ∷ number_text k))) (library_path l named) (library_path m other) refl refl whole in
+      let second = cut is_word (name_part x) (name_part y) (0x2F ∷ number_text n) (0x2F ∷ number_text k) (part_word x) (part_word y) refl refl (ap (λ (w : List ℕ). drop 1 w) first.1) in
+      (library_same l m named other first.0, number_injective n k (ap (λ (w : List ℕ). drop 1 w) second.1))
 
 -- it is read as it is
-pub name_written : (l : LibName) (x : List ℕ) (n : ℕ) → IsNamed l → n < 2 ^ 64 → IsWrittenName (generated_name l x n)
-name_written l x n named small =
+pub name_written : (l : LibName) (x : List ℕ) (n : ℕ) → IsNamed l → IsWrittenName (generated_name l x n)
+name_written l x n named =
     subst IsWrittenName (sym (name_is l x n)) (record {
-      rest = library_text l ++ (0x2F ∷ (name_part x ++ (0x2F ∷ decimal n)));
+      rest = library_text l ++ (0x2F ∷ (name_part x ++ (0x2F ∷ number_text n)));
       begins = refl;
-      read = λ file nesting. read_itself file nesting (library_text l ++ (0x2F ∷ (name_part x ++ (0x2F ∷ decimal n)))) behind;
+      read = λ file nesting. read_itself file nesting (library_text l ++ (0x2F ∷ (name_part x ++ (0x2F ∷ number_text n)))) behind;
     })
   where
-    behind : list_all is_subsequent (library_text l ++ (0x2F ∷ (name_part x ++ (0x2F ∷ decimal n)))) ≡ true
+    behind : list_all is_subsequent (library_text l ++ (0x2F ∷ (name_part x ++ (0x2F ∷ number_text n)))) ≡ true
     behind =
-        all_append is_subsequent (library_text l) (0x2F ∷ (name_part x ++ (0x2F ∷ decimal n))) (all_weaker is_path is_subsequent path_subsequent (library_text l) (library_path l named))
-        (all_append is_subsequent (name_part x) (0x2F ∷ decimal n) (all_weaker is_word is_subsequent word_subsequent (name_part x) (part_word x)) (digits_subsequent (decimal n) ((decimal_is_IsNumeral n small).0.1)))
+        all_append is_subsequent (library_text l) (0x2F ∷ (name_part x ++ (0x2F ∷ number_text n))) (all_weaker is_path is_subsequent path_subsequent (library_text l) (library_path l named))
+        (all_append is_subsequent (name_part x) (0x2F ∷ number_text n) (all_weaker is_word is_subsequent word_subsequent (name_part x) (part_word x)) (digits_subsequent (number_text n) ((number_reads n).0.1)))

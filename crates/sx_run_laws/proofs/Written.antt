@@ -1,5 +1,5 @@
 -- The text that a run writes is closed and bound once by the names in it.
-use Rattle.std.proofs.Common.{◌≡◌, ℕ, ◌<◌, ◌^◌, List, [], ◌∷◌, ◌++◌, map, Option, Some, None, Result, Ok, Err, refl, sym, ◌∙◌, ap, subst, inl, inr}
+use Rattle.std.proofs.Common.{◌≡◌, ℕ, List, [], ◌∷◌, ◌++◌, map, Option, Some, None, Result, Ok, Err, refl, sym, ◌∙◌, ap, subst, inl, inr}
 use Rattle.std.specs.Prelude.{◌⊎◌, slice_get, unwrap_or}
 use Rattle.std.specs.List.{flat_map}
 use Rattle.std.specs.Map.{lookup}
@@ -22,7 +22,6 @@ use Rattle.sx_core_text.specs.Syntax.{Checked, written, lines_checked}
 use Rattle.sx_core_text.specs.Whole.{record_checked, plan_checked, all_names, all_text, core_text}
 use Rattle.sx_eval.specs.Codes.{Codes}
 use Rattle.sx_names.specs.Generated.{generated_name}
-use Rattle.sx_expand_laws.specs.Indices.{there, bound_index}
 use Rattle.sx_expand_laws.specs.Variables.{HasIndices}
 use Rattle.sx_expand_laws.proofs.Fresh.{each-at, each-of, each-append}
 use Rattle.sx_library.specs.Loaded.{all_records}
@@ -43,7 +42,7 @@ use Rattle.sx_text_laws.proofs.Closed.{text-known}
 use Rattle.sx_text_laws.proofs.Names.{same-record}
 use Rattle.sx_text_laws.proofs.Words.{among-map, among-flat, flat-among}
 use Rattle.sx_run_laws.specs.Names.{names_for, NamesClosed, IsWrittenName, IsWrittenOnce}
-use Rattle.sx_run_laws.specs.Written.{IsCounted, RunsAreWrittenOnce}
+use Rattle.sx_run_laws.specs.Written.{RunsAreWrittenOnce}
 use Rattle.sx_run_laws.proofs.DerivedLines.{derived-bare}
 use Rattle.sx_run_laws.proofs.Lists.{once-map, map-once, found-among}
 use Rattle.sx_run_laws.proofs.NameText.{names_tell, name_written}
@@ -130,7 +129,7 @@ indexed-in r l h = by (lookup (same_label l) r.bindings) refl h
     by (Some (binding.Primitive o)) e k = elim k [ ]
 
 module _ (records : List LibRecord) (program : LibRecord) (standing : AreStanding records program) (once : IsClosedOnce (text_of records program)) (sound : Each IsSound (records ++ program ∷ []))
-    (checked : Each HasText (text_of records program)) (counted : Each IsCounted (text_of records program)) where
+    (checked : Each HasText (text_of records program)) where
   abbrev T : List LibRecord
   T = text_of records program
 
@@ -151,7 +150,6 @@ module _ (records : List LibRecord) (program : LibRecord) (standing : AreStandin
     pub indexed : IsIndexedIn holder l
     pub own : l.0.library ≡ holder.name
     pub named : IsNamed l.0.library
-    pub small : indexed.number < 2 ^ 64
     pub name : name_of names l ≡ generated_name l.0.library indexed.variable.symbol indexed.number
 
   binder : (l : Label) → Among (flat_map run_binders T) l → IsBinder l
@@ -159,11 +157,9 @@ module _ (records : List LibRecord) (program : LibRecord) (standing : AreStandin
       let found = flat-among run_binders T l a in
       let r = found.0 in
       let s = text-sound r found.1 in
-      let c = each-at IsCounted T r counted found.1 in
       let v = lines-plain r.run (each-at HasText T r checked found.1) l found.2 in
       let i = indexed-in r l (each-at IsThere (indices r) (index_of r l) s.indices.indexed (among-map (index_of r) (run_variables r) l v)) in
       let own : l.0.library ≡ r.name = each-at (λ (m : Label). IsOwn r m.0) (bound_labels r) l s.own (among-map (λ (b : Label × Binding). b.0) r.bindings (l, binding.Variable i.variable) i.bound) in
-      let small : i.number < 2 ^ 64 = each-at (λ (n : ℕ). n < 2 ^ 64) (flat_map bound_index r.bindings) i.number c (among-flat bound_index r.bindings (l, binding.Variable i.variable) i.number i.bound (subst (λ (o : Option ℕ). Among (there o) i.number) (sym i.index) (inl refl))) in
       record {
         holder = r;
         there = found.1;
@@ -171,7 +167,6 @@ module _ (records : List LibRecord) (program : LibRecord) (standing : AreStandin
         indexed = i;
         own = own;
         named = subst IsNamed (sym own) (not-bare r s.named found.2);
-        small = small;
         name = ap (λ (o : Option (List ℕ)). unwrap_or o [])
             (ap (λ (ns : Names). lookup (same_label l) ns) (names-of-text records program)
             ∙ name-in T [] r l i.variable i.number names-once (each-of (λ q. Each (λ (m : Label). IsOwn q m.0) (bound_labels q)) T (λ q b. (text-sound q b).own)) (each-of (λ q. Once (bound_labels q)) T (λ q b. (text-sound q b).indices.bindings_once)) found.1 i.bound i.index);
@@ -185,7 +180,7 @@ module _ (records : List LibRecord) (program : LibRecord) (standing : AreStandin
   same-name l m a b e =
       let x = binder l a in
       let y = binder m b in
-      let told = names_tell l.0.library m.0.library x.indexed.variable.symbol y.indexed.variable.symbol x.indexed.number y.indexed.number x.named y.named x.small y.small (sym x.name ∙ e ∙ y.name) in
+      let told = names_tell l.0.library m.0.library x.indexed.variable.symbol y.indexed.variable.symbol x.indexed.number y.indexed.number x.named y.named (sym x.name ∙ e ∙ y.name) in
       let one : x.holder ≡ y.holder = same-record T names-once x.holder y.holder x.there y.there (sym x.own ∙ told.0 ∙ y.own) in
       let among : Among (run_variables x.holder) m = subst (λ (r : LibRecord). Among (run_variables r) m) (sym one) y.variables in
       let index : index_of x.holder m ≡ Some y.indexed.number = subst (λ (r : LibRecord). index_of r m ≡ Some y.indexed.number) (sym one) y.indexed.told in
@@ -194,7 +189,7 @@ module _ (records : List LibRecord) (program : LibRecord) (standing : AreStandin
   pub text-written : IsWrittenOnce names T
   text-written = record {
     named = each-mapped IsWrittenName (name_of names) (flat_map run_binders T)
-        (each-of (λ l. IsWrittenName (name_of names l)) (flat_map run_binders T) (λ l a. let x = binder l a in subst IsWrittenName (sym x.name) (name_written l.0.library x.indexed.variable.symbol x.indexed.number x.named x.small)));
+        (each-of (λ l. IsWrittenName (name_of names l)) (flat_map run_binders T) (λ l a. let x = binder l a in subst IsWrittenName (sym x.name) (name_written l.0.library x.indexed.variable.symbol x.indexed.number x.named)));
     closed = each-of (λ r. Each (λ x. NamesClosed names (names_for names (flat_map defined T)) (line_core x)) r.run) T
         (λ r a. lines-closed names (flat_map defined T) r.run (each-at HasText T r checked a) (each-at (LinesClosed (flat_map defined T)) T r once.closed a));
     bound_once = once-map (name_of names) (flat_map run_binders T) once.bound_once same-name;
@@ -209,7 +204,7 @@ first-bare prelude found s records program e h =
     subst (λ (r : LibRecord). r.run ≡ []) is (derived-bare made.derived prelude made.made)
 
 pub runs-written : RunsAreWrittenOnce
-runs-written prelude files roots path found s records program text run e counted =
+runs-written prelude files roots path found s records program text run e =
     let stand = all_records_stand prelude files roots path found s records program run in
     text-written records program (all_standing found s records program stand) (runs_are_closed_once prelude files roots path found s records program run)
-    (all-sound found s records program (user_at files roots path found s run.loaded) stand (first-bare prelude found s records program run.recorded stand)) (text-checked records program text e) counted
+    (all-sound found s records program (user_at files roots path found s run.loaded) stand (first-bare prelude found s records program run.recorded stand)) (text-checked records program text e)
