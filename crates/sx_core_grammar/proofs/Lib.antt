@@ -4,7 +4,7 @@ mod Texts
 mod Spellings
 mod Codes
 mod Readable
-mod Whole
-mod Bound
+pub mod Whole
+pub mod Bound
 mod Examples
 mod Given

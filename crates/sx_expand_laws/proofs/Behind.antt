@@ -17,7 +17,7 @@ use Rattle.sx_tree.specs.Tree.{Tree}
 use Rattle.sx_tree.specs.declared.frame_row.FrameRow.{FrameRow}
 use Rattle.sx_frames.specs.Listed.{row_from, rows_from, rows_in}
 use Rattle.sx_frames.specs.Rows.{Row}
-use Rattle.sx_frames.specs.Scope.{Scope, rows_at, same_frame, row_in, adopted}
+use Rattle.sx_frames.specs.Scope.{Scope, rows_at, same_frame, row_in}
 use Rattle.sx_frames.proofs.FrameLaws.{rows_at-adopted}
 use Rattle.sx_frames.proofs.ListedLaws.{filter-rows_in}
 use Rattle.sx_frames.proofs.MemoLemmas.{same_frame_is}
@@ -27,7 +27,7 @@ use Rattle.sx_core.specs.Core.{PlainCore}
 use Rattle.sx_core.specs.declared.binding.Binding.{Binding}
 use Rattle.sx_core.specs.declared.record.LibRecord.{LibRecord}
 use Rattle.sx_core.specs.declared.record.Line.{Line}
-use Rattle.sx_core_laws.specs.Follows.{names_of, export_names, export_labels, bound_labels, Key, key_of, line_cores, keywords, IsGiven, IsKnown, Suits, Follows}
+use Rattle.sx_core_laws.specs.Follows.{names_of, export_names, bound_labels, Key, key_of, line_cores, keywords, IsGiven, IsKnown, Suits, Follows}
 use Rattle.sx_core_laws.specs.Following.{AllFollow}
 use Rattle.sx_core_laws.specs.Records.{defined, line_core, run_binders}
 use Rattle.sx_core_laws.specs.Scope.{Closed}

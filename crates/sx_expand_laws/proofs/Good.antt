@@ -28,6 +28,7 @@ use Rattle.sx_core_laws.specs.Parts.{parts, all_parts, init_parts, case_parts, c
 use Rattle.sx_core_laws.specs.Scope.{Closed, AllClosed, InitsClosed, CasesClosed, ClausesClosed, template_labels}
 use Rattle.sx_core_laws.specs.Templates.{Depths, Suits, TemplatesSuit, AllSuit, InitsSuit, CasesSuit, ClausesSuit, depths}
 use Rattle.sx_core_laws.specs.WellMade.{IsLeaf}
+use Rattle.sx_expand_laws.specs.States.{IsPrimitive}
 use Rattle.sx_expand_laws.proofs.Fresh.{Made, FreshLabels, FreshCodes, label_name, code_name, Apart, each-append, each-map, each-at, among-parts, once-append, fresh-none, fresh-one, fresh-wider, fresh-append}
 
 -- one thing behind another, each made from where the one before it ended
@@ -57,7 +58,7 @@ pub record PatternFits (bs : Bindings) (p : PlainPattern) : Type 0 where
 abbrev pub IsBasic : Bindings → PlainCore → Type 0
 IsBasic bs (quoted d) = Unit {0}
 IsBasic bs (variable l) = IsVariableIn bs l
-IsBasic bs (primitive o) = o.0 < 301
+IsBasic bs (primitive o) = IsPrimitive o
 IsBasic bs (one_armed c d) = Unit {0}
 IsBasic bs (two_armed c d e) = Unit {0}
 IsBasic bs (assignment l c) = IsVariableIn bs l
@@ -128,7 +129,7 @@ module _ (own : LibName) (bs : Bindings) where
     pub good-variable : (a b : ℕ) (l : Label) → a ≤ b → IsVariableIn bs l → Among ls l → Good own bs vs ls a b (variable l)
     good-variable a b l le at h = record { closed = h; suits = tt; binders = no-labels a b; inner = inner-round a b (variable l) [] refl at (inner-none a b le) }
 
-    pub good-primitive : (a b : ℕ) (o : Op) → a ≤ b → o.0 < 301 → Good own bs vs ls a b (primitive o)
+    pub good-primitive : (a b : ℕ) (o : Op) → a ≤ b → IsPrimitive o → Good own bs vs ls a b (primitive o)
     good-primitive a b o le h = record { closed = tt; suits = tt; binders = no-labels a b; inner = inner-round a b (primitive o) [] refl h (inner-none a b le) }
 
     pub good-one_armed : (a m b : ℕ) (c d : PlainCore) → Good own bs vs ls a m c → Good own bs vs ls m b d → Good own bs vs ls a b (one_armed c d)

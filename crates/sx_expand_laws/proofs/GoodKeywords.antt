@@ -1,10 +1,11 @@
 -- The keywords of every record that expansion gives are good.
-use Rattle.std.proofs.Common.{◌≡◌, ℕ, zero, suc, ◌≤◌, ◌<◌, List, [], ◌∷◌, ◌++◌, map, Option, None, Some, Result, Ok, Err, refl, sym, ◌∙◌, ap, subst, arith, inl, inr}
+use Rattle.std.proofs.Common.{◌≡◌, ℕ, zero, suc, ◌≤◌, ◌<◌, false, List, [], ◌∷◌, ◌++◌, map, Option, None, Some, Result, Ok, Err, refl, sym, ◌∙◌, ap, subst, arith, inl, inr}
 use Rattle.std.specs.Prelude.{◌⊎◌}
 use Rattle.std.specs.List.{flat_map}
 use Rattle.std.proofs.lemmas.Grind.{flat_map-append}
 use Rattle.sx_base.specs.Act.{after}
 use Rattle.sx_base.specs.Named.{Named}
+use Rattle.sx_base.specs.Op.{is_keyword}
 use Rattle.sx_base.specs.declared.fault.Fault.{Fault}
 use Rattle.sx_base.specs.declared.library.LibName.{LibName}
 use Rattle.sx_base.specs.declared.name.CodeNo.{CodeNo}
@@ -21,7 +22,7 @@ use Rattle.sx_core.specs.declared.record.LibRecord.{LibRecord}
 use Rattle.sx_core.specs.declared.record.Line.{Line}
 use Rattle.sx_core.specs.declared.record.Line.TheVariants as line
 use Rattle.sx_core_laws.specs.Follows.{IsRecorded, keyword_of, keywords, line_cores}
-use Rattle.sx_core_laws.specs.Parts.{parts, own_number, code_numbers}
+use Rattle.sx_core_laws.specs.Parts.{parts, ops, own_number, code_numbers}
 use Rattle.sx_core_laws.specs.Records.{defined, line_core, line_labels, line_binders, run_binders}
 use Rattle.sx_core_laws.specs.Scope.{Closed}
 use Rattle.sx_core_laws.specs.WellMade.{IsWellMade}
@@ -275,6 +276,7 @@ keywords-good own path records imports version place exports forms codes r h e =
     record {
       kinds = all-recorded own records imports codes r h runs;
       well_made = subst (Each (IsWellMade [])) is (each (IsWellMade []) (λ c x. x.well_made));
+      primitives = each-flat (λ o. is_keyword o ≡ false) ops (keywords r) (subst (Each (λ (c : PlainCore). Each (λ o. is_keyword o ≡ false) (ops c))) is (each (λ (c : PlainCore). Each (λ o. is_keyword o ≡ false) (ops c)) (λ c x. x.primitives)));
       closed = subst (Each (Closed given)) is (each (Closed given) (λ c x. x.closed));
       bound_once = once-append (run_binders r) (flat_map binders (keywords r)) good.0.bound_once (subst (λ (cs : List PlainCore). Once (flat_map binders cs)) is labels)
           (λ m a b. label-apart given v ends is m a b);

@@ -19,7 +19,7 @@ use Rattle.sx_core_laws.specs.Words.{Each, Among}
 use Rattle.sx_stage.specs.Stage.{expression_in, keyword_at}
 use Rattle.sx_standing.specs.InScope.{cut}
 use Rattle.sx_standing.specs.State.{State}
-use Rattle.sx_expand_laws.specs.States.{IsOwn, IsForeign, Sound, IsOld, IsAdded, IsBound, IsTop, IsKept, IsMacro, Keeps, Grows, Adds, Later, LaterBut}
+use Rattle.sx_expand_laws.specs.States.{IsOwn, IsForeign, Sound, IsOld, IsAdded, IsPrimitive, IsBound, IsTop, IsKept, IsMacro, Keeps, Grows, Adds, Later, LaterBut}
 use Rattle.sx_expand_laws.proofs.Grows.{grows-same, grows-self, grows-then}
 use Rattle.sx_expand_laws.proofs.Scope.{adds-later}
 
@@ -145,7 +145,7 @@ module _ (own : LibName) where
       defined l v foreign top (inl b) = h.defined l v foreign b top
       defined l v foreign top (inr p) = absurd (foreign p.0)
 
-      primitives : (l : Label) (o : Op) → (bound_to s.bindings l ≡ Some (binding.Primitive o)) ⊎ (IsOwn own l.0 × IsAdded (binding.Primitive o)) → o.0 < 301
+      primitives : (l : Label) (o : Op) → (bound_to s.bindings l ≡ Some (binding.Primitive o)) ⊎ (IsOwn own l.0 × IsAdded (binding.Primitive o)) → IsPrimitive o
       primitives l o (inl b) = h.primitives l o b
       primitives l o (inr p) = elim p.1 [ ]
 

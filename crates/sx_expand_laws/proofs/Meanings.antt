@@ -32,7 +32,7 @@ use Rattle.sx_standing.specs.declared.standing.Standing.TheVariants as standing
 use Rattle.sx_heads.specs.Plan.{done, reference, assign, plan_of}
 use Rattle.sx_heads.specs.declared.plan.Plan.{Plan}
 use Rattle.sx_heads.specs.declared.plan.Plan.TheVariants as plans
-use Rattle.sx_expand_laws.specs.States.{Adds, Grows, IsOwn, IsTop, IsPattern, Later, Reach, Sound}
+use Rattle.sx_expand_laws.specs.States.{Adds, Grows, IsOwn, IsPrimitive, IsTop, IsPattern, Later, Reach, Sound}
 use Rattle.sx_expand_laws.proofs.Acts.{Gave, gave-after, gave-less}
 use Rattle.sx_expand_laws.proofs.Fresh.{each-append, each-at, each-map, among-first, among-second}
 use Rattle.sx_expand_laws.proofs.Good.{Bindings, IsVariableIn, Good, good-quoted, good-variable, good-primitive, good-instance}
@@ -46,7 +46,7 @@ abbrev Fits : ℕ → List Label → State → Standing → Type 0
 Fits level ls s standing.Nothing = Unit {0}
 Fits level ls s (standing.Variable v) = (MayRefer level s v → Among ls v.label) × IsVariableIn s.bindings v.label
 Fits level ls s standing.PatternVariable = Unit {0}
-Fits level ls s (standing.Primitive op) = op.0 < 301
+Fits level ls s (standing.Primitive op) = IsPrimitive op
 Fits level ls s (standing.Core f) = Unit {0}
 Fits level ls s (standing.Keyword l) = Unit {0}
 
@@ -92,13 +92,13 @@ module _ (own : LibName) (given : List Label) (vs : Depths) (level : ℕ) (ls : 
   numbered-fits : (l : Label) → Fits level ls s (numbered_as l)
   numbered-fits l = by (nat_lt l.0.number 301) refl
     where
-      by_keyword : l.0.number < 301 → (b : Bool) → Fits level ls s (if b then standing.Nothing else standing.Primitive (record { 0 = l.0.number }))
-      by_keyword lt true = tt
-      by_keyword lt false = lt
+      by_keyword : l.0.number < 301 → (b : Bool) → is_keyword l.0.number ≡ b → Fits level ls s (if b then standing.Nothing else standing.Primitive (record { 0 = l.0.number }))
+      by_keyword lt true e = tt
+      by_keyword lt false e = (lt, e)
 
       by_form : l.0.number < 301 → (o : Option CoreForm) → Fits level ls s (given_as l o)
       by_form lt (Some f) = tt
-      by_form lt None = by_keyword lt (is_keyword l.0.number)
+      by_form lt None = by_keyword lt (is_keyword l.0.number) refl
 
       by : (b : Bool) → nat_lt l.0.number 301 ≡ b → Fits level ls s (if b then given_as l (at_number l.0.number) else standing.Nothing)
       by true e = by_form (below l.0.number 301 e) (at_number l.0.number)

@@ -9,7 +9,7 @@ use Rattle.sx_base.specs.declared.name.Label.{Label}
 use Rattle.sx_base.specs.declared.span.Span.{Span}
 use Rattle.sx_core.specs.Bindings.{bound_to}
 use Rattle.sx_core.specs.Core.{PlainCore, quoted, variable, primitive, one_armed, two_armed, assignment, sequence, procedure, letrec, call, instance, matching}
-use Rattle.sx_core.specs.Core.{init, case, clause, cores}
+use Rattle.sx_core.specs.Core.{cores}
 use Rattle.sx_core.specs.CoreView.{inits, cases, clause_on, clauses}
 use Rattle.sx_core.specs.Height.{height, highest, highest_init, highest_case, highest_clause}
 use Rattle.sx_core.specs.References.{formals_labels}

@@ -1,5 +1,5 @@
 -- Bodies nest as deep as they may, given that forms do inside.
-use Rattle.std.proofs.Common.{◌≡◌, ℕ, ◌+◌, ◌*◌, ◌≤◌, true, false, List, [], ◌∷◌, ◌++◌, map, Option, None, Some, refl, sym, ◌∙◌, subst, arith}
+use Rattle.std.proofs.Common.{◌≡◌, ℕ, ◌+◌, ◌≤◌, true, false, List, [], ◌∷◌, map, Option, None, Some, refl, sym, subst, arith}
 use Rattle.sx_base.specs.Act.{after, give}
 use Rattle.sx_base.specs.Datum as datum
 use Rattle.sx_base.specs.declared.atom.Atom.TheVariants as atoms

@@ -1,5 +1,5 @@
 -- Forms nest as deep as they may, however deep they may nest inside.
-use Rattle.std.proofs.Common.{◌≡◌, ℕ, zero, suc, ◌+◌, ◌*◌, ◌≤◌, Bool, true, false, List, [], ◌∷◌, ◌++◌, map, Option, None, Some, Result, refl, sym, subst, arith}
+use Rattle.std.proofs.Common.{◌≡◌, ℕ, zero, suc, ◌≤◌, Bool, true, false, List, [], ◌∷◌, map, Option, None, Some, Result, refl, sym, subst, arith}
 use Rattle.std.specs.Prelude.{nat_lt, nat_eq}
 use Rattle.sx_base.specs.Act.{after, give}
 use Rattle.sx_base.specs.declared.fault.Fault.{Fault}

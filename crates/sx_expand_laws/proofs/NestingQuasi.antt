@@ -1,5 +1,5 @@
 -- `quasiquote` and `quasisyntax` forms nest as deep as they may: the forms that they make count in the depth.
-use Rattle.std.proofs.Common.{◌≡◌, ℕ, ◌+◌, ◌*◌, ◌≤◌, Bool, true, false, List, [], ◌∷◌, ◌++◌, map, refl, sym, ◌∙◌, ap, subst, arith, append-nil, append_assoc, if◌then◌else◌}
+use Rattle.std.proofs.Common.{◌≡◌, ℕ, ◌+◌, ◌≤◌, Bool, true, false, List, [], ◌∷◌, ◌++◌, map, refl, sym, ◌∙◌, ap, subst, arith, append-nil, append_assoc, if◌then◌else◌}
 use Rattle.std.specs.Prelude.{nat_lt}
 use Rattle.sx_base.specs.Act.{after, give}
 use Rattle.sx_base.specs.declared.library.LibName.{LibName}
@@ -9,7 +9,6 @@ use Rattle.sx_tree.specs.Changes.{stamp}
 use Rattle.sx_tree.specs.Leaves.{strip}
 use Rattle.sx_tree.specs.Tree.{Tree}
 use Rattle.sx_core.specs.Core.{PlainCore, primitive, instance}
-use Rattle.sx_core.specs.Height.{height}
 use Rattle.sx_core.specs.Template.{PlainTemplate}
 use Rattle.sx_core_laws.specs.Words.{Each}
 use Rattle.sx_pattern.specs.declared.compile.PatternVariable.{PatternVariable}

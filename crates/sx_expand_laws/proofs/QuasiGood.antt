@@ -1,5 +1,5 @@
 -- `quasiquote` and `quasisyntax` forms give good core code, given that expansion does inside forms.
-use Rattle.std.proofs.Common.{◌≡◌, ℕ, ◌+◌, ◌≤◌, ◌<◌, List, [], ◌∷◌, ◌++◌, map, None, sym, subst, arith}
+use Rattle.std.proofs.Common.{◌≡◌, ℕ, ◌≤◌, List, [], ◌∷◌, ◌++◌, map, None, refl, sym, subst, arith}
 use Rattle.sx_base.specs.Act.{after, give}
 use Rattle.sx_base.specs.declared.library.LibName.{LibName}
 use Rattle.sx_base.specs.declared.name.Label.{Label}
@@ -34,7 +34,7 @@ use Rattle.sx_standing.specs.Patterns.{template_of}
 use Rattle.sx_standing.specs.State.{State, fresh_frame}
 use Rattle.sx_expand.specs.Inside.{Inside}
 use Rattle.sx_expand.specs.Quasi.{part_core, parts_in_order, quasi_made, quasi_form}
-use Rattle.sx_expand_laws.specs.States.{IsPattern, Later}
+use Rattle.sx_expand_laws.specs.States.{IsPattern, IsPrimitive, Later}
 use Rattle.sx_expand_laws.proofs.Acts.{Gave, gave-after, gave-within, gave-each}
 use Rattle.sx_expand_laws.proofs.Bodies.{starts-with}
 use Rattle.sx_expand_laws.proofs.Compiled.{variable_label, variable_depth}
@@ -49,11 +49,11 @@ use Rattle.sx_expand_laws.proofs.Naming.{as_frame, counted, counted-later}
 use Rattle.sx_expand_laws.proofs.Plans.{IsTemplate, template-is}
 use Rattle.sx_expand_laws.proofs.QuasiLater.{form-same}
 
-maker-below : (m : Maker) → (op_of m).0 < 301
-maker-below maker.List = omega arith
-maker-below maker.ConsStar = omega arith
-maker-below maker.Append = omega arith
-maker-below maker.ListToVector = omega arith
+maker-primitive : (m : Maker) → IsPrimitive (op_of m)
+maker-primitive maker.List = (omega arith, refl)
+maker-primitive maker.ConsStar = (omega arith, refl)
+maker-primitive maker.Append = (omega arith, refl)
+maker-primitive maker.ListToVector = (omega arith, refl)
 
 -- Plans.
 
@@ -77,8 +77,8 @@ module _ (own : LibName) (bs : Bindings) (vs : Depths) (ls : List Label) where
   next-good t a b [] h = (b, (good-quoted own bs vs ls a b (strip t) h, omega arith))
   next-good t a b (c ∷ cs) h = h
 
-  call-good : (o : Op) (a b : ℕ) (cs : List PlainCore) → o.0 < 301 → Turn a b cs → Good own bs vs ls a b (call_of o cs)
-  call-good o a b cs lt h = good-call own bs vs ls a a b (primitive o) cs (good-primitive own bs vs ls a a o (omega arith) lt) h
+  call-good : (o : Op) (a b : ℕ) (cs : List PlainCore) → IsPrimitive o → Turn a b cs → Good own bs vs ls a b (call_of o cs)
+  call-good o a b cs k h = good-call own bs vs ls a a b (primitive o) cs (good-primitive own bs vs ls a a o (omega arith) k) h
 
   mutual
     filled-good : (q : PlainQuasi) (a b : ℕ) (cs : List PlainCore) → Turn a b cs → Filled a b (filled q cs)
@@ -86,7 +86,7 @@ module _ (own : LibName) (bs : Bindings) (vs : Depths) (ls : List Label) where
     filled-good (expression t) a b cs h = next-good t a b cs h
     filled-good (quasi.call m qs) a b cs h =
         let k = all-good qs [] a a b cs (omega arith) h in
-        (k.0, (call-good (op_of m) a k.0 (all_filled [] qs cs).0 (maker-below m) k.1.0, k.1.1))
+        (k.0, (call-good (op_of m) a k.0 (all_filled [] qs cs).0 (maker-primitive m) k.1.0, k.1.1))
 
     all-good : (qs : PlainQuasis) (done : List PlainCore) (a n b : ℕ) (cs : List PlainCore) → Turn a n done → Turn n b cs → (m : ℕ) × (Turn a m (all_filled done qs cs).0 × Turn m b (all_filled done qs cs).1)
     all-good none done a n b cs d h = (n, (d, h))
@@ -125,7 +125,7 @@ match-good own bs vs ls a m b ws x span cs le h made bound output =
     (record { leaves = subst (Each IsLeaf) (sym (inserts-literals ws)) tt; bound = subst (Each (IsPatternIn bs)) labels bound })
     (omega arith)
     (subst (λ es. Good own bs (es ++ vs) (variables p ++ ls) b b (instance x span)) ds (subst (λ ns. Good own bs (map variable_depth ws ++ vs) (ns ++ ls) b b (instance x span)) labels output)) in
-    good-matching own bs vs ls a m b (call_of list_op cs) (clause_on p None (instance x span) no_clause) span (call-good own bs vs ls list_op a m cs (omega arith) h) clause
+    good-matching own bs vs ls a m b (call_of list_op cs) (clause_on p None (instance x span) no_clause) span (call-good own bs vs ls list_op a m cs (omega arith, refl) h) clause
 
 module _ (own : LibName) (given : List Label) (place : Span) (level : ℕ) (t : Tree) (vs : Depths) (ls : List Label) where
   abbrev S : State → Type 0

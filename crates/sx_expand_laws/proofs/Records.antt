@@ -46,7 +46,7 @@ use Rattle.sx_expand_laws.proofs.Grows.{grows-same, grows-then}
 use Rattle.sx_expand_laws.proofs.Shown.{IsShown, shown-later}
 use Rattle.sx_expand_laws.proofs.Later.{keeps-same, keeps-then, sound-grown}
 use Rattle.sx_expand_laws.proofs.Scope.{adds-then, adds-same}
-use Rattle.sx_expand_laws.proofs.Top.{GoodRun, SameScope, AreShown, kinds-defined, lines-closed, lines-well-made, lines-codes, run-binders, same-exports}
+use Rattle.sx_expand_laws.proofs.Top.{GoodRun, SameScope, AreShown, kinds-defined, lines-closed, lines-well-made, lines-primitives, lines-codes, run-binders, same-exports}
 use Rattle.sx_expand_laws.proofs.Good.{InTurn}
 use Rattle.sx_expand_laws.proofs.LineLabels.{kind_labels}
 use Rattle.sx_expand_laws.proofs.Lines.{GoodLine}
@@ -243,6 +243,7 @@ records-good own path records imports version place exports forms codes r h e =
         numbered_once = numbers.once;
         numbered_here = each-map (λ n. Made own runs.middle runs.last n.0) (λ n. n.0.library ≡ r.name) (flat_map code_numbers (line_cores r)) numbers.made (λ n k. k.library ∙ sym runs.name);
         well_made = lines-well-made own runs.ended.bindings ls runs.middle runs.last r.run runs.run.lines;
+        primitives = lines-primitives own runs.ended.bindings ls runs.middle runs.last r.run runs.run.lines;
         references = runs.references;
       },
       runs.name,

@@ -41,7 +41,7 @@ use Rattle.sx_expand_laws.proofs.LineLabels.{kind_labels}
 use Rattle.sx_expand_laws.proofs.Naming.{as_frame, as_label, counted}
 use Rattle.sx_expand_laws.proofs.Nesting.{Within}
 use Rattle.sx_expand_laws.proofs.Uses.{later-apart, finish-later}
-use Rattle.sx_expand_laws.proofs.WellMade.{good-well-made}
+use Rattle.sx_expand_laws.proofs.WellMade.{good-well-made, good-primitives}
 use Rattle.sx_expand_laws.proofs.Spent.{Known, Has, as_code, IsSpent, Tracks, AreUnspent, AwayCore, away-append, away-round, away-later, AwayCase, all-away, away-has, GoodExpression, KeptGood, kept-less, Begins, Onward}
 use Rattle.sx_expand_laws.proofs.SpentOnStage.{Tells, TellsBut, finish-told}
 use Rattle.sx_expand_laws.proofs.SpentBinding.{keywords-told, begins-later, onward-self, onward-then, onward-but, onward-counted, onward-cut}
@@ -192,6 +192,7 @@ module _ (own : LibName) (given : List Label) where
         new-good = record {
           closed = x.1.1.closed;
           well_made = good-well-made own w.bindings [] given s.names.number w.names.number c tt x.1.1;
+          primitives = good-primitives own w.bindings [] given s.names.number w.names.number c x.1.1;
           here = λ n y. (has-made w s.names.number w.names.number c n x.1.1 y).library;
           low = x.1.0.1;
         }

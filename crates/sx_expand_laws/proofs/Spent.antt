@@ -1,8 +1,9 @@
 -- Names of the expressions of keywords that are kept, and core code that has none of them.
-use Rattle.std.proofs.Common.{◌≡◌, ◌≤◌, ◌<◌, List, [], ◌∷◌, ◌++◌, Option, None, Some, refl, sym, subst, arith, inl, inr, append_assoc}
+use Rattle.std.proofs.Common.{◌≡◌, ◌≤◌, ◌<◌, false, List, [], ◌∷◌, ◌++◌, Option, None, Some, refl, sym, subst, arith, inl, inr, append_assoc}
 use Rattle.std.specs.Prelude.{◌⊎◌}
 use Rattle.std.specs.List.{flat_map}
 use Rattle.sx_base.specs.Named.{Named}
+use Rattle.sx_base.specs.Op.{is_keyword}
 use Rattle.sx_base.specs.declared.library.LibName.{LibName}
 use Rattle.sx_base.specs.declared.name.CodeNo.{CodeNo}
 use Rattle.sx_base.specs.declared.name.Label.{Label}
@@ -13,7 +14,7 @@ use Rattle.sx_core.specs.declared.binding.VarInfo.{VarInfo}
 use Rattle.sx_core.specs.declared.code.Clause.{Clause}
 use Rattle.sx_core.specs.declared.code.Init.{Init}
 use Rattle.sx_core.specs.declared.code.Lambda.{Lambda}
-use Rattle.sx_core_laws.specs.Parts.{parts, all_parts, init_parts, case_parts, clause_parts, own_number, code_numbers}
+use Rattle.sx_core_laws.specs.Parts.{parts, all_parts, init_parts, case_parts, clause_parts, ops, own_number, code_numbers}
 use Rattle.sx_core_laws.specs.Scope.{Closed}
 use Rattle.sx_core_laws.specs.WellMade.{IsWellMade}
 use Rattle.sx_core_laws.specs.Words.{Each, Among}
@@ -177,6 +178,7 @@ module _ (own : LibName) where
     pub record GoodExpression (c : PlainCore) : Type 0 where
       pub closed : Closed given c
       pub well_made : IsWellMade [] c
+      pub primitives : Each (λ o. is_keyword o ≡ false) (ops c)
       pub here : (n : Named) → Has c n → IsOwn own n
       pub low : IsShallow c
 

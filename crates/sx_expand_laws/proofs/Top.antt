@@ -1,8 +1,9 @@
 -- The record of a library or program.
-use Rattle.std.proofs.Common.{◌≡◌, ℕ, ◌≤◌, List, [], ◌∷◌, map, Option, None, Some, refl, ◌∙◌, ap, subst, arith, inl, inr}
+use Rattle.std.proofs.Common.{◌≡◌, ℕ, ◌≤◌, false, List, [], ◌∷◌, map, Option, None, Some, refl, ◌∙◌, ap, subst, arith, inl, inr}
 use Rattle.std.specs.Prelude.{◌⊎◌}
 use Rattle.std.specs.List.{flat_map}
 use Rattle.sx_base.specs.Act.{after, give}
+use Rattle.sx_base.specs.Op.{is_keyword}
 use Rattle.sx_base.specs.declared.library.LibName.{LibName}
 use Rattle.sx_base.specs.declared.name.Label.{Label}
 use Rattle.sx_tree.specs.Changes.{stamp}
@@ -13,7 +14,7 @@ use Rattle.sx_core.specs.References.{binders}
 use Rattle.sx_core.specs.declared.record.Line.{Line}
 use Rattle.sx_core.specs.declared.record.Line.TheVariants as line
 use Rattle.sx_core_laws.specs.Words.{Each, Among, Once}
-use Rattle.sx_core_laws.specs.Parts.{code_numbers}
+use Rattle.sx_core_laws.specs.Parts.{ops, code_numbers}
 use Rattle.sx_core_laws.specs.WellMade.{IsWellMade}
 use Rattle.sx_core_laws.specs.Scope.{Closed}
 use Rattle.sx_core_laws.specs.Records.{line_core, line_labels, line_binders}
@@ -27,7 +28,7 @@ use Rattle.sx_expand_laws.proofs.Good.{Bindings, InTurn, IsFrom, Before}
 use Rattle.sx_expand_laws.proofs.LineLabels.{kind_labels}
 use Rattle.sx_expand_laws.proofs.Lines.{GoodLine, kinds}
 use Rattle.sx_expand_laws.proofs.Shown.{IsShown, leaf-shown}
-use Rattle.sx_expand_laws.proofs.WellMade.{good-well-made}
+use Rattle.sx_expand_laws.proofs.WellMade.{good-well-made, good-primitives}
 
 -- Lines, each of which was made behind the one before it and behind all variables that they define.
 
@@ -48,6 +49,11 @@ module _ (own : LibName) (bs : Bindings) (ls : List Label) where
   pub lines-well-made : (a b : ℕ) (xs : List Line) → InTurn (GoodLine own bs [] ls) a b xs → Each (IsWellMade []) (map line_core xs)
   lines-well-made a b [] h = tt
   lines-well-made a b (x ∷ xs) (m, (h, k)) = (good-well-made own bs [] ls a m (line_core x) tt h, lines-well-made m b xs k)
+
+  pub lines-primitives : (a b : ℕ) (xs : List Line) → InTurn (GoodLine own bs [] ls) a b xs → Each (λ o. is_keyword o ≡ false) (flat_map ops (map line_core xs))
+  lines-primitives a b [] h = tt
+  lines-primitives a b (x ∷ xs) (m, (h, k)) =
+      each-append (λ o. is_keyword o ≡ false) (ops (line_core x)) (flat_map ops (map line_core xs)) (good-primitives own bs [] ls a m (line_core x) h) (lines-primitives m b xs k)
 
   lines-up : (a b : ℕ) (xs : List Line) → InTurn (GoodLine own bs [] ls) a b xs → a ≤ b
   lines-up a b [] h = h

@@ -15,7 +15,7 @@ use Rattle.sx_core.specs.declared.binding.Binding.TheVariants as binding
 use Rattle.sx_core.specs.declared.binding.VarInfo.{VarInfo}
 use Rattle.sx_core.specs.declared.record.LibRecord.{LibRecord}
 use Rattle.sx_core.specs.declared.record.Line.{Line}
-use Rattle.sx_core_laws.specs.Follows.{IsThere, bound_labels, index_in, index_of, indices, line_variables, run_variables, top_label, tops}
+use Rattle.sx_core_laws.specs.Follows.{IsThere, bound_labels, index_in, index_of, line_variables, run_variables, top_label, tops}
 use Rattle.sx_core_laws.specs.Parts.{parts, own_variables, bound_variables}
 use Rattle.sx_core_laws.specs.Records.{defined, line_core, line_labels, line_binders, run_binders}
 use Rattle.sx_core_laws.specs.Words.{Each, Among, Once}

@@ -1,7 +1,8 @@
 -- Good core code is well made.
-use Rattle.std.proofs.Common.{ℕ, ◌<◌, true, false, List, [], ◌∷◌, ◌++◌, sym, ◌∙◌, inl, inr}
+use Rattle.std.proofs.Common.{◌≡◌, ℕ, ◌<◌, true, false, List, [], ◌∷◌, ◌++◌, sym, ◌∙◌, inl, inr}
 use Rattle.std.specs.Prelude.{◌⊎◌}
 use Rattle.std.specs.List.{flat_map}
+use Rattle.sx_base.specs.Op.{is_keyword}
 use Rattle.sx_base.specs.declared.library.LibName.{LibName}
 use Rattle.sx_base.specs.declared.name.Label.{Label}
 use Rattle.sx_core.specs.Core.{PlainCore, quoted, variable, primitive, one_armed, two_armed, assignment, sequence, procedure, letrec, call, instance, matching}
@@ -9,7 +10,7 @@ use Rattle.sx_core.specs.Core.{PlainCores, none, more, PlainInits, no_init, init
 use Rattle.sx_core.specs.Pattern.{PlainPattern}
 use Rattle.sx_core.specs.References.{mentions, all_mentions, init_mentions, case_mentions, clause_mentions, variables}
 use Rattle.sx_core_laws.specs.Words.{Each, Among}
-use Rattle.sx_core_laws.specs.Parts.{parts, all_parts, init_parts, case_parts, clause_parts, literals, own_op, own_patterns, patterns, pattern_variables}
+use Rattle.sx_core_laws.specs.Parts.{parts, all_parts, init_parts, case_parts, clause_parts, literals, ops, own_op, own_patterns, patterns, pattern_variables}
 use Rattle.sx_core_laws.specs.Templates.{Depths}
 use Rattle.sx_core_laws.specs.WellMade.{IsLeaf, HasForm, IsWellMade, given_labels}
 use Rattle.sx_expand_laws.proofs.Fresh.{each-append, each-map, each-at, among-parts}
@@ -36,7 +37,15 @@ module _ (bs : Bindings) where
   basic-ops (p ∷ ps) h = each-append (λ o. o < 301) (own_op p) (flat_map own_op ps) (one p h.0) (basic-ops ps h.1)
     where
       one : (c : PlainCore) → IsBasic bs c → Each (λ o. o < 301) (own_op c)
-      one (primitive o) k = (k, tt)
+      one (primitive o) k = (k.0, tt)
+      one _ k = tt
+
+  no-keyword : (ps : List PlainCore) → Each (IsBasic bs) ps → Each (λ o. is_keyword o ≡ false) (flat_map own_op ps)
+  no-keyword [] h = tt
+  no-keyword (p ∷ ps) h = each-append (λ o. is_keyword o ≡ false) (own_op p) (flat_map own_op ps) (one p h.0) (no-keyword ps h.1)
+    where
+      one : (c : PlainCore) → IsBasic bs c → Each (λ o. is_keyword o ≡ false) (own_op c)
+      one (primitive o) k = (k.1, tt)
       one _ k = tt
 
   basic-patterns : (ps : List PlainCore) → Each (IsBasic bs) ps → Each (PatternFits bs) (flat_map own_patterns ps)
@@ -111,6 +120,10 @@ module _ (bs : Bindings) where
   -- no label is bound both ways
   not-both : (l : Label) → IsVariableIn bs l → IsPatternIn bs l → ⊥
   not-both l (v, e) (level, (depth, d)) = let bad = sym e ∙ d in absurd (cc)
+
+-- no primitive in it is a keyword
+pub good-primitives : (own : LibName) (bs : Bindings) (vs : Depths) (ls : List Label) (a b : ℕ) (c : PlainCore) → Good own bs vs ls a b c → Each (λ o. is_keyword o ≡ false) (ops c)
+good-primitives own bs vs ls a b c h = no-keyword bs (parts c) h.inner.basic
 
 -- under pattern variables that are bound
 pub good-well-made : (own : LibName) (bs : Bindings) (vs : Depths) (ls : List Label) (a b : ℕ) (c : PlainCore) → Each (λ (v : Label × ℕ). IsPatternIn bs v.0) vs → Good own bs vs ls a b c → IsWellMade vs c

@@ -1,13 +1,14 @@
 -- Every record that expansion gives is closed, bound once and well made.
-use Rattle.std.specs.Prelude.{◌≡◌, ℕ, List, [], ◌++◌, Ok}
+use Rattle.std.specs.Prelude.{◌≡◌, ℕ, false, List, [], ◌++◌, Ok}
 use Rattle.std.specs.List.{flat_map}
+use Rattle.sx_base.specs.Op.{is_keyword}
 use Rattle.sx_base.specs.declared.library.LibName.{LibName}
 use Rattle.sx_base.specs.declared.name.Label.{Label}
 use Rattle.sx_base.specs.declared.span.Span.{Span}
 use Rattle.sx_tree.specs.Tree.{Tree}
 use Rattle.sx_core.specs.declared.record.LibRecord.{LibRecord}
 use Rattle.sx_core_laws.specs.Words.{Each, Once}
-use Rattle.sx_core_laws.specs.Parts.{code_numbers}
+use Rattle.sx_core_laws.specs.Parts.{ops, code_numbers}
 use Rattle.sx_core_laws.specs.WellMade.{IsWellMade}
 use Rattle.sx_core_laws.specs.Records.{defined, run_binders, LinesClosed}
 use Rattle.sx_core_laws.specs.Follows.{line_cores, IsOwn}
@@ -19,7 +20,8 @@ use Rattle.sx_expand_laws.specs.Ready.{IsReady}
 
 -- Behind some records: its lines are closed under the variables that these define and its own. No label has two binders in
 -- it, no two codes have one number, and no two variables one index, which ends their generated names. Binders and codes are
--- named by its library. Each line is well made. It refers to the other libraries whose variables its lines mention.
+-- named by its library. Each line is well made, and no primitive in it is a keyword. It refers to the other libraries whose variables
+-- its lines mention.
 pub record IsGood (records : List LibRecord) (r : LibRecord) : Type 0 where
   pub closed : LinesClosed (flat_map defined records ++ defined r) r
   pub bound_once : Once (run_binders r)
@@ -28,6 +30,7 @@ pub record IsGood (records : List LibRecord) (r : LibRecord) : Type 0 where
   pub numbered_once : Once (flat_map code_numbers (line_cores r))
   pub numbered_here : Each (λ n. IsOwn r n.0) (flat_map code_numbers (line_cores r))
   pub well_made : Each (IsWellMade []) (line_cores r)
+  pub primitives : Each (λ o. is_keyword o ≡ false) (flat_map ops (line_cores r))
   pub references : r.refs ≡ refs_of r.name r.run
 
 -- and it has the name of the library

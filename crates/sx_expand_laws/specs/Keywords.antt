@@ -1,12 +1,14 @@
 -- The keywords of every record that expansion gives.
-use Rattle.std.specs.Prelude.{◌≡◌, ℕ, List, [], Ok}
+use Rattle.std.specs.Prelude.{◌≡◌, ℕ, false, List, [], Ok}
 use Rattle.std.specs.List.{flat_map}
+use Rattle.sx_base.specs.Op.{is_keyword}
 use Rattle.sx_base.specs.declared.library.LibName.{LibName}
 use Rattle.sx_base.specs.declared.name.Label.{Label}
 use Rattle.sx_base.specs.declared.span.Span.{Span}
 use Rattle.sx_tree.specs.Tree.{Tree}
 use Rattle.sx_core.specs.declared.record.LibRecord.{LibRecord}
 use Rattle.sx_core_laws.specs.Words.{Each, Once}
+use Rattle.sx_core_laws.specs.Parts.{ops}
 use Rattle.sx_core_laws.specs.Scope.{Closed}
 use Rattle.sx_core_laws.specs.WellMade.{IsWellMade}
 use Rattle.sx_core_laws.specs.Records.{defined}
@@ -15,11 +17,12 @@ use Rattle.sx_eval.specs.Codes.{Codes}
 use Rattle.sx_expand.specs.Expanding.{ready, library_record}
 use Rattle.sx_expand_laws.specs.Ready.{IsReady}
 
--- Behind some records: each keyword has its expression, which is well made, and closed under the variables that these define. No label
--- has two binders in its lines and keywords, and no two codes have one number.
+-- Behind some records: each keyword has its expression, which is well made, names no keyword as a primitive, and is closed under the
+-- variables that these define. No label has two binders in its lines and keywords, and no two codes have one number.
 pub record HasGoodKeywords (records : List LibRecord) (r : LibRecord) : Type 0 where
   pub kinds : Each IsRecorded r.bindings
   pub well_made : Each (IsWellMade []) (keywords r)
+  pub primitives : Each (λ o. is_keyword o ≡ false) (flat_map ops (keywords r))
   pub closed : Each (Closed (flat_map defined records)) (keywords r)
   pub bound_once : Once (all_binders r)
   pub bound_here : Each (λ l. IsOwn r l.0) (all_binders r)

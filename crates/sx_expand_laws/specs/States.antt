@@ -1,7 +1,7 @@
 -- The states of an expansion, and how they change.
-use Rattle.std.specs.Prelude.{◌≡◌, ◌≤◌, ◌<◌, ◌⊎◌, ℕ, Bool, true, List, ◌++◌, map, Option, Some, None}
+use Rattle.std.specs.Prelude.{◌≡◌, ◌≤◌, ◌<◌, ◌⊎◌, ℕ, Bool, true, false, List, ◌++◌, map, Option, Some, None}
 use Rattle.sx_base.specs.Named.{Named}
-use Rattle.sx_base.specs.Op.{name_count}
+use Rattle.sx_base.specs.Op.{name_count, is_keyword}
 use Rattle.sx_base.specs.declared.library.LibName.{LibName}
 use Rattle.sx_base.specs.declared.name.FrameNo.{FrameNo}
 use Rattle.sx_base.specs.declared.name.Label.{Label}
@@ -55,13 +55,17 @@ IsMacro s l level e = bound_to s.bindings l ≡ Some (binding.Macro level e)
 abbrev pub IsNumbered : LibName → State → Type 0
 IsNumbered own s = (l : Label) (b : Binding) → IsOwn own l.0 → bound_to s.bindings l ≡ Some b → l.0.number < s.names.number
 
+-- one of the names that this implementation gives, and no keyword
+abbrev pub IsPrimitive : Op → Type 0
+IsPrimitive o = (o.0 < name_count) × (is_keyword o.0 ≡ false)
+
 -- Of a library with a name, behind records that define these variables.
 pub record Sound (own : LibName) (given : List Label) (s : State) : Type 0 where
   pub here : s.library ≡ own
   pub next : s.names.library ≡ own
   -- a variable of the top of another library is defined
   pub defined : (l : Label) (v : VarInfo) → IsForeign own l.0 → bound_to s.bindings l ≡ Some (binding.Variable v) → v.top ≡ true → Among given l
-  pub primitives : (l : Label) (o : Op) → bound_to s.bindings l ≡ Some (binding.Primitive o) → o.0 < name_count
+  pub primitives : (l : Label) (o : Op) → bound_to s.bindings l ≡ Some (binding.Primitive o) → IsPrimitive o
   -- what is in scope is bound
   pub in_scope : Each (IsBound s) s.scope
   pub numbered : IsNumbered own s

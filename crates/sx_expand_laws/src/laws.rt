@@ -10,13 +10,13 @@ ghost use Rattle.sx_expand_laws.specs.Variables.{VariablesHaveIndices};
 ghost use Rattle.sx_expand_laws.specs.Uses.{UsesAreReplaced, BodyUsesAreReplaced, RecordFormsAreReplaced, BodyRecordFormsAreReplaced};
 ghost use Rattle.sx_expand_laws.specs.Named.{ReferencesNameBinders, AssignmentsNameBinders, BindersAreFound, BindersStay};
 
-/// Every record that expansion gives is closed, bound once and well made.
+/// Every record that expansion gives is closed, bound once and well made, and no primitive in its lines is a keyword.
 pub fn records_are_good()
     ensures { RecordsAreGood }
 {}
 
-/// So are its keywords: each has its expression, which is well made and closed under what the records before it define, and no two of
-/// its lines and keywords bind one label or number two codes alike.
+/// So are its keywords: each has its expression, which is well made, has no keyword for a primitive, and is closed under what the
+/// records before it define, and no two of its lines and keywords bind one label or number two codes alike.
 pub fn keywords_are_good()
     ensures { KeywordsAreGood }
 {}

@@ -2,16 +2,19 @@
 use Rattle.std.proofs.Common.{◌≡◌, ℕ, zero, suc, List, Result, Ok, Err, refl, subst}
 use Rattle.sx_base.specs.declared.fault.Fault.{Fault}
 use Rattle.sx_base.specs.declared.library.LibName.{LibName}
+use Rattle.sx_base.specs.declared.library.LibName.TheVariants as library
 use Rattle.sx_base.specs.declared.name.FrameNo.{FrameNo}
 use Rattle.sx_base.specs.declared.name.Mark.{Mark}
 use Rattle.sx_tree.specs.Context.{LeafContext}
 use Rattle.sx_core.specs.declared.record.LibRecord.{LibRecord}
 use Rattle.sx_standing.specs.State.{State}
+use Rattle.sx_hygiene_laws.specs.Marked.{Among}
 use Rattle.sx_expand.specs.Body.{item}
 use Rattle.sx_expand.specs.Expression.{lambda_case, form_at, inside}
 use Rattle.sx_expand.specs.Inside.{Inside}
+use Rattle.sx_fresh_expansion_laws.specs.Events.{HasKnownEvents}
 use Rattle.sx_fresh_expansion_laws.specs.Keeping.{Keeps, around, MarksStayKnown, HistoriesStay}
-use Rattle.sx_fresh_expansion_laws.specs.Known.{IsKnown, IsKnownFrame, HasKnown}
+use Rattle.sx_fresh_expansion_laws.specs.Known.{IsKnown, IsKnownFrame, HasKnown, IsNewAmong}
 use Rattle.sx_fresh_expansion_laws.specs.History.{HasKnownHistory}
 use Rattle.sx_fresh_expansion_laws.specs.Living.{Lives}
 use Rattle.sx_fresh_expansion_laws.specs.States.{RecordsHold, StateHolds}
@@ -20,8 +23,9 @@ use Rattle.sx_fresh_expansion_laws.proofs.Forms as from_one
 use Rattle.sx_fresh_expansion_laws.proofs.Forms.{CaseAt, case-holds}
 use Rattle.sx_fresh_expansion_laws.proofs.Items.{TakenAt}
 use Rattle.sx_fresh_expansion_laws.proofs.Knowing.{lives-known, lives-on}
+use Rattle.sx_fresh_expansion_laws.proofs.Once.{lives-once}
 use Rattle.sx_fresh_expansion_laws.proofs.Settled.{form-at-holds, item-holds, inside-keeps}
-use Rattle.sx_fresh_expansion_laws.proofs.Stages.{records-wider}
+use Rattle.sx_fresh_expansion_laws.proofs.Runs.{records-wider}
 use Rattle.sx_fresh_expansion_laws.proofs.Standing.{F, C, Gave, state-self}
 
 module _ (own : LibName) (K : ℕ → Mark → Type 0) (J : ℕ → FrameNo → Type 0) (P : ℕ → LeafContext → Type 0) (lives : Lives own K J P) where
@@ -84,3 +88,11 @@ histories-stay = record {
   around_keeps = λ libs own go core keeps. around-keeps own (IsKnown libs own) (IsKnownFrame libs own) (HasKnownHistory libs own) (lives-on libs own core) go keeps;
   inside_keeps = λ libs own records room core. each-inside own (IsKnown libs own) (IsKnownFrame libs own) (HasKnownHistory libs own) (lives-on libs own core) records room;
 }
+
+pub around-once : (libs : List LibName) (own : LibName) (go : Inside) → Among libs library.Core → IsNewAmong libs own
+    → Keeps own (IsKnown libs own) (IsKnownFrame libs own) (HasKnownEvents libs own) go → Keeps own (IsKnown libs own) (IsKnownFrame libs own) (HasKnownEvents libs own) (around go)
+around-once libs own go core new keeps = around-keeps own (IsKnown libs own) (IsKnownFrame libs own) (HasKnownEvents libs own) (lives-once libs own new core) go keeps
+
+pub inside-once : (libs : List LibName) (own : LibName) (records : List LibRecord) (room : ℕ) → Among libs library.Core → IsNewAmong libs own
+    → Keeps own (IsKnown libs own) (IsKnownFrame libs own) (HasKnownEvents libs own) (inside records room)
+inside-once libs own records room core new = each-inside own (IsKnown libs own) (IsKnownFrame libs own) (HasKnownEvents libs own) (lives-once libs own new core) records room

@@ -1,23 +1,24 @@
 -- Trees that are entered, left and stamped, and rows of leaves.
-use Rattle.std.proofs.Common.{◌≤◌, ℕ, List, [], ◌∷◌, ◌++◌, map, Option, None, Some, Bool, true, false, Ok, Err, if◌then◌else◌}
+use Rattle.std.proofs.Common.{◌≡◌, ◌≤◌, ◌<◌, ℕ, List, [], ◌∷◌, ◌++◌, map, Option, None, Some, Bool, true, false, Ok, Err, refl, subst, ltb-true, ltb-false, arith, if◌then◌else◌}
+use Rattle.std.proofs.Math.Dec.{ltb}
 use Rattle.sx_base.specs.declared.library.LibName.{LibName}
 use Rattle.sx_base.specs.declared.name.FrameNo.{FrameNo}
 use Rattle.sx_base.specs.declared.name.Label.{Label}
 use Rattle.sx_base.specs.declared.name.Mark.{Mark}
-use Rattle.sx_tree.specs.Changes.{changed, enter, leave, stamp}
-use Rattle.sx_tree.specs.Context.{LeafContext}
+use Rattle.sx_tree.specs.Changes.{enter, leave, stamp}
+use Rattle.sx_tree.specs.Context.{LeafContext, blank, entered}
 use Rattle.sx_tree.specs.Tree.{Tree, atom, leaf, pair, vector}
-use Rattle.sx_tree.specs.declared.change.Change.{Change}
-use Rattle.sx_tree.specs.declared.change.Change.TheVariants as change
 use Rattle.sx_frames.specs.Rows.{Row, second_binder}
 use Rattle.sx_frames.specs.Scope.{Scope, same_frame, label_at, with_row, bound}
 use Rattle.std.specs.Prelude.{is_some}
 use Rattle.sx_scope.specs.Stands.{row_for}
 use Rattle.sx_value.specs.Cells.{Each}
 use Rattle.sx_fresh_laws.specs.Leaves.{OptionHolds, TreeHolds}
+use Rattle.sx_fresh_laws.specs.Below.{mark_named}
+use Rattle.sx_fresh_laws.specs.Names.{Rises, temporary_context}
 use Rattle.sx_fresh_laws.proofs.Eachs.{each_and, each_mapped}
 use Rattle.sx_fresh_laws.proofs.Trees.{OkHolds}
-use Rattle.sx_fresh_expansion_laws.specs.Living.{IsChangeOf, Lives, RowsHold}
+use Rattle.sx_fresh_expansion_laws.specs.Living.{InUse, Lives, RowsHold}
 
 -- Rows.
 
@@ -45,20 +46,11 @@ module _ (own : LibName) (K : ℕ → Mark → Type 0) (J : ℕ → FrameNo → 
   pub rise : (m n : ℕ) → m ≤ n → (c : LeafContext) → P m c → P n c
   rise m n le c h = lives.rises.later m n c le h
 
-  one-change : (n : ℕ) (x : Change) → IsChangeOf (K n) (J n) x → (t : Tree) → TreeHolds (P n) t → TreeHolds (P n) (changed (x ∷ []) t)
-  one-change n x k (atom s a) h = tt
-  one-change n x k (leaf s y c) h = lives.changed n x c k h
-  one-change n x k (pair s a d) h = (one-change n x k a h.0, one-change n x k d h.1)
-  one-change n x k (vector s d) h = one-change n x k d h
-
-  pub enter-holds : (n : ℕ) (m : Mark) (t : Tree) → K n m → TreeHolds (P n) t → TreeHolds (P n) (enter m t)
-  enter-holds n m t k h = one-change n (change.Enter m) k t h
-
-  pub leave-holds : (n : ℕ) (m : Mark) (f : Option FrameNo) (t : Tree) → K n m → OptionHolds (J n) f → TreeHolds (P n) t → TreeHolds (P n) (leave m f t)
-  leave-holds n m f t k j h = one-change n (change.Leave m f) (k, j) t h
-
   pub stamp-holds : (n : ℕ) (f : FrameNo) (t : Tree) → J n f → TreeHolds (P n) t → TreeHolds (P n) (stamp f t)
-  stamp-holds n f t j h = one-change n (change.Stamp f) j t h
+  stamp-holds n f (atom s a) j h = tt
+  stamp-holds n f (leaf s y c) j h = lives.stamped n f c j h
+  stamp-holds n f (pair s a d) j h = (stamp-holds n f a j h.0, stamp-holds n f d j h.1)
+  stamp-holds n f (vector s d) j h = stamp-holds n f d j h
 
   pub stamps-hold : (n : ℕ) (f : FrameNo) (ts : List Tree) → J n f → Each (TreeHolds (P n)) ts → Each (TreeHolds (P n)) (map (stamp f) ts)
   stamps-hold n f [] j h = tt
@@ -74,3 +66,46 @@ module _ (own : LibName) (K : ℕ → Mark → Type 0) (J : ℕ → FrameNo → 
   row-marks n (leaf s x c) l h = lives.marks n c h
   row-marks n (pair s a d) l h = tt
   row-marks n (vector s d) l h = tt
+
+  -- In a use with the mark of the name of number m.
+
+  abbrev pub In : ℕ → ℕ → LeafContext → Type 0
+  In m n c = InUse own J P m n c
+
+  in-later : (m a b : ℕ) (c : LeafContext) → a ≤ b → In m a c → In m b c
+  in-later m a b c le h = λ k low lt. h k (omega (arith, le, low)) lt
+
+  temporary-in : (m a n : ℕ) → a < n → In m n (temporary_context own a)
+  temporary-in m a n lt = by (ltb a m) refl (ltb m a) refl
+    where
+      -- it was there, it is the mark of the use itself, or it was taken in the use
+      by : (b : Bool) → ltb a m ≡ b → (c : Bool) → ltb m a ≡ c → In m n (temporary_context own a)
+      by true e c g = λ k low more. lives.there m (temporary_context own a) (lives.rises.temporary a m (omega arith) (ltb-true a m e)) k (omega (arith, more)) more
+      by false e true g = λ k low more. lives.temporary m a (ltb-true m a g) k (omega (arith, lt, low)) more
+      by false e false g = λ k low more.
+          let p = ltb-false a m e in
+          let q = ltb-false m a g in
+          let same : m ≡ a = omega (arith, p, q) in
+          subst (λ x. In m m (temporary_context own x)) same (lives.entered m blank (rise 0 m (omega arith) blank lives.read)) k (omega (arith, more)) more
+
+  pub in-rises : (m : ℕ) → Rises own 0 (In m)
+  in-rises m = record { later = in-later m; temporary = λ a n low lt. temporary-in m a n lt }
+
+  -- what was there may be met in it, and what may be met in it may be met when it is left
+  pub there-in : (m n : ℕ) → m ≤ n → (c : LeafContext) → P m c → In m n c
+  there-in m n le c h = in-later m m n c le (lives.there m c h)
+
+  pub out-of : (m n : ℕ) → m < n → (c : LeafContext) → In m n c → P n c
+  out-of m n lt c h = (h n (omega arith) lt).0
+
+  pub enter-holds : (m n : ℕ) (t : Tree) → m ≤ n → TreeHolds (P m) t → TreeHolds (In m n) (enter (mark_named own m) t)
+  enter-holds m n (atom s a) le h = tt
+  enter-holds m n (leaf s y c) le h = in-later m m n (entered (mark_named own m) c) le (lives.entered m c h)
+  enter-holds m n (pair s a d) le h = (enter-holds m n a le h.0, enter-holds m n d le h.1)
+  enter-holds m n (vector s d) le h = enter-holds m n d le h
+
+  pub leave-holds : (m n : ℕ) (f : Option FrameNo) (t : Tree) → m < n → OptionHolds (J n) f → TreeHolds (In m n) t → TreeHolds (P n) (leave (mark_named own m) f t)
+  leave-holds m n f (atom s a) lt j h = tt
+  leave-holds m n f (leaf s y c) lt j h = (h n (omega arith) lt).1 f j
+  leave-holds m n f (pair s a d) lt j h = (leave-holds m n f a lt j h.0, leave-holds m n f d lt j h.1)
+  leave-holds m n f (vector s d) lt j h = leave-holds m n f d lt j h

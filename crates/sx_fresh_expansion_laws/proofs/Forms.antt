@@ -89,7 +89,7 @@ module _ (own : LibName) (K : ℕ → Mark → Type 0) (J : ℕ → FrameNo → 
   inits-hold n [] h = tt
   inits-hold n (i ∷ is) h = (h.0, inits-hold n is h.1)
 
-  abbrev ClauseAt : ℕ → Clause → Type 0
+  abbrev pub ClauseAt : ℕ → Clause → Type 0
   ClauseAt n c = PatternHolds (P n) c.pattern × (OptionHolds ((C own K J P lives first) n) c.fender × (C own K J P lives first) n c.output)
 
   clauses-hold : (n : ℕ) (cs : List Clause) → Each (ClauseAt n) cs → ClausesHold (P n) (clauses cs)
@@ -141,13 +141,13 @@ module _ (own : LibName) (K : ℕ → Mark → Type 0) (J : ℕ → FrameNo → 
   all-in-frame : (f : FrameNo) (n : ℕ) (ts : List Tree) → (Ts own K J P lives first) n ts → J n f → Each (InFrame f n) ts
   all-in-frame f n ts h k = each_mapped ((T own K J P lives first) n) (InFrame f n) (λ t j. (j, k)) ts h
 
-  abbrev BoundIn : FrameNo → ℕ → BoundSpec → Type 0
+  abbrev pub BoundIn : FrameNo → ℕ → BoundSpec → Type 0
   BoundIn f n b = (BoundHolds own K J P lives first) n b × J n f
 
-  bound-in-up : (f : FrameNo) (m n : ℕ) → m ≤ n → (b : BoundSpec) → BoundIn f m b → BoundIn f n b
+  pub bound-in-up : (f : FrameNo) (m n : ℕ) → m ≤ n → (b : BoundSpec) → BoundIn f m b → BoundIn f n b
   bound-in-up f m n le b h = ((bound-up own K J P lives first) m n le b h.0, lives.frames m n f le h.1)
 
-  all-bound-in : (f : FrameNo) (n : ℕ) (bs : List BoundSpec) → Each ((BoundHolds own K J P lives first) n) bs → J n f → Each (BoundIn f n) bs
+  pub all-bound-in : (f : FrameNo) (n : ℕ) (bs : List BoundSpec) → Each ((BoundHolds own K J P lives first) n) bs → J n f → Each (BoundIn f n) bs
   all-bound-in f n bs h k = each_mapped ((BoundHolds own K J P lives first) n) (BoundIn f n) (λ b j. (j, k)) bs h
 
   module _ (go : Inside) (keeps : Keeps go) where
@@ -161,7 +161,7 @@ module _ (own : LibName) (K : ℕ → Mark → Type 0) (J : ℕ → FrameNo → 
     value-holds place level depth None s h k = ((state-self own K J P lives first) s h, (tt, tt))
     value-holds place level depth (Some t) s h k = keeps.form place level depth t s h k
 
-    line-holds : (level : ℕ) (place : Span) (depth : ℕ) (w : Waits) (s : State) → (F own K J P lives first) s → (WaitsAt own K J P lives first) s.names.number w → (Gave own K J P lives first) LineAt s (finish_as go level place depth w s)
+    pub line-holds : (level : ℕ) (place : Span) (depth : ℕ) (w : Waits) (s : State) → (F own K J P lives first) s → (WaitsAt own K J P lives first) s.names.number w → (Gave own K J P lives first) LineAt s (finish_as go level place depth w s)
     unfolding finish_as fresh
     line-holds level place depth (waits.Variable l value) s h k =
         (gave-after own K J P lives first) (C own K J P lives first) LineAt s (value_of go place level (deeper depth) value s) (λ c. give (line.Define l c)) (value-holds place level (deeper depth) value s h k) (λ c t i y. ((state-self own K J P lives first) t ((state-then own K J P lives first) s t h i), y))
@@ -245,7 +245,7 @@ module _ (own : LibName) (K : ℕ → Mark → Type 0) (J : ℕ → FrameNo → 
 
     -- `letrec` and `letrec*`.
 
-    init-holds : (place : Span) (level depth : ℕ) (f : FrameNo) (b : BoundSpec) (s : State) → (F own K J P lives first) s → BoundIn f s.names.number b → (Gave own K J P lives first) InitAt s (one_init go place level depth f b s)
+    pub init-holds : (place : Span) (level depth : ℕ) (f : FrameNo) (b : BoundSpec) (s : State) → (F own K J P lives first) s → BoundIn f s.names.number b → (Gave own K J P lives first) InitAt s (one_init go place level depth f b s)
     unfolding one_init
     init-holds place level depth f b s h k =
         (gave-after own K J P lives first) (C own K J P lives first) InitAt s (go.form place level depth (stamp f b.init) s) (λ c. give (record { label = b.label; value = c })) (keeps.form place level depth (stamp f b.init) s h (stamp-holds own K J P lives s.names.number f b.init k.1 k.0))
@@ -338,16 +338,16 @@ module _ (own : LibName) (K : ℕ → Mark → Type 0) (J : ℕ → FrameNo → 
           (pattern_wider (P t.names.number) (P w.names.number) ((up own K J P lives first) t.names.number w.names.number (omega (arith, j.stage.up, q.stage.up, b.stage.up))) p.pattern y.0, (core-option-up v.names.number w.names.number b.stage.up e a, d)),
         )))))
 
-    abbrev PatternCaseAt : ℕ → PatternCase → Type 0
+    abbrev pub PatternCaseAt : ℕ → PatternCase → Type 0
     PatternCaseAt n c = PatternCaseHolds (P n) c
 
-    pattern-case-up : (m n : ℕ) → m ≤ n → (c : PatternCase) → PatternCaseAt m c → PatternCaseAt n c
+    pub pattern-case-up : (m n : ℕ) → m ≤ n → (c : PatternCase) → PatternCaseAt m c → PatternCaseAt n c
     pattern-case-up m n le c h = ((tree-up own K J P lives first) m n le c.pattern h.0, ((option-up own K J P lives first) m n le c.fender h.1.0, (tree-up own K J P lives first) m n le c.output h.1.1))
 
     clause-up : (m n : ℕ) → m ≤ n → (c : Clause) → ClauseAt m c → ClauseAt n c
     clause-up m n le c h = (pattern_wider (P m) (P n) ((up own K J P lives first) m n le) c.pattern h.0, (core-option-up m n le c.fender h.1.0, (core-up own K J P lives first) m n le c.output h.1.1))
 
-    clause-holds : (place : Span) (level depth : ℕ) (literals : List Tree) (c : PatternCase) (s : State) → (F own K J P lives first) s → PatternCaseAt s.names.number c → (Gave own K J P lives first) ClauseAt s (pattern_clause go place level depth literals c s)
+    pub clause-holds : (place : Span) (level depth : ℕ) (literals : List Tree) (c : PatternCase) (s : State) → (F own K J P lives first) s → PatternCaseAt s.names.number c → (Gave own K J P lives first) ClauseAt s (pattern_clause go place level depth literals c s)
     unfolding pattern_clause fresh_frame
     clause-holds place level depth literals c s h k =
         let f : FrameNo = record { 0 = s.names } in

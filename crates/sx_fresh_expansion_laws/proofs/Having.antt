@@ -79,12 +79,12 @@ module _ (K K' : Mark → Type 0) (J J' : FrameNo → Type 0) (more : (m : Mark)
   option-wider None h = tt
   option-wider (Some f) h = wide f h
 
-  change-wider : (x : Change) → IsChangeOf K J x → IsChangeOf K' J' x
+  pub change-wider : (x : Change) → IsChangeOf K J x → IsChangeOf K' J' x
   change-wider (change.Enter m) h = more m h
   change-wider (change.Leave m f) h = (more m h.0, option-wider f h.1)
   change-wider (change.Stamp f) h = wide f h
 
-  begins-wider : (c : LeafContext) → IsBeginning K c → IsBeginning K' c
+  pub begins-wider : (c : LeafContext) → IsBeginning K c → IsBeginning K' c
   begins-wider c (inl e) = inl e
   begins-wider c (inr (m, (k, e))) = inr (m, (more m k, e))
 

@@ -67,7 +67,7 @@ module _ (own : LibName) (K : ℕ → Mark → Type 0) (J : ℕ → FrameNo → 
   FormAt n (forms.Quote q) = QuasiHolds (P n) q
   FormAt n (forms.Syntax q) = (T own K J P lives first) n q.template × Each (InsertAt n) q.inserts
 
-  form-of-holds : (place : Span) (t : Tree) (which : Family) (template : Tree) (s : State) → (F own K J P lives first) s → (T own K J P lives first) s.names.number template → (Gave own K J P lives first) FormAt s (form_of place t which template s)
+  pub form-of-holds : (place : Span) (t : Tree) (which : Family) (template : Tree) (s : State) → (F own K J P lives first) s → (T own K J P lives first) s.names.number template → (Gave own K J P lives first) FormAt s (form_of place t which template s)
   form-of-holds place t family.Quote template s h k = by (quasi (word_of family.Quote s.frames) template t place) (quasi-holds (P s.names.number) (word_of family.Quote s.frames) template t place k)
     where
       by : (r : Result PlainQuasi Fault) → OkHolds (QuasiHolds (P s.names.number)) r → (Gave own K J P lives first) FormAt s (quote_by r s)
@@ -83,10 +83,10 @@ module _ (own : LibName) (K : ℕ → Mark → Type 0) (J : ℕ → FrameNo → 
 
   -- Parts.
 
-  abbrev PartAt : ℕ → Part → Type 0
+  abbrev pub PartAt : ℕ → Part → Type 0
   PartAt n p = (T own K J P lives first) n p.form
 
-  part-up : (m n : ℕ) → m ≤ n → (p : Part) → PartAt m p → PartAt n p
+  pub part-up : (m n : ℕ) → m ≤ n → (p : Part) → PartAt m p → PartAt n p
   part-up m n le p h = (tree-up own K J P lives first) m n le p.form h
 
   with-made-holds : (n : ℕ) (t : Tree) (depth : ℕ) (done : List Part) → (T own K J P lives first) n t → Each (PartAt n) done → Each (PartAt n) (with_made t depth done)
@@ -118,7 +118,7 @@ module _ (own : LibName) (K : ℕ → Mark → Type 0) (J : ℕ → FrameNo → 
       by true = (h, insert-parts-hold n (deeper (deeper depth)) (i ∷ is) k)
       by false = insert-parts-hold n (deeper (deeper depth)) (i ∷ is) k
 
-  parts-of-hold : (n : ℕ) (t : Tree) (depth : ℕ) (q : QuasiForm) → (T own K J P lives first) n t → FormAt n q → Each (PartAt n) (parts_of t depth q)
+  pub parts-of-hold : (n : ℕ) (t : Tree) (depth : ℕ) (q : QuasiForm) → (T own K J P lives first) n t → FormAt n q → Each (PartAt n) (parts_of t depth q)
   parts-of-hold n t depth (forms.Quote q) h k = quasi-parts-hold n t depth [] q h tt k
   parts-of-hold n t depth (forms.Syntax q) h k = inserts-parts-hold n t depth q.inserts h k.1
 

@@ -1,15 +1,17 @@
 -- Known marks are such as may be met, and the mark of the next name is none of them.
-use Rattle.std.proofs.Common.{◌≡◌, ◌≤◌, ℕ, Bool, true, false, List, [], ◌∷◌, ◌++◌, refl, ap, ◌∙◌, subst, arith, inl, inr}
+use Rattle.std.proofs.Common.{◌≡◌, ◌≤◌, ◌<◌, ℕ, suc, Bool, true, false, List, [], ◌∷◌, ◌++◌, refl, ap, ◌∙◌, subst, arith, inl, inr}
 use Rattle.std.specs.Prelude.{cond}
 use Rattle.sx_base.specs.Named.{Named}
 use Rattle.sx_base.specs.declared.library.LibName.{LibName}
 use Rattle.sx_base.specs.declared.library.LibName.TheVariants as library
 use Rattle.sx_base.specs.declared.name.FrameNo.{FrameNo}
 use Rattle.sx_base.specs.declared.name.Mark.{Mark}
-use Rattle.sx_tree.specs.Context.{LeafContext, blank}
+use Rattle.sx_tree.specs.Context.{LeafContext, blank, entered, act}
 use Rattle.sx_tree.specs.Leaves.{contexts}
 use Rattle.sx_tree.specs.Marks.{same_mark}
 use Rattle.sx_tree.specs.SameMarks.{same_mark_decides}
+use Rattle.sx_tree.specs.declared.change.Change.{Change}
+use Rattle.sx_tree.specs.declared.change.Change.TheVariants as change
 use Rattle.sx_tree.specs.Tree as tree
 use Rattle.sx_tree.specs.Tree.{Tree}
 use Rattle.sx_tree.specs.declared.stamp.Stamp.{Stamp}
@@ -28,11 +30,11 @@ use Rattle.sx_fresh_laws.specs.Names.{temporary_context}
 use Rattle.sx_fresh_laws.proofs.Wider.{cells_wider, codes_wider, globals_wider}
 use Rattle.sx_fresh_expansion_laws.specs.History.{HasKnownHistory}
 use Rattle.sx_fresh_expansion_laws.specs.Known.{IsKnownName, IsKnown, IsKnownFrame, HasKnown}
-use Rattle.sx_fresh_expansion_laws.specs.Living.{Lives, RowsHold}
+use Rattle.sx_fresh_expansion_laws.specs.Living.{IsChangeOf, InUse, Lives, RowsHold}
 use Rattle.sx_fresh_expansion_laws.specs.States.{StageHolds, StateHolds}
 use Rattle.sx_fresh_expansion_laws.specs.Uses.{IsNewOn, IsNewIn}
 use Rattle.sx_fresh_expansion_laws.proofs.Having.{act-has, history-marks, beginning-has, act-follows, has-wider, history-wider}
-use Rattle.sx_fresh_expansion_laws.proofs.Stages.{keywords-wider}
+use Rattle.sx_fresh_expansion_laws.proofs.Runs.{keywords-wider}
 use Rattle.sx_fresh_expansion_laws.proofs.Standing.{bindings-wider}
 
 module _ (libs : List LibName) (own : LibName) where
@@ -52,10 +54,10 @@ module _ (libs : List LibName) (own : LibName) where
   name-later m n x le (inl a) = inl a
   name-later m n x le (inr p) = inr (p.0, let lt = p.1 in omega (arith, lt, le))
 
-  known-later : (m n : ℕ) (x : Mark) → m ≤ n → K m x → K n x
+  pub known-later : (m n : ℕ) (x : Mark) → m ≤ n → K m x → K n x
   known-later m n x le h = name-later m n x.0 le h
 
-  frame-later : (m n : ℕ) (f : FrameNo) → m ≤ n → J m f → J n f
+  pub frame-later : (m n : ℕ) (f : FrameNo) → m ≤ n → J m f → J n f
   frame-later m n f le h = name-later m n f.0 le h
 
   has-later : (m n : ℕ) (c : LeafContext) → m ≤ n → P m c → P n c
@@ -64,33 +66,47 @@ module _ (libs : List LibName) (own : LibName) where
   history-later : (m n : ℕ) (c : LeafContext) → m ≤ n → HasKnownHistory libs own m c → HasKnownHistory libs own n c
   history-later m n c le h = history-wider (K m) (K n) (J m) (J n) (λ x k. known-later m n x le k) (λ f k. frame-later m n f le k) c h
 
+  -- Where each change may be made, so may those of a use.
+  module _ (Q : ℕ → LeafContext → Type 0) (later : (m n : ℕ) (c : LeafContext) → m ≤ n → Q m c → Q n c) (changed : (n : ℕ) (x : Change) (c : LeafContext) → IsChangeOf (K n) (J n) x → Q n c → Q n (act x c)) where
+    its-mark : (m n : ℕ) → m < n → K n (mark_named own m)
+    its-mark m n lt = inr (refl, lt)
+
+    left-later : (m n : ℕ) (c : LeafContext) → Q n c → InUse own J Q m n c
+    left-later m n c h = λ k low lt. let at : Q k c = later n k c low h in (at, λ f j. changed k (change.Leave (mark_named own m) f) c (its-mark m k lt, j) at)
+
+    entered-later : (m : ℕ) (c : LeafContext) → Q m c → InUse own J Q m m (entered (mark_named own m) c)
+    entered-later m c h = λ k low lt.
+        let at : Q k (entered (mark_named own m) c) = changed k (change.Enter (mark_named own m)) c (its-mark m k lt) (later m k c low h) in
+        (at, λ f j. changed k (change.Leave (mark_named own m) f) (entered (mark_named own m) c) (its-mark m k lt, j) at)
+
+    live : Among libs library.Core → ((m n : ℕ) → m < n → Q n (temporary_context own m)) → Q 0 blank → ((k : ℕ) → Q 0 (record { marks = core_mark k ∷ []; stamps = [] }))
+        → ((n : ℕ) (c : LeafContext) → Q n c → Each (K n) c.marks) → Lives own K J Q
+    live core temporary read inserts marks = record {
+      rises = record { later = later; temporary = λ m n low lt. temporary m n lt };
+      known = known-later;
+      taken = its-mark;
+      frames = frame-later;
+      made = λ m n lt. inr (refl, lt);
+      introduced = inl core;
+      stamped = λ n f c j h. changed n (change.Stamp f) c j h;
+      there = λ m c h. left-later m m c h;
+      entered = entered-later;
+      temporary = λ m n lt. left-later m (suc n) (temporary_context own n) (temporary n (suc n) (omega arith));
+      read = read;
+      core = inserts;
+      marks = marks;
+    }
+
   pub lives-known : Among libs library.Core → Lives own K J P
-  lives-known core = record {
-    rises = record { later = has-later; temporary = λ m n low lt. record { marks = (inr (refl, lt), tt); stamps = tt } };
-    known = known-later;
-    taken = λ m n lt. inr (refl, lt);
-    frames = frame-later;
-    made = λ m n lt. inr (refl, lt);
-    introduced = inl core;
-    changed = λ n x c k h. act-has (K n) (J n) x c k h;
-    read = record { marks = tt; stamps = tt };
-    core = λ k. record { marks = (inl core, tt); stamps = tt };
-    marks = λ n c h. h.marks;
-  }
+  lives-known core =
+      live P has-later (λ n x c k h. act-has (K n) (J n) x c k h) core (λ m n lt. record { marks = (inr (refl, lt), tt); stamps = tt }) (record { marks = tt; stamps = tt })
+      (λ k. record { marks = (inl core, tt); stamps = tt }) (λ n c h. h.marks)
 
   pub lives-on : Among libs library.Core → Lives own K J (HasKnownHistory libs own)
-  lives-on core = record {
-    rises = record { later = history-later; temporary = λ m n low lt. beginning-has (K n) (J n) (temporary_context own m) (inr (mark_named own m, (inr (refl, lt), refl))) };
-    known = known-later;
-    taken = λ m n lt. inr (refl, lt);
-    frames = frame-later;
-    made = λ m n lt. inr (refl, lt);
-    introduced = inl core;
-    changed = λ n x c k h. act-follows (K n) (J n) x c k h;
-    read = beginning-has (K 0) (J 0) blank (inl refl);
-    core = λ k. beginning-has (K 0) (J 0) (record { marks = core_mark k ∷ []; stamps = [] }) (inr (core_mark k, (inl core, refl)));
-    marks = λ n c h. (history-marks (K n) (J n) c h).marks;
-  }
+  lives-on core =
+      live (HasKnownHistory libs own) history-later (λ n x c k h. act-follows (K n) (J n) x c k h) core
+      (λ m n lt. beginning-has (K n) (J n) (temporary_context own m) (inr (mark_named own m, (inr (refl, lt), refl)))) (beginning-has (K 0) (J 0) blank (inl refl))
+      (λ k. beginning-has (K 0) (J 0) (record { marks = core_mark k ∷ []; stamps = [] }) (inr (core_mark k, (inl core, refl)))) (λ n c h. (history-marks (K n) (J n) c h).marks)
 
   -- The mark of the next name is new.
 

@@ -5,12 +5,14 @@ pub mod Records
 pub mod Quasi
 pub mod QuasiSyntax
 pub mod Changing
+pub mod Runs
 pub mod Stages
 pub mod Standing
 pub mod Plans
 pub mod Items
 pub mod Having
 pub mod Knowing
+pub mod Once
 pub mod Taking
 pub mod Forms
 pub mod Inserts

@@ -48,6 +48,7 @@ use Rattle.sx_fresh_laws.specs.Leaves.{OptionHolds, TreeHolds, CodesHold, LineHo
 use Rattle.sx_fresh_laws.proofs.Eachs.{each_both, each_mapped}
 use Rattle.sx_fresh_laws.proofs.Variables.{looked_up}
 use Rattle.sx_fresh_laws.proofs.Wider.{tree_wider, codes_wider, lines_wider}
+use Rattle.sx_fresh_expansion_laws.specs.Events.{HasEvents, EventsStay}
 use Rattle.sx_fresh_expansion_laws.specs.History.{HasHistory}
 use Rattle.sx_fresh_expansion_laws.specs.Known.{IsKnownName, IsKnown, IsKnownFrame, HasMarks, libraries_of}
 use Rattle.sx_fresh_expansion_laws.specs.Living.{Lives, RowsHold}
@@ -57,9 +58,11 @@ use Rattle.sx_fresh_expansion_laws.proofs.Changing.{rise, with-row-holds, stamps
 use Rattle.sx_fresh_expansion_laws.proofs.Forms.{Keeps, splice-holds, lines-hold}
 use Rattle.sx_fresh_expansion_laws.proofs.Items.{TakenAt, taken-up}
 use Rattle.sx_fresh_expansion_laws.proofs.Having.{has-wider, history-wider}
+use Rattle.sx_fresh_expansion_laws.proofs.Around.{around-once, inside-once}
+use Rattle.sx_fresh_expansion_laws.proofs.Once.{events-wider, lives-once}
 use Rattle.sx_fresh_expansion_laws.proofs.Knowing.{lives-known, lives-on}
 use Rattle.sx_fresh_expansion_laws.proofs.Settled.{inside-keeps}
-use Rattle.sx_fresh_expansion_laws.proofs.Stages.{records-wider}
+use Rattle.sx_fresh_expansion_laws.proofs.Runs.{records-wider}
 use Rattle.sx_fresh_expansion_laws.proofs.Standing.{F, Ts, Gave, gave-after, gave-each, state-self, state-then, bindings-wider}
 
 -- Rows.
@@ -172,7 +175,7 @@ module _ (own : LibName) (K : ℕ → Mark → Type 0) (J : ℕ → FrameNo → 
   no-leaves [] = tt
   no-leaves (e ∷ es) = (tt, no-leaves es)
 
-  exports-hold : (at : TopAt) (es : List (List ℕ × Tree)) (s : State) → (F own K J P lives first) s → (Gave own K J P lives first) Any s (exports at es s)
+  pub exports-hold : (at : TopAt) (es : List (List ℕ × Tree)) (s : State) → (F own K J P lives first) s → (Gave own K J P lives first) Any s (exports at es s)
   unfolding exports
   exports-hold at es s h =
       (gave-after own K J P lives first) (λ n ls. Each (λ (l : List ℕ × Label). Unit {0}) ls) Any s (all_exports at es s) (λ ls s'. after (export_labels ls s') (λ _. give ls))
@@ -300,6 +303,12 @@ module _ (own : LibName) (records : List LibRecord) where
   pub history-only : (n : ℕ) (c : LeafContext) → KnownBy HasHistory L own n c → HasOnly HasHistory (own ∷ L) c
   history-only n c h = history-wider (Kn n) (IsOfOne (own ∷ L)) (Jn n) (IsFrameOfOne (own ∷ L)) (λ m k. own-or n m.0 k) (λ f k. own-or n f.0 k) c h
 
+  pub events-known : (n : ℕ) (c : LeafContext) → HasOnly HasEvents L c → KnownBy HasEvents L own n c
+  events-known n c h = events-wider (IsOfOne L) (Kn n) (IsFrameOfOne L) (Jn n) (λ m k. inl k) (λ f k. inl k) c h
+
+  pub events-only : (n : ℕ) (c : LeafContext) → KnownBy HasEvents L own n c → HasOnly HasEvents (own ∷ L) c
+  events-only n c h = events-wider (Kn n) (IsOfOne (own ∷ L)) (Jn n) (IsFrameOfOne (own ∷ L)) (λ m k. own-or n m.0 k) (λ f k. own-or n f.0 k) c h
+
 pub starts-known : StartsAreKnown
 starts-known = record {
   leaves = λ own records imports codes only texts. start-known own records HasMarks (lives-known (libraries_of records) own (inl refl)) (marks-known own records) (marks-only own records) imports codes only texts;
@@ -312,4 +321,14 @@ records-own = record {
       record-law own records HasMarks (lives-known (libraries_of records) own (inl refl)) (marks-known own records) (marks-only own records) imports codes only texts path version place es forms r was e;
   histories = λ own path records imports version place es forms codes r new only texts was e.
       record-law own records HasHistory (lives-on (libraries_of records) own (inl refl)) (history-known own records) (history-only own records) imports codes only texts path version place es forms r was e;
+}
+
+pub events-stay : EventsStay
+events-stay = record {
+  around_keeps = around-once;
+  inside_keeps = inside-once;
+  starts = λ own records imports codes new only texts.
+      start-known own records HasEvents (lives-once (libraries_of records) own new (inl refl)) (events-known own records) (events-only own records) imports codes only texts;
+  records = λ own path records imports version place es forms codes r new only texts was e.
+      record-law own records HasEvents (lives-once (libraries_of records) own new (inl refl)) (events-known own records) (events-only own records) imports codes only texts path version place es forms r was e;
 }

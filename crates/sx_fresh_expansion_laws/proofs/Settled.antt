@@ -98,7 +98,7 @@ module _ (own : LibName) (K : ℕ → Mark → Type 0) (J : ℕ → FrameNo → 
     abbrev pub SettledAt : ℕ → Settled → Type 0
     SettledAt n d = (T own K J P lives first) n d.form × (PlanAt own K J P lives first) n d.plan
 
-    settle-to-holds : (left : ℕ) (place : Span) (level : ℕ) (t : Tree) (s : State) → (F own K J P lives first) s → (T own K J P lives first) s.names.number t → (Gave own K J P lives first) SettledAt s (settle_to rs left place level t s)
+    pub settle-to-holds : (left : ℕ) (place : Span) (level : ℕ) (t : Tree) (s : State) → (F own K J P lives first) s → (T own K J P lives first) s.names.number t → (Gave own K J P lives first) SettledAt s (settle_to rs left place level t s)
     unfolding settle_to
     settle-to-holds zero place level t s h g = (gave-after own K J P lives first) StepAt SettledAt s (step rs place level t s) (settled_by (λ k. too_many t place) place t) (step-holds place level t s h g) by
       where

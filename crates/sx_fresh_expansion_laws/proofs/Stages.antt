@@ -1,8 +1,6 @@
--- What is done on a stage keeps that all on it may be met.
-use Rattle.std.proofs.Common.{◌≡◌, ◌≤◌, ◌<◌, ◌+◌, ℕ, Bool, true, false, List, [], ◌∷◌, length, Option, None, Some, Result, Ok, Err, sym, subst, arith, slice_get, if◌then◌else◌}
-use Rattle.indexmap.specs.IndexMap.{insert_entry}
+-- What is done on a stage, uses among it, keeps that all on it may be met.
+use Rattle.std.proofs.Common.{◌≡◌, ◌≤◌, ◌<◌, ◌+◌, ℕ, Bool, List, Option, Result, Ok, Err, sym, subst, arith}
 use Rattle.sx_base.specs.Act.{after, give}
-use Rattle.sx_base.specs.Gives.{◌>>=◌}
 use Rattle.sx_base.specs.Named.{Named}
 use Rattle.sx_base.specs.declared.fault.Fault.{Fault}
 use Rattle.sx_base.specs.declared.library.LibName.{LibName}
@@ -13,442 +11,149 @@ use Rattle.sx_base.specs.declared.span.Span.{Span}
 use Rattle.sx_tree.specs.Changes.{enter, leave}
 use Rattle.sx_tree.specs.Context.{LeafContext}
 use Rattle.sx_tree.specs.Tree.{Tree}
-use Rattle.sx_core.specs.Core.{PlainCore, quoted, variable, primitive, one_armed, two_armed, assignment, sequence, procedure, letrec, call, instance, matching}
-use Rattle.sx_core.specs.Core.{PlainCores, none, more, PlainInits, no_init, init, PlainCases, no_case, case, PlainClauses, no_clause, clause, fended, PlainCode}
-use Rattle.sx_core.specs.Labels.{same_label}
+use Rattle.sx_core.specs.Core.{PlainCore}
 use Rattle.sx_core.specs.declared.record.LibRecord.{LibRecord}
-use Rattle.sx_core.specs.declared.record.Line.{Line}
-use Rattle.sx_core.specs.declared.record.Line.TheVariants as line
-use Rattle.sx_value.specs.Cells.{Each, transformer_in}
-use Rattle.sx_value.specs.ToSyntax.{Reading, to_syntax}
 use Rattle.sx_value.specs.declared.value.Value.{Value}
-use Rattle.sx_value.specs.declared.value.Value.TheVariants as value
-use Rattle.sx_value.specs.declared.cell.Cell.{Cell}
-use Rattle.sx_value.specs.declared.cell.Cell.TheVariants as cell
-use Rattle.sx_eval.specs.Codes.{Codes, same_code, with_code, procedure_code, with_codes, with_all, with_inits, with_cases, with_clauses}
-use Rattle.sx_eval.specs.Lines.{with_lines, with_value, with_values, with_values_in, defined}
-use Rattle.sx_eval.specs.State as run
-use Rattle.sx_eval.specs.State.{Outcome, done, faulted, unfit, next_place, with_cell}
-use Rattle.sx_eval.specs.Variables.{Entries}
-use Rattle.sx_stage.specs.Libraries.{has_library, has_all, wanted, libraries_of}
-use Rattle.sx_stage.specs.Running.{setting_on, state_on, left_by, ended_at, with_codes_of, outcome_of, evaluate, outcome_of_call, outcome_of_lines, left_by_library, library_ended, evaluate_library, evaluate_wanted, evaluate_all, need_all, need}
-use Rattle.sx_stage.specs.Running as running
-use Rattle.sx_stage.specs.Stage.{PlainStage, Does, name_after, fresh_mark, keyword_at, with_keyword}
-use Rattle.sx_stage.specs.Transformers.{is_variable, is_transformer, transformer_only, transformer, begin_keyword, finish_keyword, value_in, import_keyword, value_or, keyword_value, is_variable_transformer}
-use Rattle.sx_stage.specs.Uses.{procedure_in, call_procedure, tree_at, read_answer, transform, cut, transform_and_cut, transform_marked, used}
-use Rattle.sx_stage.specs.declared.keyword.Keyword.{Keyword}
-use Rattle.sx_stage.specs.declared.keyword.Keyword.TheVariants as keyword
-use Rattle.sx_stage.specs.declared.fuel.TheConstants.{FUEL}
-use Rattle.sx_fresh_laws.specs.Leaves.{TreeHolds, ValueHolds, VariableHolds, CellHolds, CellsHold, CoreHolds, CoresHold, InitsHold, CasesHold, ClausesHold, CodeHolds, CodesHold, GlobalsHold, LinesHold}
-use Rattle.sx_fresh_laws.specs.Names.{Rises, SettingHolds, StateHolds, OutcomeHolds}
-use Rattle.sx_fresh_laws.specs.Leaves.{OptionHolds}
-use Rattle.sx_fresh_laws.proofs.Eachs.{each_at, each_and, each_taken, each_mapped}
-use Rattle.sx_fresh_laws.proofs.Meaning.{holds-eval, holds-call, holds-lines}
-use Rattle.sx_fresh_laws.proofs.Read.{ReadHolds, read-holds}
-use Rattle.sx_fresh_laws.proofs.Variables.{looked_up, EntriesHold}
-use Rattle.sx_fresh_laws.proofs.Wider.{tree_wider, value_wider, cells_wider, core_wider, codes_wider, globals_wider, lines_wider}
+use Rattle.sx_stage.specs.Stage.{PlainStage, name_after, fresh_mark}
+use Rattle.sx_stage.specs.Transformers.{begin_keyword, finish_keyword, keyword_value, is_variable_transformer}
+use Rattle.sx_stage.specs.Uses.{transform_and_cut, transform_marked, used}
+use Rattle.sx_fresh_laws.specs.Below.{mark_named}
+use Rattle.sx_fresh_laws.specs.Leaves.{OptionHolds, TreeHolds, ValueHolds, CoreHolds}
+use Rattle.sx_fresh_laws.proofs.Wider.{tree_wider, value_wider, cells_wider, codes_wider, globals_wider}
 use Rattle.sx_fresh_expansion_laws.specs.Living.{Lives}
-use Rattle.sx_fresh_expansion_laws.specs.States.{ExpressionHolds, KeywordHolds, KeywordsHold, RecordsHold, StageHolds}
-use Rattle.sx_fresh_expansion_laws.proofs.Changing.{rise, rows-wider, enter-holds, leave-holds, frame-up}
-
--- Tables with one more entry, or one in place of another.
-
-pub inserted-holds : {A V : Type 0} (Q : V → Type 0) (same : A → A → Bool) (es : List (A × V)) (k : A) (v : V) → Each (λ (e : A × V). Q e.1) es → Q v → Each (λ (e : A × V). Q e.1) (insert_entry same es k v)
-inserted-holds Q same [] k v h j = (j, tt)
-inserted-holds {A} {V} Q same (e ∷ es) k v h j = by_same (_) (inserted-holds Q same es k v h.1 j)
-  where
-    by_same : (b : Bool) → Each (λ (e : A × V). Q e.1) (insert_entry same es k v) → Each (λ (e : A × V). Q e.1) (if b then (e.0, v) ∷ es else e ∷ insert_entry same es k v)
-    by_same true i = (j, h.1)
-    by_same false i = (h.0, i)
-
--- Codes.
-
-module _ (P : LeafContext → Type 0) where
-  pub one-code : (c : PlainCode) (cs : Codes) → CodesHold P cs → CodeHolds P c → CodesHold P (with_code c cs)
-  one-code c cs h k = inserted-holds (CodeHolds P) same_code cs c.number c h k
-
-  mutual
-    pub codes-hold : (c : PlainCore) (cs : Codes) → CodesHold P cs → CoreHolds P c → CodesHold P (with_codes c cs)
-    codes-hold (quoted d) cs h k = h
-    codes-hold (variable l) cs h k = h
-    codes-hold (primitive op) cs h k = h
-    codes-hold (one_armed c d) cs h k = codes-hold d (with_codes c cs) (codes-hold c cs h k.0) k.1
-    codes-hold (two_armed c d e) cs h k = codes-hold e (with_codes d (with_codes c cs)) (codes-hold d (with_codes c cs) (codes-hold c cs h k.0) k.1.0) k.1.1
-    codes-hold (assignment l c) cs h k = codes-hold c cs h k
-    codes-hold (sequence xs) cs h k = all-codes xs cs h k
-    codes-hold (procedure number xs plain) cs h k = case-codes xs (with_code (procedure_code number xs plain) cs) (one-code (procedure_code number xs plain) cs h k) k
-    codes-hold (letrec o is c) cs h k = codes-hold c (with_inits is cs) (init-codes is cs h k.0) k.1
-    codes-hold (call c xs) cs h k = all-codes xs (with_codes c cs) (codes-hold c cs h k.0) k.1
-    codes-hold (instance t s) cs h k = h
-    codes-hold (matching c xs s) cs h k = clause-codes xs (with_codes c cs) (codes-hold c cs h k.0) k.1
-
-    all-codes : (xs : PlainCores) (cs : Codes) → CodesHold P cs → CoresHold P xs → CodesHold P (with_all xs cs)
-    all-codes none cs h k = h
-    all-codes (more c xs) cs h k = all-codes xs (with_codes c cs) (codes-hold c cs h k.0) k.1
-
-    init-codes : (is : PlainInits) (cs : Codes) → CodesHold P cs → InitsHold P is → CodesHold P (with_inits is cs)
-    init-codes no_init cs h k = h
-    init-codes (init l c is) cs h k = init-codes is (with_codes c cs) (codes-hold c cs h k.0) k.1
-
-    case-codes : (xs : PlainCases) (cs : Codes) → CodesHold P cs → CasesHold P xs → CodesHold P (with_cases xs cs)
-    case-codes no_case cs h k = h
-    case-codes (case f c xs) cs h k = case-codes xs (with_codes c cs) (codes-hold c cs h k.0) k.1
-
-    clause-codes : (xs : PlainClauses) (cs : Codes) → CodesHold P cs → ClausesHold P xs → CodesHold P (with_clauses xs cs)
-    clause-codes no_clause cs h k = h
-    clause-codes (clause p c xs) cs h k = clause-codes xs (with_codes c cs) (codes-hold c cs h k.1.0) k.1.1
-    clause-codes (fended p f c xs) cs h k = clause-codes xs (with_codes c (with_codes f cs)) (codes-hold c (with_codes f cs) (codes-hold f cs h k.1.0) k.1.1.0) k.1.1.1
-
-  pub line-codes : (ls : List Line) (cs : Codes) → CodesHold P cs → LinesHold P ls → CodesHold P (with_lines ls cs)
-  line-codes [] cs h k = h
-  line-codes (line.Define l c ∷ ls) cs h k = line-codes ls (with_codes c cs) (codes-hold c cs h k.0) k.1
-  line-codes (line.Expr c ∷ ls) cs h k = line-codes ls (with_codes c cs) (codes-hold c cs h k.0) k.1
-
-  -- The variables of a library.
-
-  one-value : (l : Label) (o : Option Value) (gs : List (Label × Value)) → GlobalsHold P gs → VariableHolds P o → GlobalsHold P (with_value l o gs)
-  one-value l None gs h k = h
-  one-value l (Some v) gs h k = inserted-holds (ValueHolds P) same_label gs l v h k
-
-  all-values : (es : Entries) (gs : List (Label × Value)) → GlobalsHold P gs → EntriesHold P es → GlobalsHold P (with_values es gs)
-  all-values [] gs h k = h
-  all-values (e ∷ es) gs h k = all-values es (with_value e.0 e.1 gs) (one-value e.0 e.1 gs h k.0) k.1
-
-  pub values-in : (o : Option Cell) (gs : List (Label × Value)) → GlobalsHold P gs → OptionHolds (CellHolds P) o → GlobalsHold P (with_values_in o gs)
-  values-in None gs h k = h
-  values-in (Some (cell.Scope es p)) gs h k = all-values es gs h k
-  values-in (Some (cell.Pair x y)) gs h k = h
-  values-in (Some (cell.Vector xs)) gs h k = h
-  values-in (Some (cell.Str text)) gs h k = h
-  values-in (Some (cell.Binds bs p)) gs h k = h
-  values-in (Some (cell.Transformer x)) gs h k = h
-
-  unset-defined : (ls : List Line) → EntriesHold P (defined ls)
-  unset-defined [] = tt
-  unset-defined (line.Define l c ∷ ls) = (tt, unset-defined ls)
-  unset-defined (line.Expr c ∷ ls) = unset-defined ls
-
-pub expression-wider : (P Q : LeafContext → Type 0) → ((c : LeafContext) → P c → Q c) → (e : Option PlainCore) → ExpressionHolds P e → ExpressionHolds Q e
-expression-wider P Q k None h = tt
-expression-wider P Q k (Some c) h = core_wider P Q k c h
-
-keyword-wider : (P Q : LeafContext → Type 0) → ((c : LeafContext) → P c → Q c) → (x : Keyword) → KeywordHolds P x → KeywordHolds Q x
-keyword-wider P Q k (keyword.Waiting place) h = tt
-keyword-wider P Q k (keyword.Kept e v) h = (expression-wider P Q k e h.0, value_wider P Q k v h.1)
-
-pub keywords-wider : (P Q : LeafContext → Type 0) → ((c : LeafContext) → P c → Q c) → (ks : List (Label × Keyword)) → KeywordsHold P ks → KeywordsHold Q ks
-keywords-wider P Q k ks h = each_mapped (λ (x : Label × Keyword). KeywordHolds P x.1) (λ (x : Label × Keyword). KeywordHolds Q x.1) (λ x j. keyword-wider P Q k x.1 j) ks h
-
-pub records-wider : (P Q : LeafContext → Type 0) → ((c : LeafContext) → P c → Q c) → (rs : List LibRecord) → RecordsHold P rs → RecordsHold Q rs
-records-wider P Q k rs h = each_mapped (λ (r : LibRecord). LinesHold P r.run) (λ (r : LibRecord). LinesHold Q r.run) (λ r j. lines_wider P Q k r.run j) rs h
+use Rattle.sx_fresh_expansion_laws.specs.States.{ExpressionHolds, StageHolds}
+use Rattle.sx_fresh_expansion_laws.proofs.Changing.{In, rise, rows-wider, in-rises, there-in, out-of, enter-holds, leave-holds, frame-up}
+use Rattle.sx_fresh_expansion_laws.proofs.Runs as evaluated
+use Rattle.sx_fresh_expansion_laws.proofs.Runs.{Runs, keywords-wider, transformed-holds}
 
 module _ (own : LibName) (K : ℕ → Mark → Type 0) (J : ℕ → FrameNo → Type 0) (P : ℕ → LeafContext → Type 0) (lives : Lives own K J P) where
+  pub running : Runs own K P
+  running = record { rises = lives.rises; known = lives.known }
+
   abbrev G : ℕ → PlainStage → Type 0
   G m g = StageHolds own K P m g
 
-  pub stage-less : (m n : ℕ) (g : PlainStage) → m ≤ n → G n g → G m g
-  stage-less m n g le h = record { up = omega (arith, le, h.up); library = h.library; frames = h.frames; cells = h.cells; codes = h.codes; globals = h.globals; keywords = h.keywords }
-
-  pub stage-self : (m : ℕ) (g : PlainStage) → G m g → G g.names.number g
-  stage-self m g h = record { up = omega arith; library = h.library; frames = h.frames; cells = h.cells; codes = h.codes; globals = h.globals; keywords = h.keywords }
-
-  -- Where it gives a value and a stage, all on the stage may be met, names rise, and this holds of the value then.
   abbrev pub GaveStage : {A : Type 0} → (ℕ → A → Type 0) → ℕ → Result (A × PlainStage) Fault → Type 0
-  GaveStage W m (Ok p) = G m p.1 × W p.1.names.number p.0
-  GaveStage W m (Err f) = Unit {0}
-
-  pub stage-after : {A B : Type 0} (W : ℕ → A → Type 0) (V : ℕ → B → Type 0) (m : ℕ) (r : Result (A × PlainStage) Fault) (k : A → Does B)
-      → GaveStage W m r → ((a : A) (g : PlainStage) → G m g → W g.names.number a → GaveStage V g.names.number (k a g)) → GaveStage V m (after r k)
-  stage-after {A} {B} W V m (Ok p) k h next = less (k p.0 p.1) (next p.0 p.1 h.0 h.1)
-    where
-      less : (r : Result (B × PlainStage) Fault) → GaveStage V p.1.names.number r → GaveStage V m r
-      less (Ok q) j = (stage-less m p.1.names.number q.1 h.0.up j.0, j.1)
-      less (Err f) j = tt
-  stage-after W V m (Err f) k h next = tt
-
-  stage-if : {A : Type 0} (W : ℕ → A → Type 0) (m : ℕ) (b : Bool) (r q : Result (A × PlainStage) Fault) → GaveStage W m r → GaveStage W m q → GaveStage W m (if b then r else q)
-  stage-if W m true r q h k = h
-  stage-if W m false r q h k = k
-
-  -- Evaluations.
+  GaveStage W m r = evaluated.GaveStage own K P running W m r
 
   abbrev pub Done : ℕ → Unit {0} → Type 0
   Done n x = Unit {0}
 
+  abbrev pub Told : ℕ → Bool → Type 0
+  Told n b = Unit {0}
+
   abbrev pub IsValue : ℕ → Value → Type 0
   IsValue n v = ValueHolds (P n) v
-
-  abbrev pub WithFuel : ℕ → Value × ℕ → Type 0
-  WithFuel n p = ValueHolds (P n) p.0
 
   abbrev pub IsTree : ℕ → Tree → Type 0
   IsTree n t = TreeHolds (P n) t
 
-  -- what an evaluation leaves
-  left-holds : (m : ℕ) (g : PlainStage) (new : run.State) (left : ℕ) → G m g → StateHolds own P g.names.number new → G m (left_by g new left)
-  left-holds m g new left h k = record {
-    up = omega (arith, h.up, k.up);
-    library = k.library;
-    frames = rows-wider (K g.names.number) (K new.names.number) (λ x j. lives.known g.names.number new.names.number x k.up j) g.frames h.frames;
-    cells = k.cells;
-    codes = codes_wider (P g.names.number) (P new.names.number) (rise own K J P lives g.names.number new.names.number k.up) g.codes h.codes;
-    globals = globals_wider (P g.names.number) (P new.names.number) (rise own K J P lives g.names.number new.names.number k.up) g.globals h.globals;
-    keywords = keywords-wider (P g.names.number) (P new.names.number) (rise own K J P lives g.names.number new.names.number k.up) g.keywords h.keywords;
-  }
-
-  ended-holds : (place : Span) (m : ℕ) (g : PlainStage) (o : Outcome) → G m g → OutcomeHolds own P g.names.number o → GaveStage WithFuel m (ended_at place g o)
-  ended-holds place m g (done v new left) h k = (left-holds m g new left h k.0, k.1)
-  ended-holds place m g (faulted f new left) h k = tt
-  ended-holds place m g unfit h k = tt
-
-  rises-from : (n : ℕ) → Rises own n P
-  rises-from n = record { later = lives.rises.later; temporary = λ a b low lt. lives.rises.temporary a b (omega arith) lt }
-
-  setting-holds : (m : ℕ) (codes : Codes) (g : PlainStage) → G m g → CodesHold (P g.names.number) codes → SettingHolds (P g.names.number) (setting_on codes g)
-  setting-holds m codes g h k = record { codes = k; globals = h.globals }
-
-  state-holds : (m : ℕ) (g : PlainStage) → G m g → StateHolds own P g.names.number (state_on g)
-  state-holds m g h = record { up = omega arith; library = h.library; cells = h.cells }
-
-  -- with one more cell of variables
-  scope-holds : (m : ℕ) (g : PlainStage) (es : Entries) → G m g → EntriesHold (P g.names.number) es → StateHolds own P g.names.number (with_cell (cell.Scope es None) (state_on g))
-  scope-holds m g es h k = record { up = omega arith; library = h.library; cells = each_and (CellHolds (P g.names.number)) g.cells (cell.Scope es None) h.cells k }
-
-  codes-of-holds : (c : PlainCore) (m : ℕ) (g : PlainStage) → G m g → CoreHolds (P g.names.number) c → G m (with_codes_of c g)
-  codes-of-holds c m g h k = record { up = h.up; library = h.library; frames = h.frames; cells = h.cells; codes = codes-hold (P g.names.number) c g.codes h.codes k; globals = h.globals; keywords = h.keywords }
-
-  evaluate-holds : (place : Span) (c : PlainCore) (m : ℕ) (g : PlainStage) → G m g → CoreHolds (P g.names.number) c → GaveStage WithFuel m (evaluate place c g)
-  unfolding evaluate
-  evaluate-holds place c m g h k =
-      ended-holds place m (with_codes_of c g) (outcome_of c g) (codes-of-holds c m g h k)
-      (holds-eval own g.names.number P (rises-from g.names.number) (setting_on (with_codes c g.codes) g) (setting-holds m (with_codes c g.codes) g h (codes-hold (P g.names.number) c g.codes h.codes k))
-      c (next_place (state_on g)) (with_cell (cell.Scope [] None) (state_on g)) FUEL k (scope-holds m g [] h tt))
-
-  call-holds : (place : Span) (f x : Value) (m : ℕ) (g : PlainStage) → G m g → ValueHolds (P g.names.number) f → ValueHolds (P g.names.number) x → GaveStage WithFuel m (running.call place f x g)
-  unfolding running.call
-  call-holds place f x m g h k j =
-      ended-holds place m g (outcome_of_call f x g) h
-      (holds-call own g.names.number P (rises-from g.names.number) (setting_on g.codes g) (setting-holds m g.codes g h h.codes) (f ∷ x ∷ []) (state_on g) FUEL (state-holds m g h) (k, (j, tt)))
-
-  -- Libraries.
-
-  library-left : (r : LibRecord) (m : ℕ) (g : PlainStage) (new : run.State) (left : ℕ) → G m g → LinesHold (P g.names.number) r.run → StateHolds own P g.names.number new → G m (left_by_library r g new left)
-  library-left r m g new left h k j =
-      let up : (c : LeafContext) → P g.names.number c → P new.names.number c = rise own K J P lives g.names.number new.names.number j.up in
-      record {
-        up = omega (arith, h.up, j.up);
-        library = j.library;
-        frames = rows-wider (K g.names.number) (K new.names.number) (λ x i. lives.known g.names.number new.names.number x j.up i) g.frames h.frames;
-        cells = j.cells;
-        codes = line-codes (P new.names.number) r.run g.codes (codes_wider (P g.names.number) (P new.names.number) up g.codes h.codes) (lines_wider (P g.names.number) (P new.names.number) up r.run k);
-        globals = values-in (P new.names.number) (slice_get new.cells (length g.cells)) g.globals (globals_wider (P g.names.number) (P new.names.number) up g.globals h.globals) (each_at (CellHolds (P new.names.number)) new.cells (length g.cells) j.cells);
-        keywords = keywords-wider (P g.names.number) (P new.names.number) up g.keywords h.keywords;
-      }
-
-  library-ends : (place : Span) (r : LibRecord) (m : ℕ) (g : PlainStage) (o : Outcome) → G m g → LinesHold (P g.names.number) r.run → OutcomeHolds own P g.names.number o → GaveStage Done m (library_ended place r g o)
-  library-ends place r m g (done v new left) h k j = (library-left r m g new left h k j.0, tt)
-  library-ends place r m g (faulted f new left) h k j = tt
-  library-ends place r m g unfit h k j = tt
-
-  library-holds : (place : Span) (r : LibRecord) (m : ℕ) (g : PlainStage) → G m g → LinesHold (P g.names.number) r.run → GaveStage Done m (evaluate_library place r g)
-  unfolding evaluate_library
-  library-holds place r m g h k =
-      library-ends place r m g (outcome_of_lines r.run g) h k
-      (holds-lines own g.names.number P (rises-from g.names.number) (setting_on (with_lines r.run g.codes) g) (setting-holds m (with_lines r.run g.codes) g h (line-codes (P g.names.number) r.run g.codes h.codes k))
-      r.run (next_place (state_on g)) (with_cell (cell.Scope (defined r.run) None) (state_on g)) FUEL k (scope-holds m g (defined r.run) h (unset-defined (P g.names.number) r.run)))
-
   abbrev Rs : ℕ → List LibRecord → Type 0
-  Rs n rs = RecordsHold (P n) rs
+  Rs n rs = evaluated.Rs own K P running n rs
 
-  wanted-holds : (place : Span) (ks : List LibName) (r : LibRecord) (m : ℕ) (g : PlainStage) → G m g → LinesHold (P g.names.number) r.run → GaveStage Done m (evaluate_wanted place ks r g)
-  unfolding evaluate_wanted
-  wanted-holds place ks r m g h k =
-      stage-if Done m (has_library ks r.name) _ (give tt g) (stage-if Done m (has_library g.evaluated r.name) (give tt g) (evaluate_library place r g) (h, tt) (library-holds place r m g h k)) (h, tt)
+  pub stage-less : (m n : ℕ) (g : PlainStage) → m ≤ n → G n g → G m g
+  stage-less m n g le h = evaluated.stage-less own K P running m n g le h
 
-  all-hold : (place : Span) (ks : List LibName) (rs : List LibRecord) (m : ℕ) (g : PlainStage) → G m g → Rs g.names.number rs → GaveStage Done m (evaluate_all place ks rs g)
-  unfolding evaluate_all
-  all-hold place ks [] m g h k = (h, tt)
-  all-hold place ks (r ∷ rs) m g h k =
-      let here = stage-self m g h in
-      stage-less-gave m g (after (evaluate_wanted place ks r g) (λ _. evaluate_all place ks rs)) h
-      (stage-after Done Done g.names.number (evaluate_wanted place ks r g) (λ _. evaluate_all place ks rs) (wanted-holds place ks r g.names.number g here k.0)
-      (λ x t j i. all-hold place ks rs t.names.number t (stage-self g.names.number t j) (records-wider (P g.names.number) (P t.names.number) (rise own K J P lives g.names.number t.names.number j.up) rs k.1)))
-    where
-      stage-less-gave : (m : ℕ) (g : PlainStage) (r : Result (Unit {0} × PlainStage) Fault) → G m g → GaveStage Done g.names.number r → GaveStage Done m r
-      stage-less-gave m g (Ok p) h j = (stage-less m g.names.number p.1 h.up j.0, tt)
-      stage-less-gave m g (Err f) h j = tt
+  pub stage-self : (m : ℕ) (g : PlainStage) → G m g → G g.names.number g
+  stage-self m g h = evaluated.stage-self own K P running m g h
 
-  need-holds : (place : Span) (rs : List LibRecord) (c : PlainCore) (m : ℕ) (g : PlainStage) → G m g → Rs g.names.number rs → GaveStage Done m (need place rs c g)
-  unfolding need
-  need-holds place rs c m g h k = stage-if Done m (has_all g.evaluated (libraries_of c)) (give tt g) _ (h, tt) (all-hold place (wanted rs (libraries_of c)) rs m g h k)
-
-  -- Transformers.
-
-  only-holds : (place : Span) (v : Value) (m : ℕ) (g : PlainStage) → G m g → IsValue g.names.number v → GaveStage IsValue m (transformer_only place v g)
-  only-holds place v m g h k = stage-if IsValue m (is_transformer v) (give v g) _ (h, k) tt
-
-  transformer-holds : (place : Span) (rs : List LibRecord) (c : PlainCore) (m : ℕ) (g : PlainStage) → G m g → Rs g.names.number rs → CoreHolds (P g.names.number) c → GaveStage IsValue m (transformer place rs c g)
-  unfolding transformer
-  transformer-holds place rs c m g h k j =
-      less (after (need place rs c g) (λ _ t. after (evaluate place c t) (λ p. transformer_only place p.0)))
-      (stage-after Done IsValue g.names.number (need place rs c g) (λ _ t. after (evaluate place c t) (λ p. transformer_only place p.0)) (need-holds place rs c g.names.number g (stage-self m g h) k)
-      (λ x t i y. stage-after WithFuel IsValue t.names.number (evaluate place c t) (λ p. transformer_only place p.0)
-      (evaluate-holds place c t.names.number t (stage-self g.names.number t i) (core_wider (P g.names.number) (P t.names.number) (rise own K J P lives g.names.number t.names.number i.up) c j))
-      (λ p u a b. only-holds place p.0 u.names.number u (stage-self t.names.number u a) b)))
-    where
-      less : (r : Result (Value × PlainStage) Fault) → GaveStage IsValue g.names.number r → GaveStage IsValue m r
-      less (Ok p) i = (stage-less m g.names.number p.1 h.up i.0, i.1)
-      less (Err f) i = tt
-
-  keyword-put : (l : Label) (x : Keyword) (m : ℕ) (g : PlainStage) → G m g → KeywordHolds (P g.names.number) x → G m (with_keyword l x g)
-  keyword-put l x m g h k = record {
-    up = h.up;
-    library = h.library;
-    frames = h.frames;
-    cells = h.cells;
-    codes = h.codes;
-    globals = h.globals;
-    keywords = inserted-holds (KeywordHolds (P g.names.number)) same_label g.keywords l x h.keywords k;
-  }
-
-  pub begin-holds : (l : Label) (place : Span) (m : ℕ) (g : PlainStage) → G m g → GaveStage Done m (begin_keyword l place g)
-  unfolding begin_keyword
-  begin-holds l place m g h = (keyword-put l (keyword.Waiting place) m g h tt, tt)
-
-  -- from a stage on, a later one holds from an earlier name on
-  gave-less : {A : Type 0} (W : ℕ → A → Type 0) (m : ℕ) (g : PlainStage) (r : Result (A × PlainStage) Fault) → G m g → GaveStage W g.names.number r → GaveStage W m r
-  gave-less W m g (Ok p) h k = (stage-less m g.names.number p.1 h.up k.0, k.1)
-  gave-less W m g (Err f) h k = tt
-
-  pub finish-holds : (place : Span) (rs : List LibRecord) (l : Label) (c : PlainCore) (m : ℕ) (g : PlainStage) → G m g → Rs g.names.number rs → CoreHolds (P g.names.number) c → GaveStage Done m (finish_keyword place rs l c g)
-  unfolding finish_keyword
-  finish-holds place rs l c m g h k j =
-      gave-less Done m g (after (transformer place rs c g) (λ v t. give tt (with_keyword l (keyword.Kept (Some c) v) t))) h
-      (stage-after IsValue Done g.names.number (transformer place rs c g) (λ v t. give tt (with_keyword l (keyword.Kept (Some c) v) t)) (transformer-holds place rs c g.names.number g (stage-self m g h) k j)
-      (λ v t i x. (keyword-put l (keyword.Kept (Some c) v) t.names.number t (stage-self g.names.number t i) (core_wider (P g.names.number) (P t.names.number) (rise own K J P lives g.names.number t.names.number i.up) c j, x), tt)))
-
-  import-holds : (place : Span) (rs : List LibRecord) (l : Label) (e : Option PlainCore) (m : ℕ) (g : PlainStage) → G m g → Rs g.names.number rs → ExpressionHolds (P g.names.number) e → GaveStage IsValue m (import_keyword place rs l e g)
-  unfolding import_keyword
-  import-holds place rs l None m g h k j = tt
-  import-holds place rs l (Some c) m g h k j =
-      gave-less IsValue m g (after (transformer place rs c g) (λ v t. give v (with_keyword l (keyword.Kept None v) t))) h
-      (stage-after IsValue IsValue g.names.number (transformer place rs c g) (λ v t. give v (with_keyword l (keyword.Kept None v) t)) (transformer-holds place rs c g.names.number g (stage-self m g h) k j)
-      (λ v t i x. (keyword-put l (keyword.Kept None v) t.names.number t (stage-self g.names.number t i) (tt, x), x)))
-
-  value-or-holds : (place : Span) (rs : List LibRecord) (l : Label) (e : Option PlainCore) (o : Option Value) (m : ℕ) (g : PlainStage) → G m g → Rs g.names.number rs → ExpressionHolds (P g.names.number) e → OptionHolds (ValueHolds (P g.names.number)) o
-      → GaveStage IsValue m (value_or place rs l e o g)
-  value-or-holds place rs l e None m g h k j i = import-holds place rs l e m g h k j
-  value-or-holds place rs l e (Some v) m g h k j i = (h, i)
-
-  pub value-holds : (place : Span) (rs : List LibRecord) (l : Label) (e : Option PlainCore) (m : ℕ) (g : PlainStage) → G m g → Rs g.names.number rs → ExpressionHolds (P g.names.number) e → GaveStage IsValue m (keyword_value place rs l e g)
-  unfolding keyword_value
-  value-holds place rs l e m g h k j = by (keyword_at g.keywords l) (looked_up (KeywordHolds (P g.names.number)) (same_label l) g.keywords h.keywords)
-    where
-      by : (o : Option Keyword) → OptionHolds (KeywordHolds (P g.names.number)) o → GaveStage IsValue m (value_in o >>= λ x. value_or place rs l e x g)
-      by None i = value-or-holds place rs l e None m g h k j tt
-      by (Some (keyword.Waiting at)) i = tt
-      by (Some (keyword.Kept d v)) i = value-or-holds place rs l e (Some v) m g h k j i.1
-
-  abbrev pub Told : ℕ → Bool → Type 0
-  Told n b = Unit {0}
-
-  pub asks-holds : (place : Span) (rs : List LibRecord) (l : Label) (e : Option PlainCore) (m : ℕ) (g : PlainStage) → G m g → Rs g.names.number rs → ExpressionHolds (P g.names.number) e → GaveStage Told m (is_variable_transformer place rs l e g)
-  unfolding is_variable_transformer
-  asks-holds place rs l e m g h k j =
-      gave-less Told m g (after (keyword_value place rs l e g) (λ v. give (is_variable v))) h
-      (stage-after IsValue Told g.names.number (keyword_value place rs l e g) (λ v. give (is_variable v)) (value-holds place rs l e g.names.number g (stage-self m g h) k j) (λ v t i x. (stage-self g.names.number t i, tt)))
-
-  -- Uses.
-
-  procedure-in-holds : (n : ℕ) (cells : List Cell) (v : Value) → CellsHold (P n) cells → ValueHolds (P n) v → OptionHolds (ValueHolds (P n)) (procedure_in cells v)
-  procedure-in-holds n cells (value.Transformer place) h k = by (slice_get cells place.0) (each_at (CellHolds (P n)) cells place.0 h)
-    where
-      by : (o : Option Cell) → OptionHolds (CellHolds (P n)) o → OptionHolds (ValueHolds (P n)) (transformer_in o)
-      by None j = tt
-      by (Some (cell.Transformer x)) j = j
-      by (Some (cell.Pair x y)) j = tt
-      by (Some (cell.Vector xs)) j = tt
-      by (Some (cell.Str text)) j = tt
-      by (Some (cell.Scope es p)) j = tt
-      by (Some (cell.Binds bs p)) j = tt
-  procedure-in-holds n cells value.Unspecified h k = k
-  procedure-in-holds n cells (value.Atom x) h k = k
-  procedure-in-holds n cells (value.Symbol x) h k = k
-  procedure-in-holds n cells (value.Pair p) h k = k
-  procedure-in-holds n cells (value.Vector p) h k = k
-  procedure-in-holds n cells (value.Str p) h k = k
-  procedure-in-holds n cells (value.Closure c p) h k = k
-  procedure-in-holds n cells (value.Prim op) h k = k
-  procedure-in-holds n cells (value.Syn t) h k = k
-
-  called-holds : (place : Span) (t : Tree) (o : Option Value) (m : ℕ) (g : PlainStage) → G m g → IsTree g.names.number t → OptionHolds (ValueHolds (P g.names.number)) o → GaveStage WithFuel m (call_procedure place t o g)
-  called-holds place t None m g h k j = tt
-  called-holds place t (Some f) m g h k j = call-holds place f (value.Syn t) m g h j k
-
-  tree-at-holds : (place : Span) (m : ℕ) (g : PlainStage) (r : Reading Tree) → G m g → ReadHolds (P g.names.number) r → GaveStage IsTree m (tree_at place g r)
-  tree-at-holds place m g (Ok p) h k = (h, k)
-  tree-at-holds place m g (Err f) h k = tt
-
-  read-answer-holds : (place : Span) (x : Value × ℕ) (m : ℕ) (g : PlainStage) → G m g → WithFuel g.names.number x → GaveStage IsTree m (read_answer place x g)
-  unfolding read_answer
-  read-answer-holds place x m g h k = tree-at-holds place m g (to_syntax g.cells x.0 x.1) h (read-holds (P g.names.number) g.cells h.cells x.0 x.1 k)
-
-  transform-holds : (place : Span) (v : Value) (t : Tree) (m : ℕ) (g : PlainStage) → G m g → IsValue g.names.number v → IsTree g.names.number t → GaveStage IsTree m (transform place v t g)
-  unfolding transform
-  transform-holds place v t m g h k j =
-      gave-less IsTree m g (after (call_procedure place t (procedure_in g.cells v) g) (read_answer place)) h
-      (stage-after WithFuel IsTree g.names.number (call_procedure place t (procedure_in g.cells v) g) (read_answer place)
-      (called-holds place t (procedure_in g.cells v) g.names.number g (stage-self m g h) j (procedure-in-holds g.names.number g.cells v h.cells k))
-      (λ x u i y. read-answer-holds place x u.names.number u (stage-self g.names.number u i) y))
-
-  cut-holds : (count m : ℕ) (g : PlainStage) → G m g → G m (cut count g)
-  cut-holds count m g h = record { up = h.up; library = h.library; frames = h.frames; cells = each_taken (CellHolds (P g.names.number)) count g.cells h.cells; codes = h.codes; globals = h.globals; keywords = h.keywords }
-
-  transformed-holds : (place : Span) (v : Value) (t : Tree) (m : ℕ) (g : PlainStage) → G m g → IsValue g.names.number v → IsTree g.names.number t → GaveStage IsTree m (transform_and_cut place v t g)
-  unfolding transform_and_cut
-  transformed-holds place v t m g h k j =
-      gave-less IsTree m g (after (transform place v t g) (λ u new. give u (cut (length g.cells) new))) h
-      (stage-after IsTree IsTree g.names.number (transform place v t g) (λ u new. give u (cut (length g.cells) new)) (transform-holds place v t g.names.number g (stage-self m g h) k j)
-      (λ u new i x. (cut-holds (length g.cells) new.names.number new (stage-self g.names.number new i), x)))
-
-  marked-holds : (place : Span) (v : Value) (t : Tree) (f : Option FrameNo) (x : Mark) (m : ℕ) (g : PlainStage) → G m g → IsValue g.names.number v → IsTree g.names.number t → K g.names.number x → OptionHolds (J g.names.number) f
-      → GaveStage IsTree m (transform_marked place v t f x g)
-  unfolding transform_marked
-  marked-holds place v t f x m g h k j i q =
-      gave-less IsTree m g (after (transform_and_cut place v (enter x t) g) (λ u. give (leave x f u))) h
-      (stage-after IsTree IsTree g.names.number (transform_and_cut place v (enter x t) g) (λ u. give (leave x f u))
-      (transformed-holds place v (enter x t) g.names.number g (stage-self m g h) k (enter-holds own K J P lives g.names.number x t i j))
-      (λ u new a b. (stage-self g.names.number new a, leave-holds own K J P lives new.names.number x f u (lives.known g.names.number new.names.number x a.up i) (frame-up own K J P lives g.names.number new.names.number a.up f q) b)))
-
-  -- the mark of the name that is taken
-  taken-mark : (n : Named) (k : ℕ) → n.library ≡ own → n.number < k → K k (record { 0 = n })
-  taken-mark n k e lt = subst (λ (l : LibName). K k (record { 0 = record { library = l; number = n.number } })) (sym e) (lives.taken n.number k lt)
-
-  -- with names taken
   pub renamed-stage : (m : ℕ) (g : PlainStage) (n : Named) → G m g → n.library ≡ own → g.names.number ≤ n.number → G m (record g { names = n })
-  renamed-stage m g n h e le = record {
-    up = omega (arith, h.up, le);
-    library = e;
-    frames = rows-wider (K g.names.number) (K n.number) (λ x i. lives.known g.names.number n.number x le i) g.frames h.frames;
-    cells = cells_wider (P g.names.number) (P n.number) (rise own K J P lives g.names.number n.number le) g.cells h.cells;
-    codes = codes_wider (P g.names.number) (P n.number) (rise own K J P lives g.names.number n.number le) g.codes h.codes;
-    globals = globals_wider (P g.names.number) (P n.number) (rise own K J P lives g.names.number n.number le) g.globals h.globals;
-    keywords = keywords-wider (P g.names.number) (P n.number) (rise own K J P lives g.names.number n.number le) g.keywords h.keywords;
-  }
+  renamed-stage m g n h e le = evaluated.renamed-stage own K P running m g n h e le
 
   pub next-holds : (m : ℕ) (g : PlainStage) → G m g → G m (record g { names = name_after g.names })
-  next-holds m g h = renamed-stage m g (name_after g.names) h h.library (omega arith)
+  next-holds m g h = evaluated.next-holds own K P running m g h
+
+  pub value-holds : (place : Span) (rs : List LibRecord) (l : Label) (e : Option PlainCore) (m : ℕ) (g : PlainStage) → G m g → Rs g.names.number rs → ExpressionHolds (P g.names.number) e → GaveStage IsValue m (keyword_value place rs l e g)
+  value-holds place rs l e m g h k j = evaluated.value-holds own K P running place rs l e m g h k j
+
+  pub asks-holds : (place : Span) (rs : List LibRecord) (l : Label) (e : Option PlainCore) (m : ℕ) (g : PlainStage) → G m g → Rs g.names.number rs → ExpressionHolds (P g.names.number) e → GaveStage Told m (is_variable_transformer place rs l e g)
+  asks-holds place rs l e m g h k j = evaluated.asks-holds own K P running place rs l e m g h k j
+
+  pub begin-holds : (l : Label) (place : Span) (m : ℕ) (g : PlainStage) → G m g → GaveStage Done m (begin_keyword l place g)
+  begin-holds l place m g h = evaluated.begin-holds own K P running l place m g h
+
+  pub finish-holds : (place : Span) (rs : List LibRecord) (l : Label) (c : PlainCore) (m : ℕ) (g : PlainStage) → G m g → Rs g.names.number rs → CoreHolds (P g.names.number) c → GaveStage Done m (finish_keyword place rs l c g)
+  finish-holds place rs l c m g h k j = evaluated.finish-holds own K P running place rs l c m g h k j
+
+  -- Uses. While the transformer of one runs, there is on the stage what may be met in it.
+
+  running-in : (m : ℕ) → Runs own K (In own K J P lives m)
+  running-in m = record { rises = in-rises own K J P lives m; known = lives.known }
+
+  abbrev GIn : ℕ → ℕ → PlainStage → Type 0
+  GIn m low g = StageHolds own K (In own K J P lives m) low g
+
+  begins-in : (low : ℕ) (g : PlainStage) → G low g → GIn g.names.number (g.names.number + 1) (record g { names = name_after g.names })
+  begins-in low g h =
+      let n = g.names.number in
+      let there : (c : LeafContext) → P n c → In own K J P lives n (n + 1) c = there-in own K J P lives n (n + 1) (omega arith) in
+      record {
+        up = omega arith;
+        library = h.library;
+        frames = rows-wider (K n) (K (n + 1)) (λ x i. lives.known n (n + 1) x (omega arith) i) g.frames h.frames;
+        cells = cells_wider (P n) (In own K J P lives n (n + 1)) there g.cells h.cells;
+        codes = codes_wider (P n) (In own K J P lives n (n + 1)) there g.codes h.codes;
+        globals = globals_wider (P n) (In own K J P lives n (n + 1)) there g.globals h.globals;
+        keywords = keywords-wider (P n) (In own K J P lives n (n + 1)) there g.keywords h.keywords;
+      }
+
+  ends-in : (m low : ℕ) (g : PlainStage) → m < low → GIn m low g → G low g
+  ends-in m low g lt h =
+      let n = g.names.number in
+      let up = h.up in
+      let out : (c : LeafContext) → In own K J P lives m n c → P n c = out-of own K J P lives m n (omega (arith, lt, up)) in
+      record {
+        up = h.up;
+        library = h.library;
+        frames = h.frames;
+        cells = cells_wider (In own K J P lives m n) (P n) out g.cells h.cells;
+        codes = codes_wider (In own K J P lives m n) (P n) out g.codes h.codes;
+        globals = globals_wider (In own K J P lives m n) (P n) out g.globals h.globals;
+        keywords = keywords-wider (In own K J P lives m n) (P n) out g.keywords h.keywords;
+      }
+
+  -- what the transformer gave, and the stage then
+  abbrev GaveIn : ℕ → ℕ → Result (Tree × PlainStage) Fault → Type 0
+  GaveIn m low r = evaluated.GaveStage own K (In own K J P lives m) (running-in m) (λ n t. TreeHolds (In own K J P lives m n) t) low r
+
+  left-in : (m : ℕ) (f : Option FrameNo) (r : Result (Tree × PlainStage) Fault) → OptionHolds (J (m + 1)) f → GaveIn m (m + 1) r
+      → GaveStage IsTree (m + 1) (after r (λ u. give (leave (mark_named own m) f u)))
+  left-in m f (Ok p) j h =
+      let up = h.0.up in (
+        ends-in m (m + 1) p.1 (omega arith) h.0,
+        leave-holds own K J P lives m p.1.names.number f p.0 (omega (arith, up)) (frame-up own K J P lives (m + 1) p.1.names.number up f j) h.1,
+      )
+  left-in m f (Err e) j h = tt
+
+  marked-holds : (place : Span) (v : Value) (t : Tree) (f : Option FrameNo) (low : ℕ) (g : PlainStage) → G low g → IsValue g.names.number v → IsTree g.names.number t → OptionHolds (J (g.names.number + 1)) f
+      → GaveStage IsTree (g.names.number + 1) (transform_marked place v t f (mark_named own g.names.number) (record g { names = name_after g.names }))
+  unfolding transform_marked
+  marked-holds place v t f low g h k i q =
+      let m = g.names.number in
+      let next : PlainStage = record g { names = name_after g.names } in
+      left-in m f (transform_and_cut place v (enter (mark_named own m) t) next) q
+      (transformed-holds own K (In own K J P lives m) (running-in m) place v (enter (mark_named own m) t) (m + 1) next (begins-in low g h)
+      (value_wider (P m) (In own K J P lives m (m + 1)) (there-in own K J P lives m (m + 1) (omega arith)) v k) (enter-holds own K J P lives m (m + 1) t (omega arith) i))
+
+  -- the next name is one of the library
+  marked-next : (place : Span) (v : Value) (t : Tree) (f : Option FrameNo) (low : ℕ) (g : PlainStage) → G low g → IsValue g.names.number v → IsTree g.names.number t → OptionHolds (J (g.names.number + 1)) f
+      → GaveStage IsTree (g.names.number + 1) (transform_marked place v t f (record { 0 = g.names }) (record g { names = name_after g.names }))
+  marked-next place v t f low g h k i q =
+      subst (λ (l : LibName). GaveStage IsTree (g.names.number + 1) (transform_marked place v t f (record { 0 = record { library = l; number = g.names.number } }) (record g { names = name_after g.names })))
+      (sym h.library) (marked-holds place v t f low g h k i q)
 
   pub used-holds : (place : Span) (rs : List LibRecord) (t : Tree) (l : Label) (e : Option PlainCore) (f : Option FrameNo) (m : ℕ) (g : PlainStage) → G m g → Rs g.names.number rs → ExpressionHolds (P g.names.number) e → IsTree g.names.number t → OptionHolds (J g.names.number) f
       → GaveStage IsTree m (used place rs t l e f g)
   unfolding used
   used-holds place rs t l e f m g h k j i q =
-      gave-less IsTree m g (after (keyword_value place rs l e g) (λ v u. after (fresh_mark u) (transform_marked place v t f))) h
-      (stage-after IsValue IsTree g.names.number (keyword_value place rs l e g) (λ v u. after (fresh_mark u) (transform_marked place v t f)) (value-holds place rs l e g.names.number g (stage-self m g h) k j)
+      evaluated.gave-less own K P running IsTree m g (after (keyword_value place rs l e g) (λ v u. after (fresh_mark u) (transform_marked place v t f))) h
+      (evaluated.stage-after own K P running IsValue IsTree g.names.number (keyword_value place rs l e g) (λ v u. after (fresh_mark u) (transform_marked place v t f)) (value-holds place rs l e g.names.number g (stage-self m g h) k j)
       (λ v u a b.
       let n = u.names.number in
-      let next : PlainStage = record u { names = name_after u.names } in
-      marked-holds place v t f (record { 0 = u.names }) n next (next-holds n u (stage-self g.names.number u a))
-      (value_wider (P n) (P (n + 1)) (rise own K J P lives n (n + 1) (omega arith)) v b)
-      (tree_wider (P g.names.number) (P (n + 1)) (rise own K J P lives g.names.number (n + 1) (omega (arith, a.up))) t i)
-      (taken-mark u.names (n + 1) a.library (omega arith)) (frame-up own K J P lives g.names.number (n + 1) (omega (arith, a.up)) f q)))
+      less IsTree n (transform_marked place v t f (record { 0 = u.names }) (record u { names = name_after u.names }))
+      (marked-next place v t f g.names.number u a b
+      (tree_wider (P g.names.number) (P n) (rise own K J P lives g.names.number n a.up) t i) (let up = a.up in frame-up own K J P lives g.names.number (n + 1) (omega (arith, up)) f q))))
+    where
+      less : (W : ℕ → Tree → Type 0) (n : ℕ) (r : Result (Tree × PlainStage) Fault) → GaveStage W (n + 1) r → GaveStage W n r
+      less W n (Ok p) x = (stage-less n (n + 1) p.1 (omega arith) x.0, x.1)
+      less W n (Err e) x = tt

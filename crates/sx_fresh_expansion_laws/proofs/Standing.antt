@@ -1,5 +1,5 @@
 -- What binds, uses and compiles in an expansion keeps that all in its state may be met.
-use Rattle.std.proofs.Common.{◌≤◌, ◌+◌, ℕ, Bool, true, false, List, [], ◌∷◌, ◌++◌, length, Option, None, Some, Result, Ok, Err, sym, arith, subst, if◌then◌else◌}
+use Rattle.std.proofs.Common.{◌≤◌, ◌<◌, ◌+◌, ℕ, Bool, true, false, List, [], ◌∷◌, ◌++◌, length, Option, None, Some, Result, Ok, Err, sym, arith, subst, if◌then◌else◌}
 use Rattle.sx_base.specs.Act.{after, give, each, gather}
 use Rattle.sx_base.specs.Named.{Named}
 use Rattle.sx_base.specs.declared.fault.Bare.{Bare}
@@ -12,7 +12,6 @@ use Rattle.sx_base.specs.declared.span.Span.{Span}
 use Rattle.sx_tree.specs.Changes.{enter, leave}
 use Rattle.sx_tree.specs.Context.{LeafContext, blank}
 use Rattle.sx_tree.specs.Tree.{Tree}
-use Rattle.sx_tree.specs.declared.change.Change.TheVariants as change
 use Rattle.sx_frames.specs.Scope.{Scope, bound}
 use Rattle.sx_scope.specs.Stands.{row_for}
 use Rattle.sx_core.specs.Bindings.{bound_to}
@@ -47,6 +46,7 @@ use Rattle.sx_standing.specs.Uses.{macro_expression, use_keyword, asks_variable,
 use Rattle.sx_standing.specs.declared.binders.BoundSpec.{BoundSpec}
 use Rattle.sx_template.specs.Compile as templates
 use Rattle.sx_value.specs.Cells.{Each}
+use Rattle.sx_fresh_laws.specs.Below.{mark_named}
 use Rattle.sx_fresh_laws.specs.Leaves.{TreeHolds, CoreHolds, TemplateHolds, PatternHolds}
 use Rattle.sx_fresh_laws.specs.Leaves.{OptionHolds}
 use Rattle.sx_fresh_laws.proofs.Eachs.{each_and, each_mapped}
@@ -55,11 +55,12 @@ use Rattle.sx_fresh_laws.proofs.Variables.{looked_up}
 use Rattle.sx_fresh_laws.proofs.Wider.{tree_wider, core_wider}
 use Rattle.sx_fresh_expansion_laws.specs.Living.{Lives, RowsHold}
 use Rattle.sx_fresh_expansion_laws.specs.States.{ExpressionHolds, BindingHolds, BindingsHold, RecordsHold, StateHolds}
-use Rattle.sx_fresh_expansion_laws.proofs.Changing.{rise, bound-holds, enter-holds, leave-holds, frame-up, row-marks}
+use Rattle.sx_fresh_expansion_laws.proofs.Changing.{In, rise, bound-holds, there-in, enter-holds, leave-holds, frame-up, row-marks}
+use Rattle.sx_fresh_expansion_laws.proofs.Runs.{records-wider, expression-wider}
 use Rattle.sx_fresh_expansion_laws.proofs.Patterns.{VariableHolds, GaveBy, CompiledFrom, compiled-holds}
 use Rattle.sx_fresh_expansion_laws.proofs.Records.{record-holds}
 use Rattle.sx_fresh_expansion_laws.proofs.Shapes.{FormalsHold, SpecHolds}
-use Rattle.sx_fresh_expansion_laws.proofs.Stages.{GaveStage, stage-less, stage-self, records-wider, expression-wider, renamed-stage, next-holds, begin-holds, finish-holds, asks-holds, used-holds}
+use Rattle.sx_fresh_expansion_laws.proofs.Stages.{GaveStage, stage-less, stage-self, renamed-stage, next-holds, begin-holds, finish-holds, asks-holds, used-holds}
 use Rattle.sx_fresh_expansion_laws.proofs.Templates as of_templates
 
 binding-wider : (P Q : LeafContext → Type 0) → ((c : LeafContext) → P c → Q c) → (b : Binding) → BindingHolds P b → BindingHolds Q b
@@ -340,13 +341,19 @@ module _ (own : LibName) (K : ℕ → Mark → Type 0) (J : ℕ → FrameNo → 
   read-at n = up 0 n (omega arith) blank lives.read
 
   by-records-at : (n : ℕ) → P n (record { marks = []; stamps = record { frame = core_frame; marks = [] } ∷ [] })
-  by-records-at n = lives.changed n (change.Stamp core_frame) blank (lives.frames 0 n core_frame (omega arith) lives.introduced) (read-at n)
+  by-records-at n = lives.stamped n core_frame blank (lives.frames 0 n core_frame (omega arith) lives.introduced) (read-at n)
 
-  record-tree-holds : (place : Span) (t : Tree) (f : CoreForm) (count : ℕ) (s : State) → F s → T s.names.number t → Gave T s (record_tree place t f count s)
+  -- in a use with the mark of the name of number m
+  record-tree-holds : (m : ℕ) (place : Span) (t : Tree) (f : CoreForm) (count : ℕ) (s : State) → m < s.names.number → F s → TreeHolds (In own K J P lives m s.names.number) t
+      → Gave (λ n x. TreeHolds (In own K J P lives m n) x) s (record_tree place t f count s)
   unfolding record_tree
-  record-tree-holds place t f count s h k = by (record_forms s.frames t f place (record_uid s.library t count)) (record-holds (P s.names.number) (read-at s.names.number) (by-records-at s.names.number) s.frames t f place (record_uid s.library t count) k)
+  record-tree-holds m place t f count s lt h k =
+      by (record_forms s.frames t f place (record_uid s.library t count)) (record-holds (In own K J P lives m s.names.number) (there blank (read-at m)) (there _ (by-records-at m)) s.frames t f place (record_uid s.library t count) k)
     where
-      by : (r : Result Tree Fault) → OkHolds (T s.names.number) r → Gave T s (at_state s r)
+      there : (c : LeafContext) → P m c → In own K J P lives m s.names.number c
+      there = there-in own K J P lives m s.names.number (omega (arith, lt))
+
+      by : (r : Result Tree Fault) → OkHolds (TreeHolds (In own K J P lives m s.names.number)) r → Gave (λ n x. TreeHolds (In own K J P lives m n) x) s (at_state s r)
       by (Ok u) j = (state-self s h, j)
       by (Err e) j = tt
 
@@ -358,13 +365,19 @@ module _ (own : LibName) (K : ℕ → Mark → Type 0) (J : ℕ → FrameNo → 
       by true = (let i = state-self s h in record { stage = i.stage; bindings = i.bindings }, tt)
       by false = (state-self s h, tt)
 
-  record-marked-holds : (place : Span) (t : Tree) (f : CoreForm) (frame : Option FrameNo) (m : Mark) (s : State) → F s → T s.names.number t → K s.names.number m → OptionHolds (J s.names.number) frame → Gave T s (record_marked place t f frame m s)
+  record-marked-holds : (m : ℕ) (place : Span) (t : Tree) (f : CoreForm) (frame : Option FrameNo) (s : State) → m < s.names.number → F s → TreeHolds (P m) t → OptionHolds (J s.names.number) frame
+      → Gave T s (record_marked place t f frame (mark_named own m) s)
   unfolding record_marked
-  record-marked-holds place t f frame m s h k j q =
+  record-marked-holds m place t f frame s lt h k q =
+      let x : Mark = mark_named own m in
       gave-after Taken T s (count_record_type f s) _ (count-holds f s h)
-      (λ n u i y. gave-after T T u (record_tree place (enter m t) f n u) (λ v. give (leave m frame v))
-      (record-tree-holds place (enter m t) f n u (state-then s u h i) (tree-up s.names.number u.names.number i.stage.up (enter m t) (enter-holds own K J P lives s.names.number m t j k)))
-      (λ v w g x. (state-self w (state-then u w (state-then s u h i) g), leave-holds own K J P lives w.names.number m frame v (lives.known s.names.number w.names.number m (omega (arith, i.stage.up, g.stage.up)) j) (frame-up own K J P lives s.names.number w.names.number (omega (arith, i.stage.up, g.stage.up)) frame q) x)))
+      (λ n u i y.
+      let low : m < u.names.number = let up = i.stage.up in omega (arith, lt, up) in
+      gave-after (λ n v. TreeHolds (In own K J P lives m n) v) T u (record_tree place (enter x t) f n u) (λ v. give (leave x frame v))
+      (record-tree-holds m place (enter x t) f n u low (state-then s u h i) (enter-holds own K J P lives m u.names.number t (omega (arith, low)) k))
+      (λ v w g z.
+      let up = g.stage.up in
+      (state-self w (state-then u w (state-then s u h i) g), leave-holds own K J P lives m w.names.number frame v (omega (arith, low, up)) (frame-up own K J P lives s.names.number w.names.number (omega (arith, i.stage.up, up)) frame q) z)))
 
   pub use-record-holds : (place : Span) (t : Tree) (f : CoreForm) (frame : Option FrameNo) (s : State) → F s → T s.names.number t → OptionHolds (J s.names.number) frame → Gave T s (use_record place t f frame s)
   unfolding use_record fresh
@@ -372,8 +385,8 @@ module _ (own : LibName) (K : ℕ → Mark → Type 0) (J : ℕ → FrameNo → 
       let u : State = record s { names = record { library = s.names.library; number = s.names.number + 1 } } in
       let i = counted-holds s h in
       gave-from T s u (record_marked place t f frame (record { 0 = s.names }) u) i
-      (record-marked-holds place t f frame (record { 0 = s.names }) u (state-then s u h i) (tree-up s.names.number (s.names.number + 1) (omega arith) t k)
-      (subst (λ (l : LibName). K (s.names.number + 1) (record { 0 = record { library = l; number = s.names.number } })) (sym h.stage.library) (lives.taken s.names.number (s.names.number + 1) (omega arith))) (frame-up own K J P lives s.names.number (s.names.number + 1) (omega arith) frame q))
+      (subst (λ (l : LibName). Gave T u (record_marked place t f frame (record { 0 = record { library = l; number = s.names.number } }) u)) (sym h.stage.library)
+      (record-marked-holds s.names.number place t f frame u (omega arith) (state-then s u h i) k (frame-up own K J P lives s.names.number (s.names.number + 1) (omega arith) frame q)))
 
   -- Templates and patterns.
 

@@ -7,3 +7,4 @@ pub mod Made
 pub mod History
 pub mod Keeping
 pub mod RecordMarks
+pub mod Events

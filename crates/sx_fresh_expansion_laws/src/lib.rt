@@ -17,13 +17,14 @@
 //! stamps of each leaf name frames that were made, as the laws of `sx_expand_laws` on what an identifier stands for
 //! ask. What goes into the record has only such marks and frames, so that the next library begins as this one did.
 //!
-//! `specs/Living` says what may be met on leaves, `specs/Known` and `specs/History` what it is in the laws, and
-//! `specs/States` and `specs/Forms` what holds of states and forms then; `specs/Uses`, `specs/Keeping`, `specs/Made`
-//! and `specs/RecordMarks` have the laws.
+//! `specs/Living` says what may be met on leaves, `specs/Known`, `specs/History` and `specs/Events` what it is in the
+//! laws, and `specs/States` and `specs/Forms` what holds of states and forms then; `specs/Uses`, `specs/Keeping`,
+//! `specs/Made`, `specs/Events` and `specs/RecordMarks` have the laws.
 //!
 //! Here are no calls to make: each function stands for the law that it ensures.
 #![tactic(auto)]
 
+ghost use Rattle.sx_fresh_expansion_laws.specs.Events.{EventsStay};
 ghost use Rattle.sx_fresh_expansion_laws.specs.Keeping.{HistoriesStay, MarksStayKnown};
 ghost use Rattle.sx_fresh_expansion_laws.specs.Made.{StampsAreMade};
 ghost use Rattle.sx_fresh_expansion_laws.specs.RecordMarks.{RecordsHaveOwnMarks, StartsAreKnown};
@@ -52,6 +53,11 @@ pub fn stamps_are_made()
 /// Each leaf that expansion comes to is what it was made as, then entered, left and stamped with what was there before.
 pub fn histories_stay()
     ensures { HistoriesStay }
+{}
+
+/// Each leaf that expansion comes to is what it was made as, then stamped and introduced by uses, by none of them twice.
+pub fn events_stay()
+    ensures { EventsStay }
 {}
 
 /// The marks and frames in a record are of its library's names, or of those of libraries before it.

@@ -1,5 +1,5 @@
 -- What a call of `apply` gives: what the call that it stands for gives.
-use Rattle.std.proofs.Common.{◌≡◌, ◌<◌, ◌+◌, ◌-◌, ℕ, zero, suc, List, [], ◌∷◌, ◌++◌, Option, Some, None, Ok, length, length-append, refl, ap, sym, ◌∙◌, inl, inr, arith}
+use Rattle.std.proofs.Common.{◌≡◌, ◌<◌, ◌+◌, ◌-◌, ℕ, zero, suc, List, [], ◌∷◌, ◌++◌, Option, Some, None, length, length-append, refl, ap, sym, ◌∙◌, inl, inr, arith}
 use Rattle.sx_value.specs.declared.value.Value.{Value}
 use Rattle.sx_value.specs.declared.value.Value.TheVariants as value
 use Rattle.sx_prims.specs.Chains.{list_elements}
@@ -80,9 +80,6 @@ module _ (w : PlainSetting) (f : Value) (front xs : List Value) (l : Value) (s :
     where
       by : (left : ℕ) → call_of w (value.Prim (record { 0 = APPLY })) (f ∷ (front ++ l ∷ [])) s (left + (h.0 + length xs)) ≡ ended r t left
       by left = applies (left + (h.0 + length xs)) (left + h.0) (omega arith) has ∙ h.1 left
-
-  pub apply-called : (v : Value) (t : State) → list_elements s.cells l ≡ Some xs → Calls w f (front ++ xs) s v t → Calls w (value.Prim (record { 0 = APPLY })) (f ∷ (front ++ l ∷ [])) s v t
-  apply-called v t has h = apply-ends (Ok v) t has h
 
   -- where the last argument has no elements, the call itself
   pub apply-none : list_elements s.cells l ≡ Some xs → xs ≡ [] → (v : Value) (t : State) → Calls w (value.Prim (record { 0 = APPLY })) (f ∷ (front ++ l ∷ [])) s v t → Calls w f (front ++ xs) s v t

@@ -165,11 +165,6 @@ module _ (w : PlainSetting) where
       call-ends c (more d (more e (more a none))) scope s t o f r g
       (operand-ends d (more e (more a none)) scope (f ∷ []) t u o x r h (operand-ends e (more a none) scope (f ∷ x ∷ []) u q o y r j (operand-ends a none scope (f ∷ x ∷ y ∷ []) q p o z r i k)))
 
-  pub call-three : (c d e a : PlainCore) (scope : Place) (s t u q p r : State) (f x y z v : Value)
-      → Evaluates c scope s f t → Evaluates d scope t x u → Evaluates e scope u y q → Evaluates a scope q z p → Calls w f (x ∷ y ∷ z ∷ []) p v r
-      → Evaluates (call c (more d (more e (more a none)))) scope s v r
-  call-three c d e a scope s t u q p r f x y z v g h j i k = call-three-ends c d e a scope s t u q p r f x y z (Ok v) g h j i k
-
   pub call-four-ends : (c d e a b : PlainCore) (scope : Place) (s t u q p o l : State) (f x y z k : Value) (r : End)
       → Evaluates c scope s f t → Evaluates d scope t x u → Evaluates e scope u y q → Evaluates a scope q z p → Evaluates b scope p k o → CallEnds w f (x ∷ y ∷ z ∷ k ∷ []) o r l
       → ExpressionEnds (call c (more d (more e (more a (more b none))))) scope s r l

@@ -23,9 +23,7 @@ use Rattle.sx_given_laws.specs.Calls.{Gives, call_of, Calls}
 use Rattle.sx_given_laws.specs.Codes.{prim, cons}
 use Rattle.sx_given_laws.proofs.Giving.{gives-same, Evaluates, primitive-is}
 use Rattle.sx_given_laws.proofs.Calling.{called-at-once, not-apply}
-use Rattle.sx_given_laws.proofs.Enough.{enough-least, enough-by, some-fuel}
-use Rattle.sx_given_laws.proofs.Applying.{applies}
-use Rattle.sx_prims.specs.Chains.{list_elements}
+use Rattle.sx_given_laws.proofs.Enough.{enough-least, enough-by}
 use Rattle.sx_given_laws.proofs.Primitives.{next_pair, cons-called}
 use Rattle.sx_given_laws.proofs.Unique.{gives-one-value, gives-one-state}
 
@@ -149,43 +147,12 @@ module _ (w : PlainSetting) where
   sequence-back c d scope s v t g =
       parted (eval_of w c scope s) (λ x. in_sequence w (eval_of w) (more d none) scope) v t (steady c scope s) (expressed-gives (sequence (more c (more d none))) scope s v t g)
 
-  pub call-three-back : (c d e a : PlainCore) (scope : Place) (s t u q p o : State) (f x y z v : Value)
-      → Evaluates w c scope s f t → Evaluates w d scope t x u → Evaluates w e scope u y q → Evaluates w a scope q z p
-      → Evaluates w (call c (more d (more e (more a none)))) scope s v o → Calls w f (x ∷ y ∷ z ∷ []) p v o
-  call-three-back c d e a scope s t u q p o f x y z v g h i j given =
-      known-first (eval_of w a scope q) (λ r. operands w (eval_of w) none scope ((f ∷ x ∷ y ∷ []) ++ r ∷ [])) v z o p (steady a scope q) j
-      (known-first (eval_of w e scope u) (λ r. operands w (eval_of w) (more a none) scope ((f ∷ x ∷ []) ++ r ∷ [])) v y o q (steady e scope u) i
-      (known-first (eval_of w d scope t) (λ r. operands w (eval_of w) (more e (more a none)) scope ((f ∷ []) ++ r ∷ [])) v x o u (steady d scope t) h
-      (known-first (eval_of w c scope s) (λ r. operands w (eval_of w) (more d (more e (more a none))) scope (r ∷ [])) v f o t (steady c scope s) g
-      (expressed-gives (call c (more d (more e (more a none)))) scope s v o given))))
-
   -- the one operand gave a value, and the call on that the value of all
   pub argument-back : (c d : PlainCore) (scope : Place) (s t : State) (f v : Value) (q : State) → Evaluates w c scope s f t → Evaluates w (call c (more d none)) scope s v q
       → Parted (eval_of w d scope t) (λ r. operands w (eval_of w) none scope ((f ∷ []) ++ r ∷ [])) v q
   argument-back c d scope s t f v q h given =
       parted (eval_of w d scope t) (λ r. operands w (eval_of w) none scope ((f ∷ []) ++ r ∷ [])) v q (steady d scope t)
       (known-first (eval_of w c scope s) (λ r. operands w (eval_of w) (more d none) scope (r ∷ [])) v f q t (steady c scope s) h (expressed-gives (call c (more d none)) scope s v q given))
-
-  -- the second of three operands likewise, where what comes before it is known
-  pub second-back : (c d e a : PlainCore) (scope : Place) (s t u : State) (f x v : Value) (q : State) → Evaluates w c scope s f t → Evaluates w d scope t x u
-      → Evaluates w (call c (more d (more e (more a none)))) scope s v q → Parted (eval_of w e scope u) (λ r. operands w (eval_of w) (more a none) scope ((f ∷ x ∷ []) ++ r ∷ [])) v q
-  second-back c d e a scope s t u f x v q g h given =
-      parted (eval_of w e scope u) (λ r. operands w (eval_of w) (more a none) scope ((f ∷ x ∷ []) ++ r ∷ [])) v q (steady e scope u)
-      (known-first (eval_of w d scope t) (λ r. operands w (eval_of w) (more e (more a none)) scope ((f ∷ []) ++ r ∷ [])) v x q u (steady d scope t) h
-      (known-first (eval_of w c scope s) (λ r. operands w (eval_of w) (more d (more e (more a none))) scope (r ∷ [])) v f q t (steady c scope s) g
-      (expressed-gives (call c (more d (more e (more a none)))) scope s v q given)))
-
-  -- and the call behind the last, which is known
-  pub last-back : (a : PlainCore) (scope : Place) (u p q : State) (f x y z v : Value) → Evaluates w a scope u z p
-      → Gives (operands w (eval_of w) (more a none) scope ((f ∷ x ∷ []) ++ y ∷ []) u) v q → Calls w f (x ∷ y ∷ z ∷ []) p v q
-  last-back a scope u p q f x y z v h given =
-      known-first (eval_of w a scope u) (λ r. operands w (eval_of w) none scope ((f ∷ x ∷ y ∷ []) ++ r ∷ [])) v z q p (steady a scope u) h given
-
-  -- the call that a call of `apply` stood for
-  pub apply-back : (f : Value) (front xs : List Value) (l : Value) (s : State) (v : Value) (t : State) → list_elements s.cells l ≡ Some xs
-      → Calls w (value.Prim (record { 0 = APPLY })) (f ∷ (front ++ l ∷ [])) s v t → Calls w f (front ++ xs) s v t
-  apply-back f front xs l s v t has g =
-      some-fuel w f (front ++ xs) s g.0 (length xs) v t (sym (applies w f front xs l s (length xs + g.0) g.0 (omega arith) has) ∙ g.1 (length xs))
 
   -- a pair is made of what its parts gave
   pub record Consed (c d : PlainCore) (scope : Place) (s : State) (v : Value) (t : State) : Type 0 where

@@ -12,7 +12,7 @@ use Rattle.sx_eval_laws.proofs.Keeping.{keeps-call}
 use Rattle.sx_list_laws.specs.Runs.{IsList}
 use Rattle.sx_list_laws.proofs.RunLemmas.{runs_still}
 use Rattle.sx_given_laws.specs.Calls.{End, Ends, call_of, CallEnds, Calls}
-use Rattle.sx_given_laws.specs.InTurn.{InTurn, no_call, one_call, Stops, stops_here, stops_behind, AllGive, AllEnd, Search, not_there, passed, there, SearchGives, SearchStops, search_stops, search_goes_on, SearchEnds, FoldLeft, left_end, left_step, FoldLeftGives, FoldRight, right_end, right_step, FoldRightGives, ForAll, all_none, all_last, all_but, all_so_far, ForAllGives, Exists, some_none, some_last, some_here, some_behind}
+use Rattle.sx_given_laws.specs.InTurn.{InTurn, no_call, one_call, Stops, stops_here, stops_behind, AllGive, AllEnd, Search, not_there, passed, there, SearchGives, SearchStops, search_stops, search_goes_on, SearchEnds}
 use Rattle.sx_given_laws.proofs.Looking.{later-stay}
 
 pub later-refl : (s : State) → Later s s
@@ -61,38 +61,6 @@ module _ (w : PlainSetting) (f : Value) where
   pub search-gives-later : (xs : List Value) (s t : State) → Later s t → SearchGives w f xs s → SearchGives w f xs t
   search-gives-later [] s t k g = tt
   search-gives-later (x ∷ xs) s t k g = λ u h. g u (later-then s t u k h)
-
-  pub fold-from : (z : Value) (xs : List Value) (v : Value) (r s t : State) → Later r s → FoldLeft w f z xs s v t → FoldLeft w f z xs r v t
-  fold-from z xs v r s t k (left_end h) = left_end (later-then r s t k h)
-  fold-from z xs v r s t k (left_step {t = u} h c i) = left_step (later-then r s u k h) c i
-
-  pub fold-gives-later : (z : Value) (xs : List Value) (s t : State) → Later s t → FoldLeftGives w f z xs s → FoldLeftGives w f z xs t
-  fold-gives-later z [] s t k g = tt
-  fold-gives-later z (x ∷ xs) s t k g = λ u h. g u (later-then s t u k h)
-
-  pub right-from : (z : Value) (xs : List Value) (v : Value) (r s t : State) → Later r s → FoldRight w f z xs s v t → FoldRight w f z xs r v t
-  right-from z xs v r s t k (right_end h) = right_end (later-then r s t k h)
-  right-from z xs v r s t k (right_step {r = x} {xs = ys} {t = u} i h c) = right_step (right-from z ys x r s u k i) h c
-
-  pub right-gives-later : (z : Value) (xs : List Value) (s t : State) → Later s t → FoldRightGives w f z xs s → FoldRightGives w f z xs t
-  right-gives-later z [] s t k g = tt
-  right-gives-later z (x ∷ xs) s t k g = (right-gives-later z xs s t k g.0, λ r u v i h. g.1 r u v (right-from z xs r s t u k i) h)
-
-  pub all-from : (xs : List Value) (v : Value) (r s t : State) → Later r s → ForAll w f xs s v t → ForAll w f xs r v t
-  all-from xs v r s t k (all_none h) = all_none (later-then r s t k h)
-  all-from xs v r s t k (all_last {t = u} h c i) = all_last (later-then r s u k h) c i
-  all-from xs v r s t k (all_but {t = u} h c e i) = all_but (later-then r s u k h) c e i
-  all-from xs v r s t k (all_so_far {t = u} h c e i) = all_so_far (later-then r s u k h) c e i
-
-  pub for-all-gives-later : (xs : List Value) (s t : State) → Later s t → ForAllGives w f xs s → ForAllGives w f xs t
-  for-all-gives-later [] s t k g = tt
-  for-all-gives-later (x ∷ xs) s t k g = λ u h. g u (later-then s t u k h)
-
-  pub exists-from : (xs : List Value) (v : Value) (r s t : State) → Later r s → Exists w f xs s v t → Exists w f xs r v t
-  exists-from xs v r s t k (some_none h) = some_none (later-then r s t k h)
-  exists-from xs v r s t k (some_last {t = u} h c i) = some_last (later-then r s u k h) c i
-  exists-from xs v r s t k (some_here {t = u} h c e i) = some_here (later-then r s u k h) c e i
-  exists-from xs v r s t k (some_behind {t = u} h c e i) = some_behind (later-then r s u k h) c e i
 
   pub stops-from : (xs : List Value) (e : Bare) (r s t : State) → Later r s → Stops w f xs s e t → Stops w f xs r e t
   stops-from xs e r s t k (stops_here {t = u} h c) = stops_here (later-then r s u k h) c

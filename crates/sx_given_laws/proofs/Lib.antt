@@ -19,12 +19,6 @@ pub mod Unique
 pub mod Enough
 pub mod MapBy
 pub mod Remp
-pub mod Cars
-pub mod ListsLoop
-pub mod ForAllLoop
-pub mod ExistsLoop
-pub mod FoldLeftLoop
-pub mod FoldRightLoop
 pub mod Codes
 pub mod Inverting
 pub mod LoopBack

@@ -8,14 +8,13 @@ use Rattle.sx_value.specs.declared.value.Value.{Value}
 use Rattle.sx_value.specs.declared.value.Value.TheVariants as value
 use Rattle.sx_prims.specs.Chains.{pair_of}
 use Rattle.sx_eval.specs.Codes.{code_at, procedure_code}
-use Rattle.sx_eval.specs.Meaning.{eval_of, procedure_called}
 use Rattle.sx_eval.specs.Procedures.{has_text, text_number}
 use Rattle.sx_eval.specs.Setting.{PlainSetting}
 use Rattle.sx_eval.specs.State.{State, next_place}
 use Rattle.sx_eval.specs.Variables.{Entries}
 use Rattle.sx_eval.specs.declared.spread.TheConstants.{APPLY}
 use Rattle.sx_eval_laws.specs.Kept.{Later}
-use Rattle.sx_given_laws.specs.Calls.{Gives, Calls}
+use Rattle.sx_given_laws.specs.Calls.{Calls}
 use Rattle.sx_given_laws.specs.Codes.{label, code_no, var, formals, one_case, app, car, cdr, text_code}
 use Rattle.sx_given_laws.proofs.Giving.{Evaluates}
 use Rattle.sx_given_laws.proofs.Looking.{in_cell, variable-is}
@@ -63,12 +62,3 @@ module _ (w : PlainSetting) (s : State) (go code op : ℕ) (ns : List ℕ) (body
       (text-back w (record { 0 = op }) args s (ready w s go code) t (text_code op (loop_text go code ns body (var go))) (loop_text go code ns body (var go)) (code_no code) (home_place w s go code) v other yes_text known refl
       (letrec-is w (label go) self (code_no code) (one_case ns None body) true (var go) (next_place s) (outside w s go code) (value.Closure (code_no code) (home_place w s go code)) (ready w s go code)
       (variable-is w (label go) (home_place w s go code) (ready w s go code) (value.Closure (code_no code) (home_place w s go code)) 1 (in_cell (ready-home w s go code).is found) (omega arith))) h)
-
-  -- the procedure that the text gave was called
-  pub text-way-back : (given : PlainCore) (number : ℕ) (args : List Value) (v : Value) (t : State)
-      → code_at w.codes (text_number op) ≡ Some (text_code op (loop_text go code ns body given))
-      → Evaluates w given (home_place w s go code) (ready w s go code) (value.Closure (code_no number) (home_place w s go code)) (ready w s go code)
-      → Calls w (value.Prim (record { 0 = op })) args s v t → Gives (procedure_called w (eval_of w) (code_no number) (home_place w s go code) args (ready w s go code)) v t
-  text-way-back given number args v t known is h =
-      text-back w (record { 0 = op }) args s (ready w s go code) t (text_code op (loop_text go code ns body given)) (loop_text go code ns body given) (code_no number) (home_place w s go code) v other yes_text known refl
-      (letrec-is w (label go) self (code_no code) (one_case ns None body) true given (next_place s) (outside w s go code) (value.Closure (code_no number) (home_place w s go code)) (ready w s go code) is) h

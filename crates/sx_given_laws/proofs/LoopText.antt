@@ -15,7 +15,7 @@ use Rattle.sx_eval.specs.Setting.{PlainSetting}
 use Rattle.sx_eval.specs.State.{State, next_place, with_cell}
 use Rattle.sx_eval.specs.declared.spread.TheConstants.{APPLY}
 use Rattle.sx_eval_laws.specs.Kept.{Later}
-use Rattle.sx_given_laws.specs.Calls.{End, Ends, Gives, CallEnds, Calls}
+use Rattle.sx_given_laws.specs.Calls.{End, Ends, CallEnds, Calls}
 use Rattle.sx_given_laws.specs.Codes.{label, code_no, var, lambda, one_case, text_code}
 use Rattle.sx_given_laws.proofs.Giving.{Evaluates}
 use Rattle.sx_given_laws.proofs.Looking.{in_cell, variable-is}
@@ -52,13 +52,6 @@ module _ (w : PlainSetting) (s : State) (go code : ℕ) where
     text-by-ends body number args r t known is h =
         text-ends w (record { 0 = op }) args s ready t (text_code op (loop_text go code formals loop body)) (loop_text go code formals loop body) (code_no number) home_place r other yes known refl
         (letrec-is w (label go) self (code_no code) (one_case formals None loop) true body (next_place s) outside (value.Closure (code_no number) home_place) ready is) h
-
-    pub text-by : (body : PlainCore) (number : ℕ) (args : List Value) (v : Value) (t : State)
-        → code_at w.codes (text_number op) ≡ Some (text_code op (loop_text go code formals loop body))
-        → Evaluates w body home_place ready (value.Closure (code_no number) home_place) ready
-        → Gives (procedure_called w (eval_of w) (code_no number) home_place args ready) v t
-        → Calls w (value.Prim (record { 0 = op })) args s v t
-    text-by body number args v t known is h = text-by-ends body number args (Ok v) t known is h
 
     -- the procedure of the `letrec` itself
     pub loop-by-ends : (args : List Value) (r : End) (t : State)

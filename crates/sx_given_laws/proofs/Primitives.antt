@@ -120,13 +120,7 @@ module _ (w : PlainSetting) where
   unfolding has_text
   list-called x s = plain-called w (record { 0 = 121 }) (x ∷ []) s (made.List (x ∷ []) nil) refl refl refl (list-answer s.cells w.frames x)
 
-  -- `append` of a list of one element and a list
-  pub append-called : (x y z : Value) (s : State) → list_elements s.cells x ≡ Some (z ∷ [])
-      → Calls w (value.Prim (record { 0 = 41 })) (x ∷ y ∷ []) s (next_pair s) (with_cell (cell.Pair z y) s)
-  unfolding has_text
-  append-called x y z s e = plain-called w (record { 0 = 41 }) (x ∷ y ∷ []) s (made.List (z ∷ []) y) refl refl refl (append-answer s.cells w.frames x y (z ∷ []) e)
-
-  -- and of any list
+  -- `append` of a list and a value
   pub appended : (x y : Value) (xs : List Value) (s : State) → list_elements s.cells x ≡ Some xs
       → Calls w (value.Prim (record { 0 = 41 })) (x ∷ y ∷ []) s (pairs_stored xs (y, s.cells)).0 (store (pairs_stored xs (y, s.cells)).1 s.names)
   unfolding has_text

@@ -10,8 +10,8 @@ ghost use Rattle.sx_list_laws.specs.Runs.{IsList};
 ghost use Rattle.sx_value.specs.declared.value.Value.{Value};
 ghost use Rattle.sx_value.specs.declared.value.Value.TheVariants as value;
 ghost use Rattle.sx_given_laws.specs.Calls.{call_of, Calls};
-ghost use Rattle.sx_given_laws.specs.Given.{built_in, Maps, MapsBy, Mapped, Visits, Visited, Faults, Filters, Filtered, Finds, Found, FindsTail, TailFound, SearchFaults, ForAlls, Existences, FoldsLeft, FoldsRight};
-ghost use Rattle.sx_given_laws.specs.InTurn.{FoldLeft, AllGive, AllEnd, AllGiveBy, SearchGives, SearchEnds, ForAllGives, FoldLeftGives, FoldRightGives, chosen, others};
+ghost use Rattle.sx_given_laws.specs.Given.{built_in, Maps, MapsBy, Mapped, Visits, Visited, Faults, Filters, Filtered, Finds, Found, FindsTail, TailFound, SearchFaults};
+ghost use Rattle.sx_given_laws.specs.InTurn.{AllGive, AllEnd, AllGiveBy, SearchGives, SearchEnds, chosen, others};
 ghost use Rattle.sx_given_laws.specs.Texts.{HasTexts, Includes, written_table};
 
 /// The numbers of the procedures of which the laws speak, by their report names.
@@ -81,24 +81,4 @@ pub fn find_and_memp_stop_at_the_first()
         Finds w (built_in 191) (f ∷ l ∷ []) f xs s ⊎ SearchFaults w (built_in 191) (f ∷ l ∷ []) f xs s }
     ensures memp_faults { (w : PlainSetting) (f l : Value) (xs : List Value) (s : State) → HasTexts w → IsList s.cells xs l → SearchEnds w f xs s →
         FindsTail w (built_in 202) (f ∷ l ∷ []) f l xs s ⊎ SearchFaults w (built_in 202) (f ∷ l ∷ []) f xs s }
-{}
-
-/// `for-all` gives `#f` at the first answer that is `#f`, else the last answer, and `#t` of the empty list; `exists` gives
-/// the first answer that is not `#f`, else the last, and `#f` of the empty list (R6RS libraries 3).
-pub fn for_all_and_exists_ask_in_order()
-    ensures all { (w : PlainSetting) (f l : Value) (xs : List Value) (s : State) → HasTexts w → IsList s.cells xs l → ForAllGives w f xs s → ForAlls w (built_in 192) (f ∷ l ∷ []) f xs s }
-    ensures exists { (w : PlainSetting) (f l : Value) (xs : List Value) (s : State) → HasTexts w → IsList s.cells xs l → SearchGives w f xs s → Existences w (built_in 193) (f ∷ l ∷ []) f xs s }
-{}
-
-/// `fold-left` calls its procedure on a value and the first element, then on what that gave and the second, and so on, and
-/// gives what the last call gave (R6RS libraries 3). And whenever it gives a value it has done so.
-pub fn fold_left_goes_from_the_left()
-    ensures folds { (w : PlainSetting) (f z l : Value) (xs : List Value) (s : State) → HasTexts w → IsList s.cells xs l → FoldLeftGives w f z xs s → FoldsLeft w (built_in 196) (f ∷ z ∷ l ∷ []) f z xs s }
-    ensures only { (w : PlainSetting) (f z l : Value) (xs : List Value) (s t : State) (v : Value) → HasTexts w → IsList s.cells xs l → Calls w (built_in 196) (f ∷ z ∷ l ∷ []) s v t → FoldLeft w f z xs s v t }
-{}
-
-/// `fold-right` calls its procedure on the last element and a value, then on the element before and what that gave, and so
-/// on to the first, and gives what the last call gave (R6RS libraries 3).
-pub fn fold_right_goes_from_the_right()
-    ensures { (w : PlainSetting) (f z l : Value) (xs : List Value) (s : State) → HasTexts w → IsList s.cells xs l → FoldRightGives w f z xs s → FoldsRight w (built_in 197) (f ∷ z ∷ l ∷ []) f z xs s }
 {}

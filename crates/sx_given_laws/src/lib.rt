@@ -7,7 +7,6 @@
 //! (map f l)             calls f on each element, from the first to the last, and gives the list of the answers
 //! (filter f l)          gives the list of the elements whose answer is not `#f`
 //! (find f l)            calls f until an answer is not `#f`, and gives that element, or `#f`
-//! (fold-left f z l)     is (f .. (f (f z a) b) .. c)
 //! ```
 //!
 //! What is asked: the list is a list in the cells, and each call that is made gives a value, whatever cells were added before

@@ -1,15 +1,16 @@
 -- A list has no more elements than there are cells: its pairs lie in cells that differ.
-use Rattle.std.proofs.Common.{◌≡◌, ◌≤◌, ◌<◌, ◌+◌, ℕ, zero, suc, List, [], ◌∷◌, Option, Some, None, length, refl, ap, sym, subst, ◌∙◌, arith, slice_get}
+use Rattle.std.proofs.Common.{◌≡◌, ◌≤◌, ◌<◌, ◌+◌, ℕ, zero, suc, List, [], ◌∷◌, Option, Some, None, length, refl, ap, sym, subst, ◌∙◌, arith, slice_get, if◌then◌else◌}
 use Rattle.sx_region.specs.declared.region.Place.{Place}
 use Rattle.sx_value.specs.Cells.{pair_in}
 use Rattle.sx_value.specs.declared.value.Value.{Value}
 use Rattle.sx_value.specs.declared.value.Value.TheVariants as value
 use Rattle.sx_value.specs.declared.cell.Cell.{Cell}
 use Rattle.sx_value.specs.declared.cell.Cell.TheVariants as cell
-use Rattle.sx_prims.specs.Chains.{pair_of, list_elements}
+use Rattle.sx_prims.specs.Chains.{pair_of, list_elements, Chain, linked, chain_on, chain_to, chain, is_nil}
+use Rattle.sx_prims.specs.Lists.{nil}
 use Rattle.sx_list_laws.specs.Runs.{here, next, IsList}
-use Rattle.sx_given_laws.proofs.FoldRightLoop.{short-elements}
-use Rattle.sx_given_laws.proofs.MapOne.{list-some}
+use Rattle.sx_given_laws.proofs.ForEach.{chain-of-nil}
+use Rattle.sx_given_laws.proofs.MapOne.{list-none, list-some}
 
 -- the value that a place is in, and the pair there
 abbrev is_one : Cell → ℕ
@@ -122,6 +123,18 @@ few (y ∷ ys) cells x r = let c = list-some r in by (few ys) x c.0 c.1 c.2 r
     by again (value.Prim o) d e rest r = absurd (cc)
     by again (value.Syn t) d e rest r = absurd (cc)
     by again (value.Transformer q) d e rest r = absurd (cc)
+
+-- the elements of a list no longer than there are cells
+
+chain-of : (n : ℕ) (cells : List Cell) (xs : List Value) (x : Value) → IsList cells xs x → length xs ≤ n → chain_to n cells x ≡ record { elements = xs; end = nil }
+unfolding chain_to
+chain-of n cells [] x r h = ap (λ y. chain_to n cells y) (list-none r) ∙ chain-of-nil n cells
+chain-of zero cells (y ∷ ys) x r h = absurd (omega (arith, h))
+chain-of (suc n) cells (y ∷ ys) x r h = let c = list-some r in ap (chain_on (chain_to n cells) x) c.1 ∙ ap (linked y) (chain-of n cells ys c.0 c.2 (omega (arith, h)))
+
+short-elements : (cells : List Cell) (xs : List Value) (x : Value) → IsList cells xs x → length xs ≤ length cells → list_elements cells x ≡ Some xs
+unfolding chain
+short-elements cells xs x r h = ap (λ (c : Chain). if is_nil c.end then Some c.elements else None) (chain-of (length cells) cells xs x r h)
 
 pub elements-of : (cells : List Cell) (xs : List Value) (x : Value) → IsList cells xs x → list_elements cells x ≡ Some xs
 elements-of cells xs x r = let h = few xs cells x r in let k = count-least cells in short-elements cells xs x r (omega (arith, h, k))

@@ -12,4 +12,6 @@ pub mod FoldLeftRows
 pub mod FoldRightRows
 pub mod MapRows
 pub mod VisitRows
+pub mod Values
+pub mod RowValues
 pub mod OneList

@@ -5,15 +5,18 @@ use Rattle.sx_eval.specs.Setting.{PlainSetting}
 use Rattle.sx_eval.specs.State.{State}
 use Rattle.sx_list_laws.specs.Runs.{IsList}
 use Rattle.sx_given_laws.specs.Calls.{Calls}
-use Rattle.sx_given_laws.specs.Given.{built_in}
+use Rattle.sx_given_laws.specs.Given.{built_in, ForAlls, Existences, FoldsLeft, FoldsRight}
 use Rattle.sx_given_laws.specs.InTurn as given
 use Rattle.sx_given_laws.proofs.Knows.{Knows}
 use Rattle.sx_given_laws.proofs.Later.{later-refl}
-use Rattle.sx_given_lists_laws.specs.RowCalls.{ForAll, all_none, all_last, all_but, all_so_far, Exists, some_none, some_last, some_here, some_behind, FoldRight, right_end, right_step}
+use Rattle.sx_given_lists_laws.specs.RowCalls.{ForAll, all_none, all_last, all_but, all_so_far, ForAllGives, Exists, some_none, some_last, some_here, some_behind, ExistsGives}
+use Rattle.sx_given_lists_laws.specs.RowCalls.{FoldLeft, left_end, left_step, FoldLeftGives, FoldRight, right_end, right_step, FoldRightGives}
 use Rattle.sx_given_lists_laws.proofs.ExistsRows.{exists-only}
+use Rattle.sx_given_lists_laws.proofs.FoldLeftRows.{fold-left-only}
 use Rattle.sx_given_lists_laws.proofs.FoldRightRows.{fold-right-only}
 use Rattle.sx_given_lists_laws.proofs.ForAllRows.{for-all-only}
 use Rattle.sx_given_lists_laws.proofs.RowLemmas.{one-in-rows}
+use Rattle.sx_given_lists_laws.proofs.RowValues.{for-all-gives, exists-gives, left-gives, right-gives}
 
 -- the rows of one list
 abbrev singles : List Value → List (List Value)
@@ -36,12 +39,64 @@ module _ (w : PlainSetting) (f : Value) where
   right-of-one z [] s v t (right_end h) = given.right_end h
   right-of-one z (x ∷ xs) s v t (right_step {x = y} {t = u} i h c) = given.right_step (right-of-one z xs s y u i) h c
 
-module _ (w : PlainSetting) (knows : Knows w.codes) (f l : Value) (xs : List Value) (s t : State) (v : Value) (r : IsList s.cells xs l) where
-  pub for-all-on-one : Calls w (built_in 192) (f ∷ l ∷ []) s v t → given.ForAll w f xs s v t
-  for-all-on-one called = all-of-one w f xs s v t (for-all-only w knows f l [] (singles xs) s (one-in-rows r) (Ok v) t called)
+  left-of-one : (z : Value) (xs : List Value) (s : State) (v : Value) (t : State) → FoldLeft w f z (singles xs) s (Ok v) t → given.FoldLeft w f z xs s v t
+  left-of-one z [] s v t (left_end h) = given.left_end h
+  left-of-one z (x ∷ xs) s v t (left_step {y = y} {u = u} h c i) = given.left_step h c (left-of-one y xs u v t i)
 
-  pub exists-on-one : Calls w (built_in 193) (f ∷ l ∷ []) s v t → given.Exists w f xs s v t
-  exists-on-one called = exists-of-one w f xs s v t (exists-only w knows f l [] (singles xs) s (one-in-rows r) (Ok v) t called)
+  -- what is asked of the calls
 
-  pub fold-right-on-one : (z : Value) → Calls w (built_in 197) (f ∷ z ∷ l ∷ []) s v t → given.FoldRight w f z xs s v t
-  fold-right-on-one z called = right-of-one w f z xs s v t (fold-right-only w knows f z l [] (singles xs) s (one-in-rows r) (Ok v) t called)
+  all-asks : (xs : List Value) (s : State) → given.ForAllGives w f xs s → ForAllGives w f (singles xs) s
+  all-asks [] s g = tt
+  all-asks (x ∷ xs) s g = λ t k. let c = g t k in (c.0, c.1, c.2, λ e. all-asks xs c.1 (c.3 e))
+
+  exists-asks : (xs : List Value) (s : State) → given.SearchGives w f xs s → ExistsGives w f (singles xs) s
+  exists-asks [] s g = tt
+  exists-asks (x ∷ xs) s g = λ t k. let c = g t k in (c.0, c.1, c.2, λ e. exists-asks xs c.1 (c.3 e))
+
+  left-asks : (z : Value) (xs : List Value) (s : State) → given.FoldLeftGives w f z xs s → FoldLeftGives w f z (singles xs) s
+  left-asks z [] s g = tt
+  left-asks z (x ∷ xs) s g = λ t k. let c = g t k in (c.0, c.1, c.2, left-asks c.0 xs c.1 c.3)
+
+  right-asks : (z : Value) (xs : List Value) (s : State) → given.FoldRightGives w f z xs s → FoldRightGives w f z (singles xs) s
+  right-asks z [] s g = tt
+  right-asks z (x ∷ xs) s g = (right-asks z xs s g.0, λ r t u i k. g.1 r t u (right-of-one z xs s r t i) k)
+
+-- By the laws of any number of lists.
+
+module _ (w : PlainSetting) (knows : Knows w.codes) (f l : Value) (xs : List Value) (s : State) (r : IsList s.cells xs l) where
+  pub for-all-of-one : given.ForAllGives w f xs s → ForAlls w (built_in 192) (f ∷ l ∷ []) f xs s
+  for-all-of-one g = by (for-all-gives w knows f l [] (singles xs) s (one-in-rows r) (all-asks w f xs s g))
+    where
+      by : ((v : Value) × (t : State) × Calls w (built_in 192) (f ∷ l ∷ []) s v t × ForAll w f (singles xs) s (Ok v) t) → ForAlls w (built_in 192) (f ∷ l ∷ []) f xs s
+      by m = record { value = m.0; state = m.1; called = m.2; all = all-of-one w f xs s m.0 m.1 m.3 }
+
+  pub for-all-of-one-only : (v : Value) (t : State) → Calls w (built_in 192) (f ∷ l ∷ []) s v t → given.ForAll w f xs s v t
+  for-all-of-one-only v t called = all-of-one w f xs s v t (for-all-only w knows f l [] (singles xs) s (one-in-rows r) (Ok v) t called)
+
+  pub exists-of-list : given.SearchGives w f xs s → Existences w (built_in 193) (f ∷ l ∷ []) f xs s
+  exists-of-list g = by (exists-gives w knows f l [] (singles xs) s (one-in-rows r) (exists-asks w f xs s g))
+    where
+      by : ((v : Value) × (t : State) × Calls w (built_in 193) (f ∷ l ∷ []) s v t × Exists w f (singles xs) s (Ok v) t) → Existences w (built_in 193) (f ∷ l ∷ []) f xs s
+      by m = record { value = m.0; state = m.1; called = m.2; exists = exists-of-one w f xs s m.0 m.1 m.3 }
+
+  pub exists-of-list-only : (v : Value) (t : State) → Calls w (built_in 193) (f ∷ l ∷ []) s v t → given.Exists w f xs s v t
+  exists-of-list-only v t called = exists-of-one w f xs s v t (exists-only w knows f l [] (singles xs) s (one-in-rows r) (Ok v) t called)
+
+  module _ (z : Value) where
+    pub left-of-list : given.FoldLeftGives w f z xs s → FoldsLeft w (built_in 196) (f ∷ z ∷ l ∷ []) f z xs s
+    left-of-list g = by (left-gives w knows f z l [] (singles xs) s (one-in-rows r) (left-asks w f z xs s g))
+      where
+        by : ((v : Value) × (t : State) × Calls w (built_in 196) (f ∷ z ∷ l ∷ []) s v t × FoldLeft w f z (singles xs) s (Ok v) t) → FoldsLeft w (built_in 196) (f ∷ z ∷ l ∷ []) f z xs s
+        by m = record { value = m.0; state = m.1; called = m.2; fold = left-of-one w f z xs s m.0 m.1 m.3 }
+
+    pub left-of-list-only : (v : Value) (t : State) → Calls w (built_in 196) (f ∷ z ∷ l ∷ []) s v t → given.FoldLeft w f z xs s v t
+    left-of-list-only v t called = left-of-one w f z xs s v t (fold-left-only w knows f z l [] (singles xs) s (one-in-rows r) (Ok v) t called)
+
+    pub right-of-list : given.FoldRightGives w f z xs s → FoldsRight w (built_in 197) (f ∷ z ∷ l ∷ []) f z xs s
+    right-of-list g = by (right-gives w knows f z l [] (singles xs) s (one-in-rows r) (right-asks w f z xs s g))
+      where
+        by : ((v : Value) × (t : State) × Calls w (built_in 197) (f ∷ z ∷ l ∷ []) s v t × FoldRight w f z (singles xs) s (Ok v) t) → FoldsRight w (built_in 197) (f ∷ z ∷ l ∷ []) f z xs s
+        by m = record { value = m.0; state = m.1; called = m.2; fold = right-of-one w f z xs s m.0 m.1 m.3 }
+
+    pub right-of-list-only : (v : Value) (t : State) → Calls w (built_in 197) (f ∷ z ∷ l ∷ []) s v t → given.FoldRight w f z xs s v t
+    right-of-list-only v t called = right-of-one w f z xs s v t (fold-right-only w knows f z l [] (singles xs) s (one-in-rows r) (Ok v) t called)

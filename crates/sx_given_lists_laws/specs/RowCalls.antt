@@ -32,6 +32,11 @@ abbrev pub AllEnd : PlainSetting → Value → List (List Value) → State → T
 AllEnd w f [] s = Unit {0}
 AllEnd w f (row ∷ rows) s = (t : State) → Later s t → (r : End) × (u : State) × CallEnds w f row t r u × AfterValue r (λ _. AllEnd w f rows u)
 
+-- Each of them gives a value.
+abbrev pub AllGive : PlainSetting → Value → List (List Value) → State → Type 0
+AllGive w f [] s = Unit {0}
+AllGive w f (row ∷ rows) s = (t : State) → Later s t → (y : Value) × (u : State) × Calls w f row t y u × AllGive w f rows u
+
 -- `for-all`: calls until one answers `#f` or faults. It ends as the last call does, or with `#f` at an answer before it, or with
 -- `#t` where there is no row.
 pub data ForAll (w : PlainSetting) (f : Value) : List (List Value) → State → End → State → Type 0 where
@@ -48,6 +53,10 @@ pub data ForAll (w : PlainSetting) (f : Value) : List (List Value) → State →
 abbrev pub ForAllEnds : PlainSetting → Value → List (List Value) → State → Type 0
 ForAllEnds w f [] s = Unit {0}
 ForAllEnds w f (row ∷ rows) s = (t : State) → Later s t → (r : End) × (u : State) × CallEnds w f row t r u × AfterValue r (λ y. truth_of y ≡ true → ForAllEnds w f rows u)
+
+abbrev pub ForAllGives : PlainSetting → Value → List (List Value) → State → Type 0
+ForAllGives w f [] s = Unit {0}
+ForAllGives w f (row ∷ rows) s = (t : State) → Later s t → (y : Value) × (u : State) × Calls w f row t y u × (truth_of y ≡ true → ForAllGives w f rows u)
 
 -- `exists`: calls until one answers true or faults. It ends as the last call does, or with that answer, or with `#f` where there is
 -- no row.
@@ -66,6 +75,10 @@ abbrev pub ExistsEnds : PlainSetting → Value → List (List Value) → State �
 ExistsEnds w f [] s = Unit {0}
 ExistsEnds w f (row ∷ rows) s = (t : State) → Later s t → (r : End) × (u : State) × CallEnds w f row t r u × AfterValue r (λ y. truth_of y ≡ false → ExistsEnds w f rows u)
 
+abbrev pub ExistsGives : PlainSetting → Value → List (List Value) → State → Type 0
+ExistsGives w f [] s = Unit {0}
+ExistsGives w f (row ∷ rows) s = (t : State) → Later s t → (y : Value) × (u : State) × Calls w f row t y u × (truth_of y ≡ false → ExistsGives w f rows u)
+
 -- A fold from the left: each call is on what the one before it gave and the next row, till one faults.
 pub data FoldLeft (w : PlainSetting) (f : Value) : Value → List (List Value) → State → End → State → Type 0 where
   left_end : {z : Value} {s t : State} → Later s t → FoldLeft w f z [] s (Ok z) t
@@ -77,6 +90,10 @@ pub data FoldLeft (w : PlainSetting) (f : Value) : Value → List (List Value) �
 abbrev pub FoldLeftEnds : PlainSetting → Value → Value → List (List Value) → State → Type 0
 FoldLeftEnds w f z [] s = Unit {0}
 FoldLeftEnds w f z (row ∷ rows) s = (t : State) → Later s t → (r : End) × (u : State) × CallEnds w f (z ∷ row) t r u × AfterValue r (λ y. FoldLeftEnds w f y rows u)
+
+abbrev pub FoldLeftGives : PlainSetting → Value → Value → List (List Value) → State → Type 0
+FoldLeftGives w f z [] s = Unit {0}
+FoldLeftGives w f z (row ∷ rows) s = (t : State) → Later s t → (y : Value) × (u : State) × Calls w f (z ∷ row) t y u × FoldLeftGives w f y rows u
 
 -- A fold from the right: the call on the last row comes first, and each is on its row and what the one before it gave.
 pub data FoldRight (w : PlainSetting) (f z : Value) : List (List Value) → State → End → State → Type 0 where
@@ -90,3 +107,8 @@ abbrev pub FoldRightEnds : PlainSetting → Value → Value → List (List Value
 FoldRightEnds w f z [] s = Unit {0}
 FoldRightEnds w f z (row ∷ rows) s =
     FoldRightEnds w f z rows s × ((x : Value) (t u : State) → FoldRight w f z rows s (Ok x) t → Later t u → (r : End) × (v : State) × CallEnds w f (row ++ x ∷ []) u r v)
+
+abbrev pub FoldRightGives : PlainSetting → Value → Value → List (List Value) → State → Type 0
+FoldRightGives w f z [] s = Unit {0}
+FoldRightGives w f z (row ∷ rows) s =
+    FoldRightGives w f z rows s × ((x : Value) (t u : State) → FoldRight w f z rows s (Ok x) t → Later t u → (y : Value) × (v : State) × Calls w f (row ++ x ∷ []) u y v)

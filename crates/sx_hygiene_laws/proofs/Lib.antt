@@ -1,6 +1,6 @@
-mod Marking
-mod Rowing
-mod Using
+pub mod Marking
+pub mod Rowing
+pub mod Using
 mod Knowing
-mod Living
+pub mod Living
 mod Adding

@@ -4,3 +4,4 @@ pub mod NameLemmas
 pub mod PlaceLemmas
 pub mod LoadedLemmas
 pub mod SourceLemmas
+pub mod BodyLemmas

@@ -5,22 +5,23 @@ ghost use Rattle.std.specs.String.{string_bytes};
 ghost use Rattle.sx_base.specs.Gives.{Gives, Stops};
 ghost use Rattle.sx_prelude.specs.Prelude.{kept};
 ghost use Rattle.sx_import.specs.Turns.{turns};
+ghost use Rattle.sx_forms.specs.Form.{library_body, program_body};
 ghost use Rattle.sx_library.specs.Loaded.{expand_found, expand_next, all_records, planned_text, text_of};
 
-use crate::library::expand_library;
+use crate::library::{Body, body_of, expand_body};
 use crate::records::Records;
 use std::alloc::Global;
 use std::sync::ledger::Ledger;
-use sx_base::datum::Datum;
 use sx_base::fault::{Fault, Stop};
 use sx_base::items::Items;
 use sx_base::memory::Memory;
+use sx_base::symbol::Symbol;
 use sx_core::record::LibRecord;
 use sx_core_text::whole::core_text;
 use sx_derived::derived::derived_record;
-use sx_forms::form::{library_body, program_body};
+use sx_forms::form::{LibraryForm, library_body, program_body};
 use sx_import::table::Table;
-use sx_load::found::{Found, Loading};
+use sx_load::found::{Found, Loading, Opened};
 use sx_plan::planned::planned;
 use sx_prelude::prelude::Prelude;
 use sx_prims::table::PrimTable;
@@ -38,31 +39,14 @@ fn with_derived(alloc: Global, needs: &[bool]) -> Result<Items<bool>, Memory>
     Ok(all)
 }
 
-// The record of a library or program behind those that it needs.
-fn expand_found<N: Ledger, L: Ledger>(
-    alloc: Global,
-    prelude: &Prelude,
-    records: &Records,
-    found: &Found,
-    body: &[Datum],
-    prims: &PrimTable,
-    counts: &mut Counts<N, L>,
-) -> Result<LibRecord, Stop>
-    ensures { Gives (λ r. r) result (expand_found (kept prelude.now) records.now found.now body.now) }
+// The form of a library or program whose data go.
+fn without_data(found: Found) -> (Symbol, LibraryForm)
+    ensures { result ≡ (found.opened.path, found.opened.form) }
 {
-    let opened = &found.opened;
-    let needs = with_derived(alloc, found.needs.as_slice())?;
-    expand_library(
-        alloc,
-        prelude,
-        records,
-        needs.as_slice(),
-        &opened.path,
-        &opened.form,
-        body,
-        prims,
-        counts,
-    )
+    let Found { opened, .. } = found;
+    let Opened { path, form, data } = opened;
+    drop(data);
+    (path, form)
 }
 
 fn expand_next<N: Ledger, L: Ledger>(
@@ -75,10 +59,65 @@ fn expand_next<N: Ledger, L: Ledger>(
 ) -> Result<(), Stop>
     ensures { Gives (λ _. records.new) result (expand_next (kept prelude.now) records.old ([], found.now)) }
 {
-    let body = library_body(found.opened.data.as_slice());
-    let record = expand_found(alloc, prelude, records, found, body, prims, counts)?;
+    let record = expand_one(alloc, prelude, records, found, prims, counts)?;
     records.push(alloc, record)?;
     Ok(())
+}
+
+// The record of a library behind those that it needs.
+fn expand_one<N: Ledger, L: Ledger>(
+    alloc: Global,
+    prelude: &Prelude,
+    records: &Records,
+    found: &Found,
+    prims: &PrimTable,
+    counts: &mut Counts<N, L>,
+) -> Result<LibRecord, Stop>
+    ensures { Gives (λ r. r) result (expand_found (kept prelude.now) records.now found.now (library_body found.now.opened.«data»)) }
+{
+    let opened = &found.opened;
+    let needs = with_derived(alloc, found.needs.as_slice())?;
+    let data = library_body(opened.data.as_slice());
+    let body = body_of(alloc, records, needs.as_slice(), &opened.form, data)?;
+    expand_body(
+        alloc,
+        prelude,
+        records,
+        needs.as_slice(),
+        &opened.path,
+        &opened.form,
+        &body,
+        prims,
+        counts,
+    )
+}
+
+// The record of a program behind those that it needs. Its data go once they are syntax objects.
+fn expand_program<N: Ledger, L: Ledger>(
+    alloc: Global,
+    prelude: &Prelude,
+    records: &Records,
+    found: Found,
+    prims: &PrimTable,
+    counts: &mut Counts<N, L>,
+) -> Result<LibRecord, Stop>
+    ensures { Gives (λ r. r) result (expand_found (kept prelude.now) records.now found (program_body found.opened.«data»)) }
+{
+    let needs = with_derived(alloc, found.needs.as_slice())?;
+    let data = program_body(found.opened.data.as_slice());
+    let body = body_of(alloc, records, needs.as_slice(), &found.opened.form, data)?;
+    let (path, form) = without_data(found);
+    expand_body(
+        alloc,
+        prelude,
+        records,
+        needs.as_slice(),
+        &path,
+        &form,
+        &body,
+        prims,
+        counts,
+    )
 }
 
 // Records, and behind them those of libraries in the order of loading.
@@ -125,21 +164,21 @@ fn planned_text(alloc: Global, records: &[LibRecord], program: &LibRecord) -> Re
     core_text(alloc, records, &plan, program)
 }
 
-/// The core text of a program that was loaded, or the first fault of a library or of the program.
+/// The core text of a program that was loaded, or the first fault of a library or of the program. The program's data go
+/// once they are syntax objects.
 #[tactic(auto, unfolding(crate::specs::Loaded::text_of))]
 pub fn program_text<N: Ledger, L: Ledger>(
     alloc: Global,
     prelude: &Prelude,
-    found: &Found,
+    found: Found,
     loading: &Loading,
     prims: &PrimTable,
     counts: &mut Counts<N, L>,
 ) -> Result<String, Stop>
-    ensures { Gives string_bytes result (text_of (kept prelude.now) (Ok (found.now, loading.now))) }
+    ensures { Gives string_bytes result (text_of (kept prelude.now) (Ok (found, loading.now))) }
 {
     let records = all_records(alloc, prelude, &loading.done, prims, counts)?;
-    let body = program_body(found.opened.data.as_slice());
-    let program = expand_found(alloc, prelude, &records, found, body, prims, counts)?;
+    let program = expand_program(alloc, prelude, &records, found, prims, counts)?;
     let records = records.into_records();
     planned_text(alloc, &records, &program)
 }

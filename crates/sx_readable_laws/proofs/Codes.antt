@@ -28,7 +28,7 @@ inserted-holds {A} {V} Q same (e ∷ es) k v h j = by_same (_) (inserted-holds Q
     by_same true i = (j, h.1)
     by_same false i = (h.0, i)
 
-one-code : (c : PlainCode) (cs : Codes) → ReadableCodes cs → ReadableCode c → ReadableCodes (with_code c cs)
+pub one-code : (c : PlainCode) (cs : Codes) → ReadableCodes cs → ReadableCode c → ReadableCodes (with_code c cs)
 one-code c cs h k = inserted-holds ReadableCode same_code cs c.number c h k
 
 mutual
@@ -54,7 +54,7 @@ mutual
   init-codes no_init cs h k = h
   init-codes (init l c is) cs h k = init-codes is (with_codes c cs) (codes-hold c cs h k.0) k.1
 
-  case-codes : (xs : PlainCases) (cs : Codes) → ReadableCodes cs → ReadableCases xs → ReadableCodes (with_cases xs cs)
+  pub case-codes : (xs : PlainCases) (cs : Codes) → ReadableCodes cs → ReadableCases xs → ReadableCodes (with_cases xs cs)
   case-codes no_case cs h k = h
   case-codes (case f c xs) cs h k = case-codes xs (with_codes c cs) (codes-hold c cs h k.0) k.1
 

@@ -30,7 +30,7 @@ use Rattle.sx_stage.specs.Libraries.{has_library, has_all, wanted, libraries_of}
 use Rattle.sx_stage.specs.Running.{setting_on, state_on, left_by, ended_at, with_codes_of, outcome_of, evaluate, outcome_of_call, outcome_of_lines, left_by_library, library_ended, evaluate_library, evaluate_wanted, evaluate_all, need}
 use Rattle.sx_stage.specs.Running as running
 use Rattle.sx_stage.specs.Stage.{PlainStage, Does, name_after, fresh_mark, keyword_at, with_keyword}
-use Rattle.sx_stage.specs.Transformers.{is_transformer, transformer_only, transformer, finish_keyword, value_in, import_keyword, value_or, keyword_value}
+use Rattle.sx_stage.specs.Transformers.{is_variable, is_transformer, transformer_only, transformer, begin_keyword, finish_keyword, value_in, import_keyword, value_or, keyword_value, is_variable_transformer}
 use Rattle.sx_stage.specs.Uses.{procedure_in, call_procedure, tree_at, read_answer, transform, cut, transform_and_cut, transform_marked, used}
 use Rattle.sx_stage.specs.declared.keyword.Keyword.{Keyword}
 use Rattle.sx_stage.specs.declared.keyword.Keyword.TheVariants as keyword
@@ -155,10 +155,14 @@ transformer-holds place rs c g h k j =
 keyword-put : (l : Label) (x : Keyword) (g : PlainStage) → ReadableStage g → ReadableKeyword x → ReadableStage (with_keyword l x g)
 keyword-put l x g h k = record { cells = h.cells; codes = h.codes; globals = h.globals; keywords = inserted-holds ReadableKeyword same_label g.keywords l x h.keywords k }
 
-finish-holds : (place : Span) (rs : List LibRecord) (l : Label) (c : PlainCore) (g : PlainStage) → ReadableStage g → ReadableRecords rs → ReadableCore c → GaveStage Done (finish_keyword place rs l c g)
+pub finish-holds : (place : Span) (rs : List LibRecord) (l : Label) (c : PlainCore) (g : PlainStage) → ReadableStage g → ReadableRecords rs → ReadableCore c → GaveStage Done (finish_keyword place rs l c g)
 unfolding finish_keyword
 finish-holds place rs l c g h k j =
     stage-after ReadableValue Done (transformer place rs c g) (λ v t. give tt (with_keyword l (keyword.Kept (Some c) v) t)) (transformer-holds place rs c g h k j) (λ v t i x. (keyword-put l (keyword.Kept (Some c) v) t i (j, x), tt))
+
+pub begin-holds : (l : Label) (place : Span) (g : PlainStage) → ReadableStage g → GaveStage Done (begin_keyword l place g)
+unfolding begin_keyword
+begin-holds l place g h = (keyword-put l (keyword.Waiting place) g h tt, tt)
 
 import-holds : (place : Span) (rs : List LibRecord) (l : Label) (e : Option PlainCore) (g : PlainStage) → ReadableStage g → ReadableRecords rs → ReadableExpression e → GaveStage ReadableValue (import_keyword place rs l e g)
 unfolding import_keyword
@@ -179,6 +183,13 @@ value-holds place rs l e g h k j = by (keyword_at g.keywords l) (looked_up Reada
     by None i = value-or-holds place rs l e None g h k j tt
     by (Some (keyword.Waiting at)) i = tt
     by (Some (keyword.Kept d v)) i = value-or-holds place rs l e (Some v) g h k j i.1
+
+abbrev Told : Bool → Type 0
+Told x = Unit {0}
+
+pub asks-holds : (place : Span) (rs : List LibRecord) (l : Label) (e : Option PlainCore) (g : PlainStage) → ReadableStage g → ReadableRecords rs → ReadableExpression e → GaveStage Told (is_variable_transformer place rs l e g)
+unfolding is_variable_transformer
+asks-holds place rs l e g h k j = stage-after ReadableValue Told (keyword_value place rs l e g) (λ v. give (is_variable v)) (value-holds place rs l e g h k j) (λ v u i x. (i, tt))
 
 -- Uses.
 
@@ -237,7 +248,7 @@ marked-holds place v t f x g h k j =
 next-holds : (g : PlainStage) → ReadableStage g → ReadableStage (record g { names = name_after g.names })
 next-holds g h = record { cells = h.cells; codes = h.codes; globals = h.globals; keywords = h.keywords }
 
-used-holds : (place : Span) (rs : List LibRecord) (t : Tree) (l : Label) (e : Option PlainCore) (f : Option FrameNo) (g : PlainStage) → ReadableStage g → ReadableRecords rs → ReadableExpression e → ReadableTree t
+pub used-holds : (place : Span) (rs : List LibRecord) (t : Tree) (l : Label) (e : Option PlainCore) (f : Option FrameNo) (g : PlainStage) → ReadableStage g → ReadableRecords rs → ReadableExpression e → ReadableTree t
     → GaveStage ReadableTree (used place rs t l e f g)
 unfolding used
 used-holds place rs t l e f g h k j i =

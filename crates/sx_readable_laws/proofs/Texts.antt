@@ -43,7 +43,7 @@ joined_text done (s ∷ ss) h k = joined_text (done ++ s) ss (IsUtf8-append done
 
 -- Numbers.
 
-abbrev is_small : ℕ → Bool
+abbrev pub is_small : ℕ → Bool
 is_small b = nat_lt b 0x80
 
 one_small : (b : ℕ) → is_small b ≡ true → b < 0x80
@@ -54,7 +54,7 @@ all_ascii [] h i = omega arith
 all_ascii (b ∷ bs) h zero = one_small b ((and_parts (is_small b) (list_all is_small bs) h).0)
 all_ascii (b ∷ bs) h (suc i) = all_ascii bs ((and_parts (is_small b) (list_all is_small bs) h).1) i
 
-small_text : (bs : List ℕ) → list_all is_small bs ≡ true → IsUtf8 bs
+pub small_text : (bs : List ℕ) → list_all is_small bs ≡ true → IsUtf8 bs
 small_text bs h = IsUtf8-from_ascii bs (all_ascii bs h)
 
 glyph_small : (n : ℕ) → n < 10 → is_small (digit_glyph false n) ≡ true

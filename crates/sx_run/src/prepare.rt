@@ -137,13 +137,13 @@ fn of_found<N: Ledger, L: Ledger>(
     alloc: Global,
     prelude: &Prelude,
     report: bool,
-    found: &Found,
+    found: Found,
     loading: &Loading,
     prims: &PrimTable,
     counts: &mut Counts<N, L>,
 ) -> Result<Prepared, Unfinished>
     requires { kept prelude.now ≡ prelude_table }
-    ensures gives { Prepares result (of_loaded report (Ok (found.now, loading.now))) }
+    ensures gives { Prepares result (of_loaded report (Ok (found, loading.now))) }
     ensures unread { result ≢ Err Unfinished.Read }
 {
     match program_text(alloc, prelude, found, loading, prims, counts) {
@@ -198,7 +198,7 @@ fn of_job<F: Files, N: Ledger, L: Ledger>(
         &job.program,
         &mut loading,
     ) {
-        Ok(found) => of_found(alloc, prelude, job.report, &found, &loading, prims, counts),
+        Ok(found) => of_found(alloc, prelude, job.report, found, &loading, prims, counts),
         Err(Halt::Fault(fault)) => of_fault(
             alloc, prelude, job.report, &loading, fault, prims, counts,
         ),

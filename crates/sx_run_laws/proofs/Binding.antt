@@ -1,5 +1,5 @@
 -- Binding, uses of keywords, patterns and templates change frames by binds alone.
-use Rattle.std.proofs.Common.{◌≡◌, ℕ, ◌+◌, Bool, true, false, List, [], ◌∷◌, Option, None, Some, Result, Ok, Err, refl, sym, ◌∙◌, ap, subst, if◌then◌else◌}
+use Rattle.std.proofs.Common.{◌≡◌, ℕ, ◌+◌, Bool, true, false, List, [], ◌∷◌, Option, None, Some, Result, Ok, Err, refl, sym, ◌∙◌, subst, if◌then◌else◌}
 use Rattle.sx_base.specs.Act.{after, give}
 use Rattle.sx_base.specs.Named.{Named}
 use Rattle.sx_base.specs.declared.fault.Bare.{Bare}
@@ -24,7 +24,7 @@ use Rattle.sx_pattern.specs.declared.compile.PatternVariable.{PatternVariable}
 use Rattle.sx_quasi.specs.declared.quasi_syntax.Insert.{Insert}
 use Rattle.sx_quasi.specs.declared.quasi_syntax.QuasiSyntax.{QuasiSyntax}
 use Rattle.sx_quasi_code.specs.Form.{code_of}
-use Rattle.sx_quasi_code.specs.Inserted.{dots, ellipsis, variable_of, insert_variable, insert_variables, match_of, bind_inserts, inserted_in, inserted, plain_instance, syntax_code}
+use Rattle.sx_quasi_code.specs.Inserted.{dots, ellipsis, insert_variable, insert_variables, match_of, bind_inserts, inserted_in, inserted, syntax_code}
 use Rattle.sx_quasi_code.specs.declared.form.QuasiForm.{QuasiForm}
 use Rattle.sx_quasi_code.specs.declared.form.QuasiForm.TheVariants as forms
 use Rattle.sx_records.specs.Forms.{record_forms}
@@ -37,12 +37,11 @@ use Rattle.sx_stage.specs.Patterns as stage_patterns
 use Rattle.sx_stage.specs.Stage.{PlainStage}
 use Rattle.sx_stage.specs.Transformers as stage
 use Rattle.sx_stage.specs.Uses.{used}
-use Rattle.sx_standing.specs.Binders.{row_put, put_row, put_variable, bind_as, bind_variable, bind_all, bind_rest, bind_spec, bind_specs, bind_formals, variable_for}
-use Rattle.sx_standing.specs.Patterns.{pattern_of, check_literals, put_pattern_variable, bind_pattern_variable, bind_next, bind_pattern, template_of}
+use Rattle.sx_standing.specs.Binders.{row_put, put_row, bind_as, bind_variable, bind_all, bind_rest, bind_spec, bind_specs, bind_formals}
+use Rattle.sx_standing.specs.Patterns.{pattern_of, check_literals, bind_pattern_variable, bind_next, bind_pattern, template_of}
 use Rattle.sx_standing.specs.RecordUses.{at_state, defines_type, count_record_type, record_tree, record_marked, use_record}
-use Rattle.sx_standing.specs.State.{State, Does, stage_of, with_stage, staged, on_stage, fresh, fresh_frame, fault_form}
-use Rattle.sx_standing.specs.Uses.{macro_expression, use_keyword, asks_variable, put_keyword, bind_keyword_as, bind_keyword, bind_keywords, finish_keyword}
-use Rattle.sx_standing.specs.declared.binders.BoundSpec.{BoundSpec}
+use Rattle.sx_standing.specs.State.{State, stage_of, with_stage, staged, fresh, fresh_frame}
+use Rattle.sx_standing.specs.Uses.{macro_expression, use_keyword, asks_variable, bind_keyword_as, bind_keyword, bind_keywords, finish_keyword}
 use Rattle.sx_heads.specs.declared.plan.KeywordUse.{KeywordUse}
 use Rattle.sx_heads.specs.declared.plan.KeywordUse.TheVariants as keyword_use
 use Rattle.sx_expand.specs.Settle.{used_form, next_form}
@@ -52,8 +51,8 @@ use Rattle.sx_expand_laws.proofs.Compiled.{Compiles, GaveBy, compiles}
 use Rattle.sx_expand_laws.proofs.Naming.{counted, as_label, as_frame}
 use Rattle.sx_expand_laws.proofs.Plans.{IsTemplate, template-is}
 use Rattle.sx_expand_laws.proofs.Stage.{stage-grows}
-use Rattle.sx_run_laws.specs.Bound.{Binds, no_more, one_more}
-use Rattle.sx_run_laws.proofs.Steps.{Steps, Names, St, stays, self, steps-then, steps-after, steps-each, steps-gather, steps-within}
+use Rattle.sx_run_laws.specs.Bound.{no_more, one_more}
+use Rattle.sx_run_laws.proofs.Steps.{Steps, Names, St, stays, self, steps-after, steps-each, steps-gather, steps-within}
 
 module _ (own : LibName) where
   -- behind a new name

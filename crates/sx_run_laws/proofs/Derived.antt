@@ -1,5 +1,5 @@
 -- The derived library imports each name of the implementation once.
-use Rattle.std.proofs.Common.{◌≡◌, ◌≤◌, ◌<◌, ℕ, zero, suc, ◌+◌, Bool, true, false, List, [], ◌∷◌, ◌++◌, length, get_or, Option, None, Some, refl, ◌∙◌, ap, cond, arith, if◌then◌else◌}
+use Rattle.std.proofs.Common.{◌≡◌, ◌≤◌, ◌<◌, ℕ, zero, suc, ◌+◌, Bool, true, false, List, [], ◌∷◌, ◌++◌, length, get_or, Option, Some, refl, ◌∙◌, ap, cond, arith, if◌then◌else◌}
 use Rattle.std.specs.Prelude.{nat_eq, is_some}
 use Rattle.std.specs.Cmp.Lexicographic.{pointwise}
 use Rattle.sx_base.specs.Op.{name_count, op_text}

@@ -1,7 +1,7 @@
 -- Forms change frames by binds alone, each in a frame of the library.
-use Rattle.std.proofs.Common.{◌≡◌, ℕ, zero, suc, ◌+◌, Bool, true, false, List, [], ◌∷◌, map, Option, None, Some, Ok, Err, refl, sym, ◌∙◌, subst, if◌then◌else◌}
+use Rattle.std.proofs.Common.{◌≡◌, ℕ, zero, suc, ◌+◌, Bool, List, [], map, Option, None, Some, sym, subst}
 use Rattle.std.specs.Prelude.{nat_lt}
-use Rattle.sx_base.specs.Act.{after, give, each, gather}
+use Rattle.sx_base.specs.Act.{after, give}
 use Rattle.sx_base.specs.declared.library.LibName.{LibName}
 use Rattle.sx_base.specs.declared.name.FrameNo.{FrameNo}
 use Rattle.sx_base.specs.declared.name.Label.{Label}
@@ -46,7 +46,7 @@ use Rattle.sx_expand_laws.proofs.Naming.{counted, as_frame}
 use Rattle.sx_expand_laws.proofs.QuasiLater.{form-same}
 use Rattle.sx_run_laws.proofs.Binding.{steps-counted, steps-formals, steps-specs, steps-keywords, steps-patterns, steps-pattern, steps-literals, steps-finish, steps-code}
 use Rattle.sx_run_laws.proofs.Settling.{steps-settle, steps-define-keyword, SettlesAt, steps-settle-item}
-use Rattle.sx_run_laws.proofs.Steps.{Steps, Names, St, self, steps-then, steps-after, steps-each, steps-gather, steps-within, steps-apart}
+use Rattle.sx_run_laws.proofs.Steps.{Names, St, self, steps-then, steps-after, steps-each, steps-gather, steps-within, steps-apart}
 
 -- so does what is done inside forms
 pub record Inner (own : LibName) (go : Inside) : Type 0 where

@@ -1,10 +1,9 @@
 -- A record binds no label twice.
-use Rattle.std.proofs.Common.{◌≡◌, ℕ, zero, suc, ◌+◌, ◌<◌, List, [], ◌∷◌, ◌++◌, map, Option, None, Some, refl, sym, ◌∙◌, ap, subst, inl, inr, arith}
-use Rattle.std.specs.Prelude.{◌⊎◌}
+use Rattle.std.proofs.Common.{◌≡◌, ℕ, zero, suc, ◌<◌, List, [], ◌∷◌, ◌++◌, map, Option, None, Some, refl, sym, ap, subst, arith}
 use Rattle.sx_base.specs.declared.name.Label.{Label}
 use Rattle.sx_core.specs.Bindings.{bound_to}
 use Rattle.sx_core.specs.declared.binding.Binding.{Binding}
-use Rattle.sx_core_laws.specs.Words.{Each, Among, Once}
+use Rattle.sx_core_laws.specs.Words.{Each, Once}
 use Rattle.sx_standing.specs.Own.{row_at, own_label, own_row, own_below, own_bindings}
 use Rattle.sx_standing.specs.State.{State}
 use Rattle.sx_expand_laws.proofs.Fresh.{each-append, each-map, each-at, once-append}

@@ -24,6 +24,11 @@ pub mod NameText
 pub mod Plain
 pub mod Table
 pub mod Written
+pub mod SpelledLines
+pub mod SpelledRuns
+pub mod ReadableData
+pub mod ReadableGiven
+pub mod ReadableRuns
 pub mod WiderLemmas
 pub mod ExportLemmas
 pub mod DerivedLemmas

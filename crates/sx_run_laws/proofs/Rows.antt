@@ -1,18 +1,17 @@
 -- Rows of frames that came by binds can be bound again.
-use Rattle.std.proofs.Common.{◌≡◌, ◌≢◌, ℕ, zero, suc, Bool, true, false, List, [], ◌∷◌, ◌++◌, map, Option, None, Some, Result, Ok, Err, refl, sym, ◌∙◌, ap, subst, cond, append_assoc, append-nil, if◌then◌else◌}
+use Rattle.std.proofs.Common.{◌≡◌, ◌≢◌, ℕ, Bool, true, false, List, [], ◌∷◌, ◌++◌, map, Option, None, Some, Ok, Err, refl, sym, ◌∙◌, ap, subst, cond, append_assoc, append-nil, if◌then◌else◌}
 use Rattle.std.specs.Prelude.{filter, is_some, nat_eq, ◌&&◌}
 use Rattle.std.specs.Cmp.Lexicographic.{pointwise}
-use Rattle.sx_base.specs.Same.{same_name_cases, texts_decides}
-use Rattle.sx_base.specs.declared.fault.Bare.{Bare}
+use Rattle.sx_base.specs.Same.{texts_decides}
 use Rattle.sx_base.specs.declared.library.LibName.{LibName}
 use Rattle.sx_base.specs.declared.name.FrameNo.{FrameNo}
 use Rattle.sx_base.specs.declared.name.Label.{Label}
 use Rattle.sx_base.specs.declared.name.Mark.{Mark}
 use Rattle.sx_tree.specs.SameMarks.{same_marks}
 use Rattle.sx_tree.specs.declared.frame_row.FrameRow.{FrameRow}
-use Rattle.sx_frames.specs.Listed.{AreOrdered, row_from, rows_from, rows_in}
+use Rattle.sx_frames.specs.Listed.{AreOrdered, rows_from, rows_in}
 use Rattle.sx_frames.specs.Rows.{Row, is_of, label_in, second_binder}
-use Rattle.sx_frames.specs.Scope.{Scope, same_frame, has_frame, rows_at, label_at, with_row, bound, row_in, adopted, are_new}
+use Rattle.sx_frames.specs.Scope.{Scope, same_frame, has_frame, rows_at, label_at, with_row, bound, row_in, adopted}
 use Rattle.sx_frames.proofs.FrameLaws.{same_frame-differs, rows_at-with_row, rows_at-other, rows_at-adopted}
 use Rattle.sx_frames.proofs.ListedLaws.{filter-rows_in, ordered_rows_in}
 use Rattle.sx_frames.proofs.MemoLemmas.{same_frame_is}

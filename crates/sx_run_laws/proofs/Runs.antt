@@ -1,12 +1,11 @@
 -- The records of a run, and where the expansions of a run begin.
-use Rattle.std.proofs.Common.{◌≡◌, ℕ, zero, suc, ◌+◌, ◌<◌, Bool, true, false, List, [], ◌∷◌, ◌++◌, map, length, Option, None, Some, Result, Ok, Err, refl, sym, ◌∙◌, ap, subst, inl, inr, arith, append_assoc}
-use Rattle.std.specs.Prelude.{◌⊎◌, slice_get}
+use Rattle.std.proofs.Common.{◌≡◌, ℕ, zero, suc, true, List, [], ◌∷◌, ◌++◌, map, length, Option, None, Some, Result, Ok, Err, refl, sym, ◌∙◌, ap, subst, inl, inr, arith, append_assoc}
+use Rattle.std.specs.Prelude.{slice_get}
 use Rattle.sx_base.specs.Datum.{PlainDatum}
 use Rattle.sx_base.specs.Gives.{◌>>=◌}
 use Rattle.sx_base.specs.declared.fault.Fault.{Fault}
 use Rattle.sx_base.specs.declared.library.LibName.{LibName}
 use Rattle.sx_base.specs.declared.library.LibName.TheVariants as library
-use Rattle.sx_base.specs.declared.name.Label.{Label}
 use Rattle.sx_builtin.specs.Exports.{derived}
 use Rattle.sx_builtin.specs.declared.derived.TheConstants.{DERIVED_SOURCE}
 use Rattle.sx_tree.specs.Tree.{Tree}
@@ -18,8 +17,8 @@ use Rattle.sx_derived.specs.Derived.{forms_of, record_of, derived_record}
 use Rattle.sx_derived.specs.Names.{path, start, exports_of}
 use Rattle.sx_derived.specs.Names as derived_library
 use Rattle.sx_eval.specs.Codes.{Codes}
-use Rattle.sx_expand.specs.Expanding.{ready, library_record}
-use Rattle.sx_forms.specs.Form.{library_body, program_body}
+use Rattle.sx_expand.specs.Expanding.{library_record}
+use Rattle.sx_forms.specs.Form.{library_body}
 use Rattle.sx_forms.specs.declared.form.LibraryForm.{LibraryForm}
 use Rattle.sx_forms.specs.declared.set.Import.{Import}
 use Rattle.sx_import.specs.Names.{Labelled, import_names, joined}
@@ -41,7 +40,7 @@ use Rattle.sx_run_laws.proofs.MadeLemmas.{IsMade, all_made}
 use Rattle.sx_run_laws.proofs.RunLemmas.{same_place, all_records_stand}
 use Rattle.sx_run_laws.proofs.UserLemmas.{IsUser, user_at}
 use Rattle.sx_run_laws.specs.Expansion.{IsOnceOver}
-use Rattle.sx_run_laws.specs.Fitting.{Fits, AllFit, RecordsFit, Begins, AllBegin, ExpansionsBegin}
+use Rattle.sx_run_laws.specs.Fitting.{AllFit, RecordsFit, Begins, ExpansionsBegin}
 use Rattle.sx_run_laws.proofs.Derived.{derived-names-once}
 use Rattle.sx_run_laws.proofs.Starts.{IsApart, names-apart, begins}
 use Rattle.sx_run_laws.proofs.Tops.{once-behind}

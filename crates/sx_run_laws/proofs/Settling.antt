@@ -1,5 +1,5 @@
 -- What is done with a form, and with a form of a body, is found out with no binds but those of uses and definitions.
-use Rattle.std.proofs.Common.{◌≡◌, ℕ, zero, suc, Bool, true, false, List, [], ◌∷◌, Option, None, Some, Result, Ok, Err, refl, sym, ◌∙◌, subst, if◌then◌else◌}
+use Rattle.std.proofs.Common.{◌≡◌, ℕ, zero, suc, Bool, true, false, List, None, Some, Ok, refl, sym, subst, if◌then◌else◌}
 use Rattle.std.specs.Prelude.{◌||◌, ◌&&◌, not}
 use Rattle.sx_base.specs.Act.{after, give}
 use Rattle.sx_base.specs.declared.fault.FaultKind.TheVariants as kind
@@ -14,14 +14,13 @@ use Rattle.sx_shapes.specs.declared.shape.BindingSpec.{BindingSpec}
 use Rattle.sx_shapes.specs.declared.shape.Shape.{Shape}
 use Rattle.sx_shapes.specs.declared.shape.Shape.TheVariants as shapes
 use Rattle.sx_standing.specs.Binders.{bind_variable}
-use Rattle.sx_standing.specs.Patterns.{template_of}
 use Rattle.sx_standing.specs.Standing.{standing_of}
-use Rattle.sx_standing.specs.State.{State, Does, fault_form, fault_word}
+use Rattle.sx_standing.specs.State.{State, Does, fault_word}
 use Rattle.sx_standing.specs.Uses.{asks_variable, bind_keyword}
 use Rattle.sx_standing.specs.declared.standing.Standing.{Standing}
 use Rattle.sx_standing.specs.declared.standing.Standing.TheVariants as standing
-use Rattle.sx_heads.specs.Items.{alone, is_mixed, is_top, any_changed, heads_like, with_waiting, in_time, keyword_in_time, define, define_keyword, define_item, item_plan}
-use Rattle.sx_heads.specs.Plan.{done, reference, assign, plan_of}
+use Rattle.sx_heads.specs.Items.{is_mixed, is_top, any_changed, heads_like, in_time, keyword_in_time, define, define_keyword, define_item, item_plan}
+use Rattle.sx_heads.specs.Plan.{reference, assign, plan_of}
 use Rattle.sx_heads.specs.declared.item.Item.{Item}
 use Rattle.sx_heads.specs.declared.item.Item.TheVariants as items
 use Rattle.sx_heads.specs.declared.plan.KeywordUse.{KeywordUse}
@@ -29,7 +28,6 @@ use Rattle.sx_heads.specs.declared.plan.Plan.{Plan}
 use Rattle.sx_heads.specs.declared.plan.Plan.TheVariants as plans
 use Rattle.sx_heads.specs.declared.taken.BodyAt.{BodyAt}
 use Rattle.sx_heads.specs.declared.taken.Taken.{Taken}
-use Rattle.sx_heads.specs.declared.taken.Waits.TheVariants as waits
 use Rattle.sx_expand.specs.Settle.{next_form, too_many, set_step, step_of, step, settled_by, settle_to, at_use, set_item_step, item_step_of, item_step, settle_item_to}
 use Rattle.sx_expand.specs.Settle as settle
 use Rattle.sx_expand.specs.declared.settle.Step.{Step}

@@ -1,5 +1,5 @@
 -- Where the expansion of a library begins, its frame is new, and no two of its names are one.
-use Rattle.std.proofs.Common.{◌≡◌, ◌≢◌, ℕ, Bool, true, false, List, [], ◌∷◌, ◌++◌, map, Option, None, Some, refl, sym, ◌∙◌, ap, subst, cond, inl, inr, append_assoc}
+use Rattle.std.proofs.Common.{◌≡◌, ◌≢◌, ℕ, Bool, true, false, List, [], ◌∷◌, ◌++◌, map, None, Some, refl, sym, ◌∙◌, ap, subst, cond, inl, inr, append_assoc}
 use Rattle.std.specs.Prelude.{is_some, nat_eq}
 use Rattle.std.specs.Cmp.Lexicographic.{pointwise}
 use Rattle.sx_base.specs.declared.library.LibName.{LibName}
@@ -10,7 +10,6 @@ use Rattle.sx_tree.specs.declared.frame_row.FrameRow.{FrameRow}
 use Rattle.sx_frames.specs.Rows.{label_in}
 use Rattle.sx_frames.specs.Scope.{Scope, has_frame, rows_at, label_at, with_row, row_in, adopted, are_new}
 use Rattle.sx_frames.proofs.FrameLaws.{rows_at-with_row}
-use Rattle.sx_frames.proofs.GivenLemmas.{rows_at-absent}
 use Rattle.sx_core.specs.declared.record.LibRecord.{LibRecord}
 use Rattle.sx_core_laws.specs.Follows.{names_of, IsOwn}
 use Rattle.sx_core_laws.specs.Words.{Each, Among}
@@ -21,7 +20,6 @@ use Rattle.sx_import_laws.specs.Algebra.{IsOnce}
 use Rattle.sx_records.specs.Frame.{core_row, rows_for, introduced_numbers, record_frame}
 use Rattle.sx_records.specs.Introduced.{core_frame}
 use Rattle.sx_standing.specs.Start.{rows_of, first_frame, import_row, started}
-use Rattle.sx_expand_laws.specs.Ready.{IsReady}
 use Rattle.sx_expand_laws.specs.Serves.{AllServe}
 use Rattle.sx_expand_laws.proofs.Fresh.{each-append, each-map}
 use Rattle.sx_run_laws.specs.Bound.{AreBound}

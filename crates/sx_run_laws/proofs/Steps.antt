@@ -1,12 +1,12 @@
 -- From states to later ones whose frames come by binds.
-use Rattle.std.proofs.Common.{◌≡◌, ℕ, Bool, true, false, List, [], ◌∷◌, ◌++◌, length, Result, Ok, Err, refl, sym, ◌∙◌, ap, subst, if◌then◌else◌}
+use Rattle.std.proofs.Common.{◌≡◌, List, [], ◌∷◌, ◌++◌, length, Result, Ok, Err, sym, subst}
 use Rattle.sx_base.specs.Act.{after, each, gather}
 use Rattle.sx_base.specs.declared.fault.Fault.{Fault}
 use Rattle.sx_base.specs.declared.library.LibName.{LibName}
 use Rattle.sx_frames.specs.Scope.{Scope}
 use Rattle.sx_standing.specs.InScope.{leaving, within, restoring, apart}
 use Rattle.sx_standing.specs.State.{State, Does}
-use Rattle.sx_expand_laws.proofs.Acts.{Gave, gave-after, gave-less, gave-gather}
+use Rattle.sx_expand_laws.proofs.Acts.{Gave, gave-after, gave-less}
 use Rattle.sx_run_laws.specs.Bound.{Binds, no_more, one_more}
 
 pub binds-then : {own : LibName} {fs gs hs : Scope} → Binds own fs gs → Binds own gs hs → Binds own fs hs

@@ -1,5 +1,5 @@
 -- A library or program: what its expansion leaves came by binds, and so its rows can be bound again.
-use Rattle.std.proofs.Common.{◌≡◌, ℕ, Bool, true, false, ◌<◌, List, [], ◌∷◌, ◌++◌, map, Option, None, Some, Result, Ok, Err, refl, sym, ◌∙◌, ap, subst, arith}
+use Rattle.std.proofs.Common.{◌≡◌, ℕ, ◌<◌, List, [], map, Option, None, Some, Result, Ok, Err, refl, sym, ◌∙◌, ap, subst, arith}
 use Rattle.sx_base.specs.Act.{after}
 use Rattle.sx_base.specs.declared.fault.Fault.{Fault}
 use Rattle.sx_base.specs.declared.library.LibName.{LibName}
@@ -9,11 +9,9 @@ use Rattle.sx_base.specs.declared.span.Span.{Span}
 use Rattle.sx_tree.specs.Changes.{stamp}
 use Rattle.sx_tree.specs.Tree.{Tree}
 use Rattle.sx_frames.specs.Listed.{rows_in}
-use Rattle.sx_frames.specs.Scope.{Scope}
 use Rattle.sx_core.specs.Bindings.{bound_to}
 use Rattle.sx_core.specs.declared.binding.Binding.{Binding}
 use Rattle.sx_core.specs.declared.record.LibRecord.{LibRecord}
-use Rattle.sx_core_laws.specs.Follows.{bound_labels}
 use Rattle.sx_core_laws.specs.Words.{Each, Once}
 use Rattle.sx_eval.specs.Codes.{Codes}
 use Rattle.sx_import_laws.specs.Algebra.{IsOnce}
@@ -28,9 +26,8 @@ use Rattle.sx_expand.specs.Expression.{inside}
 use Rattle.sx_expand.specs.Inside.{Inside}
 use Rattle.sx_expand.specs.Top.{record_in, give_record, exports, body_at, finished, first_pass, top}
 use Rattle.sx_expand.specs.declared.top.TopAt.{TopAt}
-use Rattle.sx_expand_laws.specs.Ready.{IsReady}
 use Rattle.sx_expand_laws.specs.States.{IsNumbered, Later}
-use Rattle.sx_expand_laws.proofs.Acts.{Gave, gave-after, gave-less, told}
+use Rattle.sx_expand_laws.proofs.Acts.{Gave, gave-after, told}
 use Rattle.sx_expand_laws.proofs.Changes.{form-later}
 use Rattle.sx_expand_laws.proofs.Records.{records-good}
 use Rattle.sx_expand_laws.proofs.Started.{started-sound}

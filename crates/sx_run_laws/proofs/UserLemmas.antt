@@ -158,7 +158,7 @@ abbrev pub AreUsers : Loading → Type 0
 AreUsers s = Each RowUser s.done
 
 -- where loading stops nothing is asked here
-abbrev Nothing : Loading → Type 0
+abbrev pub Nothing : Loading → Type 0
 Nothing s = Unit {0}
 
 abbrev UsersMarked : List Bool × Loading → Type 0
@@ -169,11 +169,11 @@ record Opens (o : Opened × Loading) : Type 0 where
   pub users : AreUsers o.1
 
 -- a file is loaded
-record Closes (o : Opened) (l : Found × Loading) : Type 0 where
+pub record Closes (o : Opened) (l : Found × Loading) : Type 0 where
   pub opened : l.0.opened ≡ o
   pub users : AreUsers l.1
 
-abbrev LoadsUsers : Loader → Type 0
+abbrev pub LoadsUsers : Loader → Type 0
 LoadsUsers load = (o : Opened) (s : Loading) → AreUsers s → Ends (Closes o) Nothing (load o s)
 
 abbrev InsideUsers : Option Loader → Type 0
@@ -247,7 +247,7 @@ module _ (files : Paths) (roots : List (List ℕ)) where
       (users_each inside well no_needs s o.form.imports users)
       (λ n h. record { opened = refl; users = h })
 
-  users_file : (room : ℕ) → LoadsUsers (load_file files roots room)
+  pub users_file : (room : ℕ) → LoadsUsers (load_file files roots room)
   unfolding load_file
   users_file zero = users_loaded None tt
   users_file (suc room) = users_loaded (Some (load_file files roots room)) (users_file room)

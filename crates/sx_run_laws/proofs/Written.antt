@@ -28,6 +28,7 @@ use Rattle.sx_library.specs.Loaded.{all_records}
 use Rattle.sx_load.specs.declared.found.Found.{Found}
 use Rattle.sx_load.specs.declared.found.Loading.{Loading}
 use Rattle.sx_name_laws.specs.Variable.{IsNamed}
+use Rattle.sx_name_laws.proofs.AnyName.{place_told}
 use Rattle.sx_plan.specs.Planned.{plan_of}
 use Rattle.sx_standing.specs.Start.{or_skip, records_at}
 use Rattle.sx_run_laws.specs.Run.{AllStand}
@@ -40,12 +41,12 @@ use Rattle.sx_text_laws.specs.Text.{text_of, IsClosedOnce}
 use Rattle.sx_text_laws.proofs.BoundOnce.{text-names-once}
 use Rattle.sx_text_laws.proofs.Closed.{text-known}
 use Rattle.sx_text_laws.proofs.Names.{same-record}
-use Rattle.sx_text_laws.proofs.Words.{among-map, among-flat, flat-among}
+use Rattle.sx_text_laws.proofs.Words.{among-map, flat-among}
 use Rattle.sx_run_laws.specs.Names.{names_for, NamesClosed, IsWrittenName, IsWrittenOnce}
 use Rattle.sx_run_laws.specs.Written.{RunsAreWrittenOnce}
 use Rattle.sx_run_laws.proofs.DerivedLines.{derived-bare}
 use Rattle.sx_run_laws.proofs.Lists.{once-map, map-once, found-among}
-use Rattle.sx_run_laws.proofs.NameText.{names_tell, name_written}
+use Rattle.sx_run_laws.proofs.NameText.{name_written}
 use Rattle.sx_run_laws.proofs.Plain.{lines-plain, lines-closed}
 use Rattle.sx_run_laws.proofs.Table.{names-of-text, name-in}
 
@@ -55,7 +56,7 @@ first-gives : {B : Type 0} (r : Checked) (k : Result B Fault) (b : B) → (r >>=
 first-gives (Ok x) k b e = (refl, e)
 first-gives (Err f) k b e = absurd (cc)
 
-abbrev HasText : LibRecord → Type 0
+abbrev pub HasText : LibRecord → Type 0
 HasText r = lines_checked r.run ≡ written
 
 plan-text : (records : List LibRecord) (ps : List ℕ) → plan_checked records ps ≡ written → Each HasText (records_at records ps)
@@ -66,7 +67,7 @@ plan-text records (p ∷ ps) e = by (slice_get records p) (first-gives (record_c
     by None k rest = rest k.1
     by (Some r) k rest = (k.0, rest k.1)
 
-text-checked : (records : List LibRecord) (program : LibRecord) (text : List ℕ) → core_text records (plan_of records program) program ≡ Ok text → Each HasText (text_of records program)
+pub text-checked : (records : List LibRecord) (program : LibRecord) (text : List ℕ) → core_text records (plan_of records program) program ≡ Ok text → Each HasText (text_of records program)
 text-checked records program text e =
     let plan = plan_of records program in
     let whole : Result (List ℕ) Fault = Ok (all_text (all_names records plan program) records plan program) in
@@ -88,7 +89,7 @@ pub record IsSound (r : LibRecord) : Type 0 where
   pub own : Each (λ (l : Label). IsOwn r l.0) (bound_labels r)
   pub named : (r.run ≡ []) ⊎ IsNamed r.name
 
-all-sound : (found : Found) (s : Loading) (records : List LibRecord) (program : LibRecord) → ((i : ℕ) (file : List ℕ) (f : Found) → slice_get s.done i ≡ Some (file, f) → IsUser f.opened.form.name)
+pub all-sound : (found : Found) (s : Loading) (records : List LibRecord) (program : LibRecord) → ((i : ℕ) (file : List ℕ) (f : Found) → slice_get s.done i ≡ Some (file, f) → IsUser f.opened.form.name)
     → (h : AllStand found s records program) → h.derived.run ≡ [] → Each IsSound (records ++ program ∷ [])
 all-sound found s records program users h bare =
     each-append IsSound records (program ∷ [])
@@ -128,31 +129,30 @@ indexed-in r l h = by (lookup (same_label l) r.bindings) refl h
     by (Some (binding.Core form)) e k = elim k [ ]
     by (Some (binding.Primitive o)) e k = elim k [ ]
 
-module _ (records : List LibRecord) (program : LibRecord) (standing : AreStanding records program) (once : IsClosedOnce (text_of records program)) (sound : Each IsSound (records ++ program ∷ []))
-    (checked : Each HasText (text_of records program)) where
+module _ (records : List LibRecord) (program : LibRecord) (standing : AreStanding records program) (sound : Each IsSound (records ++ program ∷ [])) (checked : Each HasText (text_of records program)) where
   abbrev T : List LibRecord
   T = text_of records program
 
   abbrev names : Names
   names = all_names records (plan_of records program) program
 
-  text-sound : (r : LibRecord) → Among T r → IsSound r
+  pub text-sound : (r : LibRecord) → Among T r → IsSound r
   text-sound r a = each-at IsSound (records ++ program ∷ []) r sound (text-known records program standing r a)
 
   names-once : Once (names_of T)
   names-once = text-names-once records program standing
 
-  -- a binder of the text
-  record IsBinder (l : Label) : Type 0 where
+  -- a binder of the text, and its name
+  pub record IsBinder (l : Label) : Type 0 where
     pub holder : LibRecord
     pub there : Among T holder
     pub variables : Among (run_variables holder) l
     pub indexed : IsIndexedIn holder l
     pub own : l.0.library ≡ holder.name
     pub named : IsNamed l.0.library
-    pub name : name_of names l ≡ generated_name l.0.library indexed.variable.symbol indexed.number
+    pub called : lookup (same_label l) names ≡ Some (generated_name l.0.library indexed.variable.symbol indexed.number)
 
-  binder : (l : Label) → Among (flat_map run_binders T) l → IsBinder l
+  pub binder : (l : Label) → Among (flat_map run_binders T) l → IsBinder l
   binder l a =
       let found = flat-among run_binders T l a in
       let r = found.0 in
@@ -167,36 +167,39 @@ module _ (records : List LibRecord) (program : LibRecord) (standing : AreStandin
         indexed = i;
         own = own;
         named = subst IsNamed (sym own) (not-bare r s.named found.2);
-        name = ap (λ (o : Option (List ℕ)). unwrap_or o [])
-            (ap (λ (ns : Names). lookup (same_label l) ns) (names-of-text records program)
-            ∙ name-in T [] r l i.variable i.number names-once (each-of (λ q. Each (λ (m : Label). IsOwn q m.0) (bound_labels q)) T (λ q b. (text-sound q b).own)) (each-of (λ q. Once (bound_labels q)) T (λ q b. (text-sound q b).indices.bindings_once)) found.1 i.bound i.index);
+        called = ap (λ (ns : Names). lookup (same_label l) ns) (names-of-text records program)
+            ∙ name-in T [] r l i.variable i.number names-once (each-of (λ q. Each (λ (m : Label). IsOwn q m.0) (bound_labels q)) T (λ q b. (text-sound q b).own)) (each-of (λ q. Once (bound_labels q)) T (λ q b. (text-sound q b).indices.bindings_once)) found.1 i.bound i.index;
       }
     where
       not-bare : (r : LibRecord) → (r.run ≡ []) ⊎ IsNamed r.name → Among (run_binders r) l → IsNamed r.name
       not-bare r (inl e) b = absurd (subst (λ (xs : List Line). Among (flat_map line_binders xs) l) e b)
       not-bare r (inr n) b = n
 
-  same-name : (l m : Label) → Among (flat_map run_binders T) l → Among (flat_map run_binders T) m → name_of names l ≡ name_of names m → l ≡ m
-  same-name l m a b e =
-      let x = binder l a in
-      let y = binder m b in
-      let told = names_tell l.0.library m.0.library x.indexed.variable.symbol y.indexed.variable.symbol x.indexed.number y.indexed.number x.named y.named (sym x.name ∙ e ∙ y.name) in
-      let one : x.holder ≡ y.holder = same-record T names-once x.holder y.holder x.there y.there (sym x.own ∙ told.0 ∙ y.own) in
-      let among : Among (run_variables x.holder) m = subst (λ (r : LibRecord). Among (run_variables r) m) (sym one) y.variables in
-      let index : index_of x.holder m ≡ Some y.indexed.number = subst (λ (r : LibRecord). index_of r m ≡ Some y.indexed.number) (sym one) y.indexed.told in
-      map-once (index_of x.holder) (run_variables x.holder) l m (text-sound x.holder x.there).indices.indexed_once x.variables among (x.indexed.told ∙ ap Some told.1 ∙ sym index)
+  name-is : (l : Label) (x : IsBinder l) → name_of names l ≡ generated_name l.0.library x.indexed.variable.symbol x.indexed.number
+  name-is l x = ap (λ (o : Option (List ℕ)). unwrap_or o []) x.called
 
-  pub text-written : IsWrittenOnce names T
-  text-written = record {
-    named = each-mapped IsWrittenName (name_of names) (flat_map run_binders T)
-        (each-of (λ l. IsWrittenName (name_of names l)) (flat_map run_binders T) (λ l a. let x = binder l a in subst IsWrittenName (sym x.name) (name_written l.0.library x.indexed.variable.symbol x.indexed.number x.named)));
-    closed = each-of (λ r. Each (λ x. NamesClosed names (names_for names (flat_map defined T)) (line_core x)) r.run) T
-        (λ r a. lines-closed names (flat_map defined T) r.run (each-at HasText T r checked a) (each-at (LinesClosed (flat_map defined T)) T r once.closed a));
-    bound_once = once-map (name_of names) (flat_map run_binders T) once.bound_once same-name;
-  }
+  module _ (once : IsClosedOnce (text_of records program)) where
+    same-name : (l m : Label) → Among (flat_map run_binders T) l → Among (flat_map run_binders T) m → name_of names l ≡ name_of names m → l ≡ m
+    same-name l m a b e =
+        let x = binder l a in
+        let y = binder m b in
+        let told = place_told l.0.library m.0.library x.indexed.variable.symbol y.indexed.variable.symbol x.indexed.number y.indexed.number x.named y.named (sym (name-is l x) ∙ e ∙ name-is m y) in
+        let one : x.holder ≡ y.holder = same-record T names-once x.holder y.holder x.there y.there (sym x.own ∙ told.0 ∙ y.own) in
+        let among : Among (run_variables x.holder) m = subst (λ (r : LibRecord). Among (run_variables r) m) (sym one) y.variables in
+        let index : index_of x.holder m ≡ Some y.indexed.number = subst (λ (r : LibRecord). index_of r m ≡ Some y.indexed.number) (sym one) y.indexed.told in
+        map-once (index_of x.holder) (run_variables x.holder) l m (text-sound x.holder x.there).indices.indexed_once x.variables among (x.indexed.told ∙ ap Some told.1 ∙ sym index)
+
+    pub text-written : IsWrittenOnce names T
+    text-written = record {
+      named = each-mapped IsWrittenName (name_of names) (flat_map run_binders T)
+          (each-of (λ l. IsWrittenName (name_of names l)) (flat_map run_binders T) (λ l a. let x = binder l a in subst IsWrittenName (sym (name-is l x)) (name_written l.0.library x.indexed.variable.symbol x.indexed.number)));
+      closed = each-of (λ r. Each (λ x. NamesClosed names (names_for names (flat_map defined T)) (line_core x)) r.run) T
+          (λ r a. lines-closed names (flat_map defined T) r.run (each-at HasText T r checked a) (each-at (LinesClosed (flat_map defined T)) T r once.closed a));
+      bound_once = once-map (name_of names) (flat_map run_binders T) once.bound_once same-name;
+    }
 
 -- the record of the derived library comes first, and has no lines
-first-bare : (prelude : Result Codes Fault) (found : Found) (s : Loading) (records : List LibRecord) (program : LibRecord) → all_records prelude s.done ≡ Ok records → (h : AllStand found s records program) → h.derived.run ≡ []
+pub first-bare : (prelude : Result Codes Fault) (found : Found) (s : Loading) (records : List LibRecord) (program : LibRecord) → all_records prelude s.done ≡ Ok records → (h : AllStand found s records program) → h.derived.run ≡ []
 first-bare prelude found s records program e h =
     let made = all_made prelude s.done records e in
     let same : made.derived ∷ made.others ≡ h.derived ∷ h.others = sym made.parts ∙ h.parts in
@@ -206,5 +209,6 @@ first-bare prelude found s records program e h =
 pub runs-written : RunsAreWrittenOnce
 runs-written prelude files roots path found s records program text run e =
     let stand = all_records_stand prelude files roots path found s records program run in
-    text-written records program (all_standing found s records program stand) (runs_are_closed_once prelude files roots path found s records program run)
+    text-written records program (all_standing found s records program stand)
     (all-sound found s records program (user_at files roots path found s run.loaded) stand (first-bare prelude found s records program run.recorded stand)) (text-checked records program text e)
+    (runs_are_closed_once prelude files roots path found s records program run)

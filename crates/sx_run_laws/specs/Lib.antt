@@ -4,6 +4,8 @@ pub mod Expansion
 pub mod Fitting
 pub mod Names
 pub mod Written
+pub mod Spelled
+pub mod Readable
 pub mod Once
 pub mod Known
 pub mod Following

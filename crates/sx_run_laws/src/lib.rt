@@ -34,8 +34,9 @@
 //! asks of the records.
 //!
 //! More stand in modules of their own: `by_name`, that the text is closed and bound once by the names in it; `follow`,
-//! that the records follow one another; `memory`, that want of memory hides no other cause; and `stuck`, that no run ends with the
-//! fault of cells that don't fit.
+//! that the records follow one another; `memory`, that want of memory hides no other cause; `spelled`, that the text is spelled by the
+//! grammar of core text, and read back; `readable`, that each constant in it can be read; and `stuck`, that no run ends with the fault of
+//! cells that don't fit.
 //!
 //! Nothing is computed here: each function stands for the law that it ensures.
 #![tactic(auto)]
@@ -43,6 +44,8 @@
 pub mod by_name;
 pub mod follow;
 pub mod memory;
+pub mod readable;
+pub mod spelled;
 pub mod stuck;
 
 ghost use Rattle.sx_run_laws.specs.Run.{RecordsStand, RunsAreClosedOnce};

@@ -1,9 +1,11 @@
 use Rattle.sx_given_laws.proofs.Knows.{knows}
 use Rattle.sx_given_lists_laws.proofs.FoldLeftRows.{fold-left-ended, fold-left-only}
+use Rattle.sx_given_lists_laws.proofs.RowValues.{left-gives}
 use Rattle.sx_given_lists_laws.proofs.laws.fold_left_goes_from_the_left.Goals as goal
 
 pub returns : goal.returns
 returns c = record {
+  gives = λ w f z l more rows s has r give. left-gives w (knows w has) f z l more rows s r give;
   ends = λ w f z l more rows s has r give. fold-left-ended w (knows w has) f z l more rows s r give;
   only = λ w f z l more rows s t e has r called. fold-left-only w (knows w has) f z l more rows s r e t called;
 }

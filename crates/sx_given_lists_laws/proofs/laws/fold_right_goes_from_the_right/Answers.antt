@@ -1,9 +1,11 @@
 use Rattle.sx_given_laws.proofs.Knows.{knows}
 use Rattle.sx_given_lists_laws.proofs.FoldRightRows.{fold-right-ended, fold-right-only}
+use Rattle.sx_given_lists_laws.proofs.RowValues.{right-gives}
 use Rattle.sx_given_lists_laws.proofs.laws.fold_right_goes_from_the_right.Goals as goal
 
 pub returns : goal.returns
 returns c = record {
+  gives = λ w f z l more rows s has r give. right-gives w (knows w has) f z l more rows s r give;
   ends = λ w f z l more rows s has r give. fold-right-ended w (knows w has) f z l more rows s r give;
   only = λ w f z l more rows s t e has r called. fold-right-only w (knows w has) f z l more rows s r e t called;
 }

@@ -1,9 +1,11 @@
 use Rattle.sx_given_laws.proofs.Knows.{knows}
 use Rattle.sx_given_lists_laws.proofs.ForAllRows.{for-all-ended, for-all-only}
+use Rattle.sx_given_lists_laws.proofs.RowValues.{for-all-gives}
 use Rattle.sx_given_lists_laws.proofs.laws.for_all_asks_in_order.Goals as goal
 
 pub returns : goal.returns
 returns c = record {
+  gives = λ w f l more rows s has r give. for-all-gives w (knows w has) f l more rows s r give;
   ends = λ w f l more rows s has r give. for-all-ended w (knows w has) f l more rows s r give;
   only = λ w f l more rows s t e has r called. for-all-only w (knows w has) f l more rows s r e t called;
 }

@@ -1,0 +1,22 @@
+-- Records of libraries in which all can be read.
+use Rattle.std.specs.Prelude.{◌≡◌, ℕ, List, Ok}
+use Rattle.sx_base.specs.declared.library.LibName.{LibName}
+use Rattle.sx_base.specs.declared.name.Label.{Label}
+use Rattle.sx_base.specs.declared.span.Span.{Span}
+use Rattle.sx_tree.specs.Tree.{Tree}
+use Rattle.sx_core.specs.declared.record.LibRecord.{LibRecord}
+use Rattle.sx_eval.specs.Codes.{Codes}
+use Rattle.sx_value.specs.Cells.{Each}
+use Rattle.sx_expand.specs.Expanding.{ready, library_record}
+use Rattle.sx_readable_laws.specs.Readable.{ReadableTree, ReadableCodes, ReadableLines}
+use Rattle.sx_readable_expansion_laws.specs.States.{ReadableBindings}
+
+-- the constants of its lines, and of its keywords' expressions
+pub record ReadableRecord (r : LibRecord) : Type 0 where
+  pub run : ReadableLines r.run
+  pub bindings : ReadableBindings r.bindings
+
+-- Where the forms of a library can be read, and so can all in the records before and in the codes of texts, so can all in its record.
+abbrev pub RecordsStayReadable : Type 0
+RecordsStayReadable = (own : LibName) (path : List ℕ) (records : List LibRecord) (imports : List (List ℕ × Label)) (version : List ℕ) (place : Span) (exports : List (List ℕ × Tree)) (forms : List Tree) (codes : Codes) (r : LibRecord)
+    → Each ReadableRecord records → ReadableCodes codes → Each ReadableTree forms → library_record (ready own path records imports codes) records version place exports forms ≡ Ok r → ReadableRecord r

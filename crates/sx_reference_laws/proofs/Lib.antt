@@ -1,0 +1,10 @@
+pub mod Capturing
+pub mod Referring
+pub mod Introducing
+pub mod Settling
+pub mod Staying
+pub mod Walking
+pub mod Filling
+pub mod Performing
+pub mod Wholly
+pub mod Recording

@@ -1,0 +1,281 @@
+-- What is settled of a form, where that is a reference or an assignment, names what its identifier stands for.
+use Rattle.std.proofs.Common.{◌≡◌, ℕ, zero, suc, Bool, true, false, List, [], ◌∷◌, Option, None, Some, Result, Ok, Err, refl, sym, ap, ◌∙◌, subst, inl, inr, if◌then◌else◌}
+use Rattle.std.specs.Prelude.{◌⊎◌, nat_lt}
+use Rattle.sx_base.specs.Act.{after, give}
+use Rattle.sx_base.specs.Op.{is_keyword}
+use Rattle.sx_base.specs.Same.{same_library}
+use Rattle.sx_base.specs.declared.fault.Fault.{Fault}
+use Rattle.sx_base.specs.declared.library.LibName.TheVariants as library
+use Rattle.sx_base.specs.declared.name.Label.{Label}
+use Rattle.sx_base.specs.declared.span.Span.{Span}
+use Rattle.sx_tree.specs.Tree.{Tree, atom, leaf, pair, vector}
+use Rattle.sx_scope.specs.Stands.{stands}
+use Rattle.sx_core.specs.Bindings.{bound_to}
+use Rattle.sx_core.specs.Core.{PlainCore, variable, instance}
+use Rattle.sx_core.specs.CoreForm.{at_number}
+use Rattle.sx_core.specs.References.{mentions}
+use Rattle.sx_core.specs.declared.binding.Binding.{Binding}
+use Rattle.sx_core.specs.declared.binding.Binding.TheVariants as binding
+use Rattle.sx_core.specs.declared.core_form.CoreForm.{CoreForm}
+use Rattle.sx_core.specs.declared.core_form.CoreForm.TheVariants as core_forms
+use Rattle.sx_core.specs.declared.record.LibRecord.{LibRecord}
+use Rattle.sx_shapes.specs.At.{place_of}
+use Rattle.sx_shapes.specs.Forms.{shape}
+use Rattle.sx_shapes.specs.Lists.{is_leaf, is_nil_atom, proper_elements}
+use Rattle.sx_shapes.specs.declared.shape.BindingSpec.{BindingSpec}
+use Rattle.sx_shapes.specs.declared.shape.Shape.{Shape}
+use Rattle.sx_shapes.specs.declared.shape.Shape.TheVariants as shapes
+use Rattle.sx_standing.specs.Patterns.{template_of}
+use Rattle.sx_standing.specs.Standing.{label_standing, numbered_as, given_as, bound_as, standing_by, standing_of, role_of}
+use Rattle.sx_standing.specs.State.{State, Does}
+use Rattle.sx_standing.specs.Uses.{asks_variable}
+use Rattle.sx_standing.specs.declared.standing.Role.{Role}
+use Rattle.sx_standing.specs.declared.standing.Role.TheVariants as role
+use Rattle.sx_standing.specs.declared.standing.Standing.{Standing}
+use Rattle.sx_standing.specs.declared.standing.Standing.TheVariants as standing
+use Rattle.sx_heads.specs.Plan.{reference, constant, target_by, assign_to, assign_by, assign, call_of, application, in_sequence, keywords_plan, operand_plan, shape_plan, with_shape, by_role, keyword_plan, by_head, list_plan, plan_of}
+use Rattle.sx_heads.specs.declared.plan.KeywordUse.{KeywordUse}
+use Rattle.sx_heads.specs.declared.plan.Plan.{Plan}
+use Rattle.sx_heads.specs.declared.plan.Plan.TheVariants as plans
+use Rattle.sx_expand.specs.Settle.{next_form, too_many, set_step, step_of, step, settled_by, settle_to, settle}
+use Rattle.sx_expand.specs.declared.settle.Settled.{Settled}
+use Rattle.sx_expand.specs.declared.settle.Step.{Step}
+use Rattle.sx_expand.specs.declared.settle.Step.TheVariants as steps
+use Rattle.sx_expand_laws.specs.Named.{RefersTo}
+use Rattle.sx_expand_laws.proofs.Acts.{Gave, gave-any, gave-both, gave-after, gave-less, gave-if}
+use Rattle.sx_expand_laws.proofs.Named.{assignments-named}
+use Rattle.sx_expand_laws.proofs.References.{RefersBy, Refers, Targets, reference-is, target_by-is}
+
+-- The variable of a standing has the label that was asked for.
+
+abbrev OfLabel : Label → Standing → Type 0
+OfLabel l standing.Nothing = Unit {0}
+OfLabel l (standing.Variable v) = v.label ≡ l
+OfLabel l standing.PatternVariable = Unit {0}
+OfLabel l (standing.Primitive op) = Unit {0}
+OfLabel l (standing.Core f) = Unit {0}
+OfLabel l (standing.Keyword m) = Unit {0}
+
+label-kept : (s : State) (l : Label) → OfLabel l (label_standing s l)
+unfolding label_standing
+label-kept s l = by (same_library l.0.library library.Core)
+  where
+    by_keyword : (b : Bool) → OfLabel l (if b then standing.Nothing else standing.Primitive (record { 0 = l.0.number }))
+    by_keyword true = tt
+    by_keyword false = tt
+
+    by_form : (o : Option CoreForm) → OfLabel l (given_as l o)
+    by_form (Some f) = tt
+    by_form None = by_keyword (is_keyword l.0.number)
+
+    by_number : (b : Bool) → OfLabel l (if b then given_as l (at_number l.0.number) else standing.Nothing)
+    by_number true = by_form (at_number l.0.number)
+    by_number false = tt
+
+    bound : (o : Option Binding) → OfLabel l (bound_as s l o)
+    bound None = tt
+    bound (Some (binding.Variable v)) = refl
+    bound (Some (binding.PatternVariable level depth)) = tt
+    bound (Some (binding.Macro level expression)) = tt
+    bound (Some (binding.Core f)) = tt
+    bound (Some (binding.Primitive o)) = tt
+
+    by : (b : Bool) → OfLabel l (if b then numbered_as l else bound_as s l (bound_to s.bindings l))
+    by true = by_number (nat_lt l.0.number 301)
+    by false = bound (bound_to s.bindings l)
+
+gave-told : {A : Type 0} (P : A → State → Type 0) (r : Result (A × State) Fault) → ((a : A) (u : State) → r ≡ Ok (a, u) → P a u) → Gave P r
+gave-told P (Ok p) h = h p.0 p.1 refl
+gave-told P (Err e) h = tt
+
+-- What a plan tells of its form: a reference names what its leaf stands for, and so does the target of an assignment.
+
+abbrev pub IsReference : Tree → PlainCore → State → Type 0
+IsReference t c u = (l : Label) × ((is_leaf t ≡ true) × ((stands u.frames t ≡ Some l) × RefersTo u (Some l) c))
+
+abbrev pub IsConstant : Tree → PlainCore → Type 0
+IsConstant t c = (is_leaf t ≡ false) × (mentions c ≡ [])
+
+abbrev pub IsTarget : Span → Tree → Label → Tree → State → Type 0
+IsTarget place t l value u = (f : CoreForm) × ((id : Tree) × ((shape f t place ≡ Ok (shapes.Set id value)) × (stands u.frames id ≡ Some l)))
+
+abbrev pub Plans : Span → Tree → Plan → State → Type 0
+Plans place t (plans.Done c) u = IsReference t c u ⊎ IsConstant t c
+Plans place t (plans.Assignment l value) u = IsTarget place t l value u
+Plans place t _ u = Unit {0}
+
+-- a leaf
+module _ (place : Span) (level : ℕ) (t : Tree) (leafy : is_leaf t ≡ true) (s : State) where
+  refers-so : (l : Label) (st : Standing) (p : Plan) → stands s.frames t ≡ Some l → label_standing s l ≡ st → OfLabel l st → RefersBy level s st p → Plans place t p s
+  refers-so l standing.Nothing p e is of h = absurd h
+  refers-so l (standing.Variable v) p e is of h = subst (λ q. Plans place t q s) (sym h.0) (inl (l, (leafy, (e, inl (ap variable of)))))
+  refers-so l standing.PatternVariable p e is of h = absurd h
+  refers-so l (standing.Primitive o) p e is of h = subst (λ q. Plans place t q s) (sym h) (inl (l, (leafy, (e, inr (o, (is, refl))))))
+  refers-so l (standing.Core f) p e is of h = absurd h
+  refers-so l (standing.Keyword m) p e is of h = subst (λ q. Plans place t q s) (sym h) tt
+
+  stood-so : (o : Option Label) (p : Plan) (u : State) → stands s.frames t ≡ o → Refers place level s (standing_by s o) p u → Plans place t p u
+  stood-so None p u e h = absurd h.1
+  stood-so (Some l) p u e h = subst (Plans place t p) (sym h.0) (refers-so l (label_standing s l) p e refl (label-kept s l) h.1)
+
+  leaf-plans : Gave (Plans place t) (reference place level t s)
+  unfolding standing_of
+  leaf-plans = gave-less (Refers place level s (standing_by s (stands s.frames t))) (Plans place t) (reference place level t s) (reference-is place level s t) (λ p u k. stood-so (stands s.frames t) p u refl k)
+
+-- a list
+module _ (place : Span) (level : ℕ) (t : Tree) (compound : is_leaf t ≡ false) (s : State) where
+  abbrev Right : Plan → State → Type 0
+  Right p u = Plans place t p u
+
+  abbrev Assigned : Tree → Label → State → Type 0
+  Assigned id l u = stands u.frames id ≡ Some l
+
+  target-so : (id : Tree) → Gave (Assigned id) (target_by place level t id (standing_of s id) s)
+  target-so id =
+      gave-less (λ l u. (stands s.frames id ≡ Some l) × Targets place level s (standing_of s id) l u) (Assigned id) (target_by place level t id (standing_of s id) s)
+      (gave-both (λ l u. stands s.frames id ≡ Some l) (Targets place level s (standing_of s id)) (target_by place level t id (standing_of s id) s)
+      (gave-told (λ l u. stands s.frames id ≡ Some l) (target_by place level t id (standing_of s id) s) (λ l u e. assignments-named place level t id s u l e)) (target_by-is place level s t id (standing_of s id)))
+      (λ l u k. ap (λ (v : State). stands v.frames id) k.1.0 ∙ k.0)
+
+  assign-by : (f : CoreForm) (id value : Tree) → shape f t place ≡ Ok (shapes.Set id value) → (st : Standing) → Gave (Assigned id) (target_by place level t id st s) → Gave Right (assign_by place level t id value st s)
+  assign-by f id value e standing.Nothing h = tt
+  assign-by f id value e (standing.Variable v) h = gave-after (Assigned id) Right (target_by place level t id (standing.Variable v) s) (assign_to value) h (λ l u k. (f, (id, (e, k))))
+  assign-by f id value e standing.PatternVariable h = tt
+  assign-by f id value e (standing.Primitive op) h = tt
+  assign-by f id value e (standing.Core g) h = tt
+  assign-by f id value e (standing.Keyword l) h = tt
+
+  assign-so : (f : CoreForm) (id value : Tree) → shape f t place ≡ Ok (shapes.Set id value) → Gave Right (assign place level t id value s)
+  unfolding assign
+  assign-so f id value e = assign-by f id value e (standing_of s id) (target-so id)
+
+  operand-so : (f : CoreForm) (operand : Tree) → Gave Right (operand_plan place level t f operand s)
+  operand-so core_forms.Syntax operand =
+      gave-after (λ x u. Unit {0}) Right (template_of place level operand s) (λ x. give (plans.Done (instance x (place_of t place)))) (gave-any (λ x u. Unit {0}) (template_of place level operand s) (λ x u. tt))
+      (λ x u k. inr (compound, refl))
+  operand-so core_forms.Quasiquote operand = tt
+  operand-so core_forms.Quasisyntax operand = tt
+  operand-so _ operand = tt
+
+  sequence-so : (forms : List Tree) → Gave Right (in_sequence place t forms s)
+  sequence-so [] = tt
+  sequence-so (x ∷ xs) = tt
+
+  keywords-so : (f : CoreForm) (bs : List BindingSpec) (forms : List Tree) → Gave Right (keywords_plan place t f bs forms s)
+  keywords-so f bs [] = tt
+  keywords-so f bs (x ∷ xs) = tt
+
+  shape-so : (f : CoreForm) (x : Shape) → shape f t place ≡ Ok x → Gave Right (shape_plan place level t f x s)
+  unfolding shape_plan
+  shape-so f (shapes.Quote datum) e = inr (compound, refl)
+  shape-so f (shapes.Lambda ids forms) e = tt
+  shape-so f (shapes.CaseLambda cs) e = tt
+  shape-so f (shapes.If test consequent other) e = tt
+  shape-so f (shapes.Set id value) e = assign-so f id value e
+  shape-so f (shapes.Begin forms) e = sequence-so forms
+  shape-so f (shapes.Letrec bs forms) e = tt
+  shape-so f (shapes.Define id value) e = tt
+  shape-so f (shapes.DefineProcedure id ids forms) e = tt
+  shape-so f (shapes.DefineSyntax id value) e = tt
+  shape-so f (shapes.LetSyntax bs forms) e = keywords-so f bs forms
+  shape-so f (shapes.Operand operand) e = operand-so f operand
+  shape-so f (shapes.SyntaxCase subject literals clauses) e = tt
+
+  with-shape-so : (f : CoreForm) (r : Result Shape Fault) → shape f t place ≡ r → Gave Right (with_shape place level t f r s)
+  with-shape-so f (Err x) e = tt
+  with-shape-so f (Ok x) e = shape-so f x e
+
+  role-so : (head : Tree) (f : CoreForm) (r : Role) → Gave Right (by_role place level t head f r s)
+  role-so head f role.Expression = with-shape-so f (shape f t place) refl
+  role-so head f role.Assignment = with-shape-so f (shape f t place) refl
+  role-so head f role.Sequence = with-shape-so f (shape f t place) refl
+  role-so head f role.Definition = with-shape-so f (shape f t place) refl
+  role-so head f role.Keywords = with-shape-so f (shape f t place) refl
+  role-so head f role.Record = tt
+  role-so head f role.RecordValue = tt
+  role-so head f role.Auxiliary = tt
+
+  application-so : (head rest : Tree) → Gave Right (application place t head rest s)
+  unfolding application
+  application-so head rest = by (proper_elements rest)
+    where
+      by : (o : Option (List Tree)) → Gave Right (call_of place t head o s)
+      by None = tt
+      by (Some ts) = tt
+
+  keyword-so : (head : Tree) (f : CoreForm) → Gave Right (keyword_plan place level t head f s)
+  unfolding keyword_plan
+  keyword-so head f = role-so head f (role_of f)
+
+  head-so : (head rest : Tree) (st : Standing) → Gave Right (by_head place level t head rest st s)
+  head-so head rest standing.Nothing = application-so head rest
+  head-so head rest (standing.Variable v) = application-so head rest
+  head-so head rest standing.PatternVariable = application-so head rest
+  head-so head rest (standing.Primitive op) = application-so head rest
+  head-so head rest (standing.Core f) = keyword-so head f
+  head-so head rest (standing.Keyword l) = tt
+
+  list-so : (head rest : Tree) → Gave Right (list_plan place level t head rest s)
+  unfolding list_plan
+  list-so head rest = gave-if Right (is_leaf head) _ _ (λ e. head-so head rest (standing_of s head)) (λ e. application-so head rest)
+
+constant-so : (place : Span) (t : Tree) → is_leaf t ≡ false → (b : Bool) (s : State) → Gave (Plans place t) (constant place t b s)
+constant-so place t e true s = tt
+constant-so place t e false s = inr (e, refl)
+
+plan-so : (place : Span) (level : ℕ) (t : Tree) (s : State) → Gave (Plans place t) (plan_of place level t s)
+plan-so place level (atom r a) s = constant-so place (atom r a) refl (is_nil_atom a) s
+plan-so place level (leaf r x c) s = leaf-plans place level (leaf r x c) refl s
+plan-so place level (pair r a d) s = list-so place level (pair r a d) refl s a d
+plan-so place level (vector r d) s = tt
+
+-- What is settled.
+module _ (rs : List LibRecord) (level : ℕ) where
+  abbrev pub Settles : Settled → State → Type 0
+  Settles d u = Plans d.place d.form d.plan u
+
+  abbrev Steps : Span → Tree → Step → State → Type 0
+  Steps place t (steps.Plan p) u = Plans place t p u
+  Steps place t (steps.Use k) u = Unit {0}
+
+  set-so : (place : Span) (t : Tree) (l : Label) (id : Tree) (b : Bool) (s : State) → Gave (Steps place t) (set_step place t l id b s)
+  set-so place t l id true s = tt
+  set-so place t l id false s = tt
+
+  step-of-so : (place : Span) (t : Tree) (p : Plan) (s : State) → Plans place t p s → Gave (Steps place t) (step_of rs place t p s)
+  step-of-so place t (plans.Use k) s h = tt
+  step-of-so place t (plans.SetUse l id) s h =
+      gave-after (λ b u. Unit {0}) (Steps place t) (asks_variable rs (place_of t place) l s) (set_step place t l id) (gave-any (λ b u. Unit {0}) (asks_variable rs (place_of t place) l s) (λ b u. tt)) (λ b u k. set-so place t l id b u)
+  step-of-so place t (plans.Done c) s h = h
+  step-of-so place t (plans.Assignment l value) s h = h
+  step-of-so place t (plans.Call operator operands) s h = tt
+  step-of-so place t (plans.Conditional test consequent other) s h = tt
+  step-of-so place t (plans.Sequence forms) s h = tt
+  step-of-so place t (plans.Lambda ids forms) s h = tt
+  step-of-so place t (plans.CaseLambda cs) s h = tt
+  step-of-so place t (plans.Letrec star bs forms) s h = tt
+  step-of-so place t (plans.Matching subject literals cs span) s h = tt
+  step-of-so place t (plans.Keywords recursive bs forms) s h = tt
+  step-of-so place t (plans.Quasi which template) s h = tt
+
+  step-so : (place : Span) (t : Tree) (s : State) → Gave (Steps place t) (step rs place level t s)
+  unfolding step
+  step-so place t s = gave-after (Plans place t) (Steps place t) (plan_of place level t s) (step_of rs place t) (plan-so place level t s) (λ p u h. step-of-so place t p u h)
+
+  settled-so : (onward : KeywordUse → Does Settled) (place : Span) (t : Tree) (x : Step) (u : State) → ((k : KeywordUse) (v : State) → Gave Settles (onward k v)) → Steps place t x u → Gave Settles (settled_by onward place t x u)
+  settled-so onward place t (steps.Plan p) u more h = h
+  settled-so onward place t (steps.Use k) u more h = more k u
+
+  settle-to-so : (left : ℕ) (place : Span) (t : Tree) (s : State) → Gave Settles (settle_to rs left place level t s)
+  unfolding settle_to
+  settle-to-so zero place t s = gave-after (Steps place t) Settles (step rs place level t s) (settled_by (λ k. too_many t place) place t) (step-so place t s) (λ x u h. settled-so (λ k. too_many t place) place t x u (λ k v. tt) h)
+  settle-to-so (suc left) place t s =
+      gave-after (Steps place t) Settles (step rs place level t s) (settled_by (λ k s'. after (next_form rs left place t k None s') (settle_to rs left (place_of t place) level)) place t) (step-so place t s)
+      (λ x u h. settled-so (λ k s'. after (next_form rs left place t k None s') (settle_to rs left (place_of t place) level)) place t x u (onward (λ v w. settle-to-so left (place_of t place) v w)) h)
+    where
+      onward : ((v : Tree) (w : State) → Gave Settles (settle_to rs left (place_of t place) level v w)) → (k : KeywordUse) (v : State) → Gave Settles (after (next_form rs left place t k None v) (settle_to rs left (place_of t place) level))
+      onward again k v =
+          gave-after (λ (x : Tree) w. Unit {0}) Settles (next_form rs left place t k None v) (settle_to rs left (place_of t place) level) (gave-any (λ (x : Tree) w. Unit {0}) (next_form rs left place t k None v) (λ x w. tt)) (λ x w j. again x w)
+
+  pub settle-so : (place : Span) (t : Tree) (s : State) → Gave Settles (settle rs place level t s)
+  settle-so place t s = settle-to-so s.uses_left place t s

@@ -1,0 +1,171 @@
+-- References that were taken name what their identifiers stand for in each later state.
+use Rattle.std.proofs.Common.{◌≡◌, ◌≤◌, ℕ, true, List, [], ◌∷◌, ◌++◌, Some, Result, Ok, Err, refl, sym, ap, ◌∙◌, arith, append_assoc}
+use Rattle.sx_base.specs.declared.fault.Fault.{Fault}
+use Rattle.sx_base.specs.declared.library.LibName.{LibName}
+use Rattle.sx_base.specs.declared.library.LibName.TheVariants as library
+use Rattle.sx_base.specs.declared.name.FrameNo.{FrameNo}
+use Rattle.sx_base.specs.declared.name.Label.{Label}
+use Rattle.sx_base.specs.declared.name.Mark.{Mark}
+use Rattle.sx_tree.specs.Context.{LeafContext}
+use Rattle.sx_tree.specs.Tree.{Tree, atom, leaf, pair, vector}
+use Rattle.sx_tree.specs.declared.stamp.Stamp.{Stamp}
+use Rattle.sx_scope.specs.Stands.{stands}
+use Rattle.sx_core.specs.References.{mentions}
+use Rattle.sx_shapes.specs.Lists.{is_leaf}
+use Rattle.sx_standing.specs.InScope.{cut}
+use Rattle.sx_standing.specs.State.{State}
+use Rattle.sx_hygiene_laws.specs.Marked.{Among}
+use Rattle.sx_value.specs.Cells.{Each}
+use Rattle.sx_expand_laws.specs.Named.{RefersTo}
+use Rattle.sx_expand_laws.specs.States.{IsOld, Later}
+use Rattle.sx_expand_laws.specs.Trees.{StampsAre, LeavesAre}
+use Rattle.sx_expand_laws.proofs.Acts.{Gave}
+use Rattle.sx_expand_laws.proofs.Later.{later-self, later-then}
+use Rattle.sx_expand_laws.proofs.Named.{leaf-stays}
+use Rattle.sx_fresh_laws.specs.Leaves.{TreeHolds}
+use Rattle.sx_fresh_laws.proofs.Eachs.{each_both, each_mapped}
+use Rattle.sx_fresh_laws.proofs.Wider.{tree_wider}
+use Rattle.sx_fresh_expansion_laws.specs.Events.{HasKnownEvents}
+use Rattle.sx_fresh_expansion_laws.specs.Known.{IsKnown, IsKnownFrame, HasKnown, IsNewAmong}
+use Rattle.sx_fresh_expansion_laws.specs.Living.{Lives}
+use Rattle.sx_fresh_expansion_laws.specs.Made.{IsMade, StampedByMade}
+use Rattle.sx_fresh_expansion_laws.specs.States.{StateHolds}
+use Rattle.sx_fresh_expansion_laws.proofs.Having.{history-marks}
+use Rattle.sx_fresh_expansion_laws.proofs.Making.{are-made}
+use Rattle.sx_fresh_expansion_laws.proofs.Once.{as-history, lives-once}
+use Rattle.sx_fresh_expansion_laws.proofs.Standing as standing
+use Rattle.sx_reference_laws.specs.Expands.{Reference}
+use Rattle.sx_reference_laws.specs.Whole.{mentioned}
+
+pub mentioned-joined : (xs ys : List Reference) → mentioned (xs ++ ys) ≡ mentioned xs ++ mentioned ys
+mentioned-joined [] ys = refl
+mentioned-joined (x ∷ xs) ys = ap (λ ls. mentions x.code ++ ls) (mentioned-joined xs ys) ∙ sym (append_assoc (mentions x.code) (mentioned xs) (mentioned ys))
+
+-- known identifiers have stamps of frames that were made
+module _ (own : LibName) (s : State) where
+  stamps-old : (ts : List Stamp) → Each (λ (t : Stamp). IsMade own s.names.number t.frame) ts → StampsAre (IsOld own s) ts
+  stamps-old [] h = tt
+  stamps-old (t ∷ ts) h = (h.0, stamps-old ts h.1)
+
+  leaves-old : (t : Tree) → TreeHolds (StampedByMade own s.names.number) t → LeavesAre (IsOld own s) t
+  leaves-old (atom p a) h = tt
+  leaves-old (leaf p x c) h = stamps-old c.stamps h
+  leaves-old (pair p a d) h = (leaves-old a h.0, leaves-old d h.1)
+  leaves-old (vector p d) h = leaves-old d h
+
+-- what was given is what is told
+pub gave-is : {A : Type 0} (r : Result (A × State) Fault) → Gave (λ a u. r ≡ Ok (a, u)) r
+gave-is (Ok p) = refl
+gave-is (Err e) = tt
+
+module _ (libs : List LibName) (own : LibName) (core : Among libs library.Core) (new : IsNewAmong libs own) where
+  abbrev pub K : ℕ → Mark → Type 0
+  K n m = IsKnown libs own n m
+
+  abbrev pub J : ℕ → FrameNo → Type 0
+  J n f = IsKnownFrame libs own n f
+
+  abbrev pub P : ℕ → LeafContext → Type 0
+  P n c = HasKnownEvents libs own n c
+
+  pub lives : Lives own K J P
+  lives = lives-once libs own new core
+
+  abbrev pub T : ℕ → Tree → Type 0
+  T n t = TreeHolds (P n) t
+
+  -- An identifier stands for what it stood for.
+
+  known-at : (n : ℕ) (c : LeafContext) → P n c → HasKnown libs own n c
+  known-at n c h = history-marks (K n) (J n) c (as-history (K n) (J n) c h)
+
+  pub stays : (n : ℕ) (s u : State) → n ≤ s.names.number → Later own s u → (t : Tree) → T n t → stands u.frames t ≡ stands s.frames t
+  stays n s u le l t h =
+      let m = s.names.number in
+      leaf-stays s.frames u.frames (IsOld own s) l.same t
+      (leaves-old own s t (are-made libs own m t new (tree_wider (P n) (HasKnown libs own m) (λ c k. known-at m c (lives.rises.later n m c le k)) t h)))
+
+  -- a reference that was taken, in a later state
+  pub record Kept (u : State) (r : Reference) : Type 0 where
+    pub leafy : is_leaf r.leaf ≡ true
+    pub known : T r.state.names.number r.leaf
+    pub code : RefersTo r.state (Some r.label) r.code
+    pub stood : stands r.state.frames r.leaf ≡ Some r.label
+    pub before : r.state.names.number ≤ u.names.number
+    pub now : stands u.frames r.leaf ≡ Some r.label
+
+  kept-later : (s u : State) → Later own s u → (r : Reference) → Kept s r → Kept u r
+  kept-later s u l r h = record {
+    leafy = h.leafy;
+    known = h.known;
+    code = h.code;
+    stood = h.stood;
+    before = let le = h.before in let up = l.up in omega (arith, le, up);
+    now = stays r.state.names.number s u h.before l r.leaf h.known ∙ h.now;
+  }
+
+  pub all-later : (s u : State) → Later own s u → (refs : List Reference) → Each (Kept s) refs → Each (Kept u) refs
+  all-later s u l refs h = each_mapped (Kept s) (Kept u) (λ r k. kept-later s u l r k) refs h
+
+  kept-cut : (n : ℕ) (u : State) (r : Reference) → Kept u r → Kept (cut n u) r
+  kept-cut n u r h = record { leafy = h.leafy; known = h.known; code = h.code; stood = h.stood; before = h.before; now = h.now }
+
+  pub all-cut : (n : ℕ) (u : State) (refs : List Reference) → Each (Kept u) refs → Each (Kept (cut n u)) refs
+  all-cut n u refs h = each_mapped (Kept u) (Kept (cut n u)) (λ r k. kept-cut n u r k) refs h
+
+  -- What comes of a form, with references that are related to it so, and that name these labels.
+  pub record Made (R : List Reference → Type 0) (m : List Label) (u : State) : Type 0 where
+    pub refs : List Reference
+    pub is : R refs
+    pub all : m ≡ mentioned refs
+    pub kept : Each (Kept u) refs
+
+  pub made-none : (R : List Reference → Type 0) (u : State) → R [] → Made R [] u
+  made-none R u h = record { refs = []; is = h; all = refl; kept = tt }
+
+  pub made-so : (R V : List Reference → Type 0) (m n : List Label) (u : State) → Made R m u → ((refs : List Reference) → R refs → V refs) → n ≡ m → Made V n u
+  made-so R V m n u h f e = record { refs = h.refs; is = f h.refs h.is; all = e ∙ h.all; kept = h.kept }
+
+  pub made-later : (R : List Reference → Type 0) (m : List Label) (s u : State) → Later own s u → Made R m s → Made R m u
+  made-later R m s u l h = record { refs = h.refs; is = h.is; all = h.all; kept = all-later s u l h.refs h.kept }
+
+  -- what came before, and what came after it
+  pub made-joined : (R Q V : List Reference → Type 0) (m n : List Label) (s u : State) → Later own s u → Made R m s → Made Q n u → ((refs others : List Reference) → R refs → Q others → V (refs ++ others)) → Made V (m ++ n) u
+  made-joined R Q V m n s u l a b f = record {
+    refs = a.refs ++ b.refs;
+    is = f a.refs b.refs a.is b.is;
+    all = (λ i. a.all i ++ b.all i) ∙ sym (mentioned-joined a.refs b.refs);
+    kept = each_both (Kept u) a.refs b.refs (all-later s u l a.refs a.kept) b.kept;
+  }
+
+  pub made-cut : (R V : List Reference → Type 0) (m : List Label) (n : ℕ) (u : State) → Made R m u → ((refs : List Reference) → R refs → V refs) → Made V m (cut n u)
+  made-cut R V m n u h f = record { refs = h.refs; is = f h.refs h.is; all = h.all; kept = all-cut n u h.refs h.kept }
+
+  -- a step from a state to a later one
+  pub record Went (s u : State) : Type 0 where
+    pub from : StateHolds own K P s.names.number u
+    pub later : Later own s u
+
+  module _ (first : ℕ) where
+    abbrev pub F : State → Type 0
+    F s = StateHolds own K P first s
+
+    pub went-self : (s : State) → F s → Went s s
+    went-self s h = record { from = standing.state-self own K J P lives first s h; later = later-self own s h.stage.library }
+
+    pub went-then : (s v u : State) → Went s v → Went v u → Went s u
+    went-then s v u a b = record { from = standing.from-then own K J P lives first s v u a.from b.from; later = later-then own s v u a.later b.later }
+
+    pub goes : (s u : State) → F s → Went s u → F u
+    goes s u h w = standing.state-then own K J P lives first s u h w.from
+
+    -- by three accounts of one action
+    pub gave-went : {A : Type 0} (W : ℕ → A → Type 0) (M : A → State → Type 0) (s : State) (r : Result (A × State) Fault) → standing.Gave own K J P lives first W s r → Gave (λ a u. Later own s u) r → Gave M r
+        → Gave (λ a u. Went s u × (W u.names.number a × M a u)) r
+    gave-went W M s (Ok p) h l k = (record { from = h.0; later = l }, (h.1, k))
+    gave-went W M s (Err e) h l k = tt
+
+    -- by the account of what may be met alone
+    pub gave-from : {A : Type 0} (W : ℕ → A → Type 0) (s : State) (r : Result (A × State) Fault) → standing.Gave own K J P lives first W s r → Gave (λ a u. (StateHolds own K P s.names.number u × W u.names.number a) × (r ≡ Ok (a, u))) r
+    gave-from W s (Ok p) h = (h, refl)
+    gave-from W s (Err e) h = tt

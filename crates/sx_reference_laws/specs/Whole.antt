@@ -1,0 +1,59 @@
+-- The references of a whole expansion.
+use Rattle.std.specs.Prelude.{◌≡◌, ℕ, List, [], ◌∷◌, ◌++◌, Option, Some, Ok}
+use Rattle.sx_base.specs.declared.library.LibName.{LibName}
+use Rattle.sx_base.specs.declared.library.LibName.TheVariants as library
+use Rattle.sx_base.specs.declared.name.Label.{Label}
+use Rattle.sx_base.specs.declared.span.Span.{Span}
+use Rattle.sx_tree.specs.Context.{LeafContext}
+use Rattle.sx_tree.specs.Tree as tree
+use Rattle.sx_tree.specs.Tree.{Tree}
+use Rattle.sx_frames.specs.Rows.{Row}
+use Rattle.sx_scope.specs.Stands.{stands}
+use Rattle.sx_core.specs.Core.{PlainCore}
+use Rattle.sx_core.specs.References.{mentions}
+use Rattle.sx_core.specs.declared.record.LibRecord.{LibRecord}
+use Rattle.sx_standing.specs.State.{State}
+use Rattle.sx_hygiene_laws.specs.Binder.{Captures}
+use Rattle.sx_hygiene_laws.specs.Marked.{Among}
+use Rattle.sx_value.specs.Cells.{Each}
+use Rattle.sx_expand.specs.Expression.{inside}
+use Rattle.sx_expand_laws.specs.Named.{RefersTo}
+use Rattle.sx_fresh_laws.specs.Leaves.{TreeHolds}
+use Rattle.sx_fresh_expansion_laws.specs.Events.{HasKnownEvents}
+use Rattle.sx_fresh_expansion_laws.specs.Known.{IsKnown, IsNewAmong}
+use Rattle.sx_fresh_expansion_laws.specs.States.{RecordsHold, StateHolds}
+use Rattle.sx_reference_laws.specs.Captured.{IsHygienic}
+use Rattle.sx_reference_laws.specs.Expands.{Reference, Expands}
+
+-- the labels of variables that these refer to or assign
+abbrev pub mentioned : List Reference → List Label
+mentioned [] = []
+mentioned (r ∷ rs) = mentions r.code ++ mentioned rs
+
+-- A reference names what its identifier stood for when it was taken, and stands for in this later state: the label of the binder that captures the
+-- identifier, as its history allows.
+pub record IsRight (libs : List LibName) (own : LibName) (u : State) (r : Reference) : Type 0 where
+  pub span : Option Span
+  pub symbol : List ℕ
+  pub context : LeafContext
+  pub leaf : r.leaf ≡ tree.leaf span symbol context
+  pub history : HasKnownEvents libs own r.state.names.number context
+  pub code : RefersTo r.state (Some r.label) r.code
+  pub stood : stands r.state.frames r.leaf ≡ Some r.label
+  pub now : stands u.frames r.leaf ≡ Some r.label
+  pub row : Row
+  pub captures : Captures u.frames row r.leaf
+  pub binder : row.label ≡ r.label
+  pub hygienic : IsHygienic u.frames row span symbol history.marks history.events
+
+-- The core code of a form refers, place by place, to what the identifiers stand for that became these references.
+pub record Tells (libs : List LibName) (own : LibName) (c : PlainCore) (u : State) (refs : List Reference) : Type 0 where
+  pub all : mentions c ≡ mentioned refs
+  pub right : Each (IsRight libs own u) refs
+
+-- So it is of each form that the expansion of a new library comes to.
+abbrev pub FormsAreHygienic : Type 0
+FormsAreHygienic = (libs : List LibName) (own : LibName) (records : List LibRecord) (room : ℕ) (place : Span) (level depth : ℕ) (t : Tree) (s u : State) (c : PlainCore) → Among libs library.Core → IsNewAmong libs own
+    → StateHolds own (IsKnown libs own) (HasKnownEvents libs own) s.names.number s → RecordsHold (HasKnownEvents libs own s.names.number) records → TreeHolds (HasKnownEvents libs own s.names.number) t
+    → (inside records room).form place level depth t s ≡ Ok (c, u)
+    → (refs : List Reference) × (Expands records place level t s c u refs × Tells libs own c u refs)

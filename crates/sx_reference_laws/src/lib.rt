@@ -1,0 +1,56 @@
+//! That a whole expansion is hygienic: one relation between the identifiers that it takes and the references of its record.
+//!
+//! ```scheme
+//! (define-syntax my-or
+//!   (syntax-rules () ((_ a b) (let ((t a)) (if t t b)))))
+//! (lambda (t) (my-or #f t))    ; (lambda (t.1) (let ((t.2 #f)) (if t.2 t.2 t.1)))
+//! ```
+//!
+//! Here three identifiers become references: the `t` of the template, twice, which the use of `my-or` introduced, and the `t` that
+//! came in with the form. `specs/Expands` has the relation: which core code comes of a form in a state, form by form, and from which
+//! identifier, in which state, each of its references was made, in the order of their places. `specs/Whole` says that expansion
+//! gives what is so related to the form, that its references mention what these identifiers stood for when they were taken and
+//! stand for to the end, and that the two sentences of Dybvig, Hieb and Bruggeman (1992) hold of each: a reference that a use
+//! introduces is captured by no binder but one that the same use introduced or that captured it in the transformer's template, and a
+//! binder that a use introduces captures no references but those that the same use introduced. `specs/Records` says so of the
+//! record of a library.
+//!
+//! Below it stand the laws of one identifier. Each that an expansion comes to has a history, by the laws of
+//! `sx_fresh_expansion_laws`: it was read or made as a temporary, and then uses introduced it, none of them twice, and frames
+//! were stamped on it. `specs/Captured` has what such a history tells of the binder that captures the identifier, `specs/Reference`
+//! that the identifier becomes a reference to this binder, and `specs/Introduced` which leaves a use introduces: all that it gives
+//! but those of its form.
+//!
+//! Here are no calls to make: each function stands for the law that it ensures.
+#![tactic(auto)]
+
+ghost use Rattle.sx_reference_laws.specs.Captured.{CapturesAreHygienic};
+ghost use Rattle.sx_reference_laws.specs.Introduced.{UsesIntroduceTheRest};
+ghost use Rattle.sx_reference_laws.specs.Records.{RecordsAreHygienic};
+ghost use Rattle.sx_reference_laws.specs.Reference.{ReferencesAreHygienic};
+ghost use Rattle.sx_reference_laws.specs.Whole.{FormsAreHygienic};
+
+/// The binder that captures an identifier of an expansion was introduced by uses that introduced this, or captures it in the template.
+pub fn captures_are_hygienic()
+    ensures { CapturesAreHygienic }
+{}
+
+/// An identifier that is expanded refers to this binder.
+pub fn references_are_hygienic()
+    ensures { ReferencesAreHygienic }
+{}
+
+/// What a use gives has leaves of its form, and others with its mark.
+pub fn uses_introduce_the_rest()
+    ensures { UsesIntroduceTheRest }
+{}
+
+/// All references of a form are those of identifiers that it took, and hygienic.
+pub fn forms_are_hygienic()
+    ensures { FormsAreHygienic }
+{}
+
+/// So are those of a library's record.
+pub fn records_are_hygienic()
+    ensures { RecordsAreHygienic }
+{}
