@@ -42,4 +42,5 @@ pub mod OtherFaults
 pub mod OtherText
 pub mod PartBehind
 pub mod PartRows
+pub mod PartFits
 pub mod Unstuck

@@ -25,7 +25,7 @@ use Rattle.sx_steady_laws.proofs.Standing.{more_before}
 use Rattle.sx_whole_laws.proofs.Among.{among_first, among_second, among_parts}
 use Rattle.sx_run_laws.proofs.NamedFiles.{IsUser, AllUsers}
 
-user-no-derived : (n : LibName) → IsUser n → n ≡ library.Derived → ⊥
+pub user-no-derived : (n : LibName) → IsUser n → n ≡ library.Derived → ⊥
 user-no-derived n u e = subst IsUser e u
 
 below-next : (p k : ℕ) → p < suc k → (p < k) ⊎ (p ≡ k)
@@ -35,7 +35,7 @@ below-next (suc p) zero h = absurd (omega (arith, h))
 below-next (suc p) (suc k) h = elim (below-next p k (omega (arith, h))) [ inl l ↦ inl (omega (arith, l)) | inr e ↦ inr (ap suc e) ]
 
 -- before a place where something stands, something stands
-earlier-there : {A : Type 0} (xs : List A) (p k : ℕ) (x : A) → p < k → slice_get xs k ≡ Some x → (y : A) × (slice_get xs p ≡ Some y)
+pub earlier-there : {A : Type 0} (xs : List A) (p k : ℕ) (x : A) → p < k → slice_get xs k ≡ Some x → (y : A) × (slice_get xs p ≡ Some y)
 earlier-there [] p k x less h = absurd (cc)
 earlier-there (a ∷ xs) zero k x less h = (a, refl)
 earlier-there (a ∷ xs) (suc p) zero x less h = absurd (omega (arith, less))
@@ -64,7 +64,7 @@ AllMadeBehind s d others = (i : ℕ) (file : List ℕ) (f : Found) (r : LibRecor
 module _ (s : Loading) (sound : IsSound s) (users : AllUsers s.done) (d : LibRecord) (first : Stands [] library.Derived d) (first_behind : IsBehind [] d)
     (others : List LibRecord) (made : AllMadeBehind s d others) where
   -- libraries of one name stand at one place
-  one-place : (i j : ℕ) (file other : List ℕ) (f g : Found) → IsAt s.done i file f → IsAt s.done j other g → f.opened.form.name ≡ g.opened.form.name → i ≡ j
+  pub one-place : (i j : ℕ) (file other : List ℕ) (f g : Found) → IsAt s.done i file f → IsAt s.done j other g → f.opened.form.name ≡ g.opened.form.name → i ≡ j
   one-place i j file other f g at to e =
       let same : file ≡ other = sound.once.named i file f at ∙ ap file_of e ∙ sym (sound.once.named j other g to) in
       sound.once.once i j other f g (subst (λ n. IsAt s.done i n f) same at) to

@@ -45,7 +45,7 @@ told-with : {A : Type 0} (P : A → Type 0) (r : Result A Fault) → Tells IsOth
 told-with P (Ok x) h k = k x refl
 told-with P (Err f) h k = h
 
-no-text-derived : IsOfTexts library.Derived → ⊥
+pub no-text-derived : IsOfTexts library.Derived → ⊥
 no-text-derived (inl e) = absurd (cc)
 no-text-derived (inr e) = absurd (cc)
 
@@ -53,12 +53,12 @@ pub no-text-program : (n : LibName) → n ≡ library.Program → IsOfTexts n �
 no-text-program n is (inl e) = let bad : library.Program ≡ library.Core = sym is ∙ e in absurd (cc)
 no-text-program n is (inr e) = let bad : library.Program ≡ library.Prelude = sym is ∙ e in absurd (cc)
 
-no-text-user : (n : LibName) → IsUser n → IsOfTexts n → ⊥
+pub no-text-user : (n : LibName) → IsUser n → IsOfTexts n → ⊥
 no-text-user n u (inl e) = subst IsUser e u
 no-text-user n u (inr e) = subst IsUser e u
 
 -- a record that expansion leaves stands behind the others too
-is-behind : (records : List LibRecord) (n : LibName) (r : LibRecord) → AllBehind [] records → (Among (names_of records) n → ⊥) → (IsOfTexts n → ⊥) → Stands records n r → IsBehind records r
+pub is-behind : (records : List LibRecord) (n : LibName) (r : LibRecord) → AllBehind [] records → (Among (names_of records) n → ⊥) → (IsOfTexts n → ⊥) → Stands records n r → IsBehind records r
 is-behind records n r all new no_text st =
     stands-behind records r all st.good st.keywords st.serves (λ a. new (subst (Among (names_of records)) st.named a)) (λ t. no_text (subst IsOfTexts st.named t))
 
@@ -73,7 +73,7 @@ first-told prelude read =
     told-with IsFirst (derived_record prelude) (derived-other prelude read)
     (λ d h. let st = derived_stands d prelude h in record { stands = st; behind = is-behind [] library.Derived d tt (λ a. elim a [ ]) no-text-derived st })
 
-module _ (prelude : Result Codes Fault) (read : AreRead prelude) (s : Loading) (sound : IsSound s) (users : AllUsers s.done) (d : LibRecord) (first : IsFirst d) where
+module _ (s : Loading) (sound : IsSound s) (users : AllUsers s.done) (d : LibRecord) (first : IsFirst d) where
   -- ---- one library
 
   -- what its record is, where it has one
@@ -81,29 +81,14 @@ module _ (prelude : Result Codes Fault) (read : AreRead prelude) (s : Loading) (
     pub stands : Stands (Behind d others f) f.opened.form.name r
     pub behind : IsBehind (Behind d others f) r
 
-  pub found-told : (others : List LibRecord) → AllMadeBehind s d others → (f : Found) → NeedsAreClosed s.done f → IsNew (Behind d others f) f.opened.form.name
-      → (IsOfTexts f.opened.form.name → ⊥) → (body : List PlainDatum) → Told (IsItsRecord others f) (expand_found prelude (d ∷ others) f body)
-  found-told others made f closed new no_text body =
-      subst (λ (rs : List LibRecord). Told (IsItsRecord others f) (expand_library prelude rs f.opened.path f.opened.form body)) (sym (needed_behind d others f.needs))
-      (told-with (IsItsRecord others f) (expand_library prelude (Behind d others f) f.opened.path f.opened.form body)
-      (library-other prelude read (Behind d others f) behind f.opened.form (record { new = new; earlier = serve }) no_text f.opened.path body)
-      (λ r h. let st = library_stands (Behind d others f) serve f.opened.path f.opened.form new body r prelude h in
-      record { stands = st; behind = is-behind (Behind d others f) f.opened.form.name r behind new no_text st }))
-    where
-      serve : AllServe [] (Behind d others f)
-      serve = all-serve s sound users d first.stands first.behind others made f closed
-
-      behind : AllBehind [] (Behind d others f)
-      behind = all-behind s sound users d first.stands first.behind others made f closed
-
   -- ---- one after another
 
-  last-place : (xs : List LibRecord) (r : LibRecord) (j : ℕ) → length xs + suc j ≡ length (xs ++ r ∷ []) + j
+  pub last-place : (xs : List LibRecord) (r : LibRecord) (j : ℕ) → length xs + suc j ≡ length (xs ++ r ∷ []) + j
   last-place [] r j = omega arith
   last-place (z ∷ xs) r j = let e = last-place xs r j in omega (arith, e)
 
   -- the record is the last of them
-  made-more : (others : List LibRecord) → AllMadeBehind s d others → (file : List ℕ) (f : Found) → IsAt s.done (length others) file f → (r : LibRecord) → IsItsRecord others f r
+  pub made-more : (others : List LibRecord) → AllMadeBehind s d others → (file : List ℕ) (f : Found) → IsAt s.done (length others) file f → (r : LibRecord) → IsItsRecord others f r
       → AllMadeBehind s d (others ++ r ∷ [])
   made-more others made file f here r g i name x y at there = by (at_cases others r i y there)
     where
@@ -119,6 +104,25 @@ module _ (prelude : Result Codes Fault) (read : AreRead prelude) (s : Loading) (
           subst (λ (z : LibRecord). IsMadeBehind d (others ++ r ∷ []) x z) e.1
           (subst (λ (z : Found). IsMadeBehind d (others ++ r ∷ []) z r) same (record { before = others; after = r ∷ []; parts = refl; stands = g.stands; behind = g.behind }))
 
+module _ (prelude : Result Codes Fault) (read : AreRead prelude) (s : Loading) (sound : IsSound s) (users : AllUsers s.done) (d : LibRecord) (first : IsFirst d) where
+  abbrev Its : List LibRecord → Found → LibRecord → Type 0
+  Its others f r = IsItsRecord s sound users d first others f r
+
+  pub found-told : (others : List LibRecord) → AllMadeBehind s d others → (f : Found) → NeedsAreClosed s.done f → IsNew (Behind d others f) f.opened.form.name
+      → (IsOfTexts f.opened.form.name → ⊥) → (body : List PlainDatum) → Told (Its others f) (expand_found prelude (d ∷ others) f body)
+  found-told others made f closed new no_text body =
+      subst (λ (rs : List LibRecord). Told (Its others f) (expand_library prelude rs f.opened.path f.opened.form body)) (sym (needed_behind d others f.needs))
+      (told-with (Its others f) (expand_library prelude (Behind d others f) f.opened.path f.opened.form body)
+      (library-other prelude read (Behind d others f) behind f.opened.form (record { new = new; earlier = serve }) no_text f.opened.path body)
+      (λ r h. let st = library_stands (Behind d others f) serve f.opened.path f.opened.form new body r prelude h in
+      record { stands = st; behind = is-behind (Behind d others f) f.opened.form.name r behind new no_text st }))
+    where
+      serve : AllServe [] (Behind d others f)
+      serve = all-serve s sound users d first.stands first.behind others made f closed
+
+      behind : AllBehind [] (Behind d others f)
+      behind = all-behind s sound users d first.stands first.behind others made f closed
+
   -- the records of a part of a run
   pub record AreMade (records : List LibRecord) : Type 0 where
     pub others : List LibRecord
@@ -133,19 +137,19 @@ module _ (prelude : Result Codes Fault) (read : AreRead prelude) (s : Loading) (
   record IsNext (others : List LibRecord) (f : Found) (more : List LibRecord) : Type 0 where
     last : LibRecord
     parts : more ≡ d ∷ (others ++ last ∷ [])
-    gives : IsItsRecord others f last
+    gives : Its others f last
 
   pub rows-told : (rows : List (List ℕ × Found)) (others : List LibRecord) → AreLeft (length others) rows → AllMadeBehind s d others → Told AreMade (turns (expand_next prelude) (d ∷ others) rows)
   rows-told [] others left made = record { others = others; parts = refl; made = made }
   rows-told (row ∷ rows) others left made =
       told-then (IsNext others row.1) AreMade (expand_next prelude (d ∷ others) row) (λ more. turns (expand_next prelude) more rows)
-      (told-then (IsItsRecord others row.1) (IsNext others row.1) (expand_found prelude (d ∷ others) row.1 body) (λ r. Ok (d ∷ (others ++ r ∷ [])))
+      (told-then (Its others row.1) (IsNext others row.1) (expand_found prelude (d ∷ others) row.1 body) (λ r. Ok (d ∷ (others ++ r ∷ [])))
       (found-told others made row.1 closed (library-new s sound users d first.stands first.behind others made row.1 closed (length others) row.0 here)
       (no-text-user row.1.opened.form.name (users (length others) row.0 row.1 here)) body)
       (λ r g. record { last = r; parts = refl; gives = g }))
       (λ more n.
       subst (λ (rs : List LibRecord). Told AreMade (turns (expand_next prelude) rs rows)) (sym n.parts)
-      (rows-told rows (others ++ n.last ∷ []) (left-on n.last) (made-more others made row.0 row.1 here n.last n.gives)))
+      (rows-told rows (others ++ n.last ∷ []) (left-on n.last) (made-more s sound users d first others made row.0 row.1 here n.last n.gives)))
     where
       body : List PlainDatum
       body = library_body row.1.opened.«data»
@@ -157,4 +161,4 @@ module _ (prelude : Result Codes Fault) (read : AreRead prelude) (s : Loading) (
       closed = (sound.stand (length others) row.0 row.1 here).closed
 
       left-on : (r : LibRecord) → AreLeft (length (others ++ r ∷ [])) rows
-      left-on r p = left (suc p) ∙ ap (slice_get s.done) (last-place others r p)
+      left-on r p = left (suc p) ∙ ap (slice_get s.done) (last-place s sound users d first others r p)

@@ -70,11 +70,11 @@ module _ (records : List LibRecord) where
 -- Lists and places.
 
 module _ {A : Type 0} (P : A → Type 0) where
-  of-places : (xs : List A) → ((i : ℕ) (x : A) → slice_get xs i ≡ Some x → P x) → Each P xs
+  pub of-places : (xs : List A) → ((i : ℕ) (x : A) → slice_get xs i ≡ Some x → P x) → Each P xs
   of-places [] h = tt
   of-places (x ∷ xs) h = (h zero x refl, of-places xs (λ i y e. h (suc i) y e))
 
-  at-place : (xs : List A) (i : ℕ) (x : A) → Each P xs → slice_get xs i ≡ Some x → P x
+  pub at-place : (xs : List A) (i : ℕ) (x : A) → Each P xs → slice_get xs i ≡ Some x → P x
   at-place [] i x h e = absurd (cc)
   at-place (y ∷ ys) zero x h e = let same : y ≡ x = cc in subst P same h.0
   at-place (y ∷ ys) (suc i) x h e = at-place ys i x h.1 e
@@ -83,7 +83,7 @@ module _ {A : Type 0} (P : A → Type 0) where
   each-first [] ys h = tt
   each-first (x ∷ xs) ys h = (h.0, each-first xs ys h.1)
 
-each-records : (P : LibRecord → Type 0) (rs : List LibRecord) (is : List ℕ) → Each P rs → Each P (records_at rs is)
+pub each-records : (P : LibRecord → Type 0) (rs : List LibRecord) (is : List ℕ) → Each P rs → Each P (records_at rs is)
 each-records P rs [] h = tt
 each-records P rs (i ∷ is) h = by (slice_get rs i) refl (each-records P rs is h)
   where
@@ -114,17 +114,17 @@ next-at (b ∷ before) after (suc n) r e h = let x = next-at before after n r (o
 -- One record.
 
 -- a record can be put beside those of other libraries
-record OneFits (r : LibRecord) : Type 0 where
+pub record OneFits (r : LibRecord) : Type 0 where
   pub own_rows : Each (λ (f : FrameRow). IsOwn r f.frame.0) r.frames
   pub own_labels : Each (λ l. IsOwn r l.0) (bound_labels r)
   pub once : IsOnceOver r
 
-one-fits : (earlier : List LibRecord) (name : LibName) (r : LibRecord) → Stands earlier name r → IsOnceOver r → OneFits r
+pub one-fits : (earlier : List LibRecord) (name : LibName) (r : LibRecord) → Stands earlier name r → IsOnceOver r → OneFits r
 one-fits earlier name r st o = record { own_rows = st.serves.own_frames; own_labels = st.serves.own_bindings; once = o }
 
 module _ (prelude : Result Codes Fault) (records : List LibRecord) (path : List ℕ) (form : LibraryForm) (apart : Each (IsApart form.name) records) (other : form.name ≡ library.Core → ⊥)
     (body : List PlainDatum) (r : LibRecord) (named : r.name ≡ form.name) where
-  library-once : expand_library prelude records path form body ≡ Ok r → IsOnceOver r
+  pub library-once : expand_library prelude records path form body ≡ Ok r → IsOnceOver r
   unfolding expand_library
   library-once h = by_names (form_names records form.imports) refl h
     where
@@ -151,7 +151,7 @@ module _ (d : LibRecord) (named : d.name ≡ library.Derived) where
   unfolding record_of
   forms-once codes forms h = once-behind library.Derived path [] derived_library.names [] start (exports_of derived) forms codes d tt (λ e. absurd (cc)) derived-names-once h named
 
-  derived-once : (prelude : Result Codes Fault) → derived_record prelude ≡ Ok d → IsOnceOver d
+  pub derived-once : (prelude : Result Codes Fault) → derived_record prelude ≡ Ok d → IsOnceOver d
   unfolding derived_record
   derived-once prelude h = by_forms (forms_of DERIVED_SOURCE.now) h
     where

@@ -77,7 +77,7 @@ module _ (prelude : Result Codes Fault) (read : AreRead prelude) where
             let is = program_name files roots path found s h in
             told-then (λ r. Unit {0}) Any (expand_found prelude records found (program_body found.opened.«data»)) (λ program. planned_text records program)
             (subst (λ (rs : List LibRecord). Told (λ r. Unit {0}) (expand_found prelude rs found (program_body found.opened.«data»))) (sym m.parts)
-            (any (IsItsRecord prelude read s sound users d first m.others found) (expand_found prelude (d ∷ m.others) found (program_body found.opened.«data»))
+            (any (IsItsRecord s sound users d first m.others found) (expand_found prelude (d ∷ m.others) found (program_body found.opened.«data»))
             (found-told prelude read s sound users d first m.others m.made found closed (program-new s sound users d first.stands first.behind m.others m.made found closed found.opened.form.name is)
             (no-text-program found.opened.form.name is) (program_body found.opened.«data»))))
             (λ r g. as-told (planned_text records r) (text-other records (plan_of records r) r))

@@ -2,6 +2,7 @@ pub mod Run
 pub mod Bound
 pub mod Expansion
 pub mod Fitting
+pub mod Parts
 pub mod Names
 pub mod Written
 pub mod Spelled

@@ -15,10 +15,14 @@
 //! be bound again one after another. Import sets give each name once. And no two libraries of a run have one
 //! name, as the laws of records say.
 //!
+//! A run may be at fault in a file that isn't found, or in a form of its third library. What was made before is put down
+//! in the same way, so the same is told of each part of a run, as far as it came.
+//!
 //! What is not told here stands in `docs/PROVED.md`.
 
 ghost use Rattle.sx_run_laws.specs.Expansion.{OwnFramesAreBound, NewLabelsAreUnbound, StartsAreNumbered, RecordsAreOnceOver};
 ghost use Rattle.sx_run_laws.specs.Fitting.{RecordsFit, ExpansionsBegin};
+ghost use Rattle.sx_run_laws.specs.Parts.{PartsFit, PartsBegin, ProgramsBegin, DerivedBegins};
 
 /// Expansion binds in frames of its own library alone, and a bind that goes through is no second binder. So the rows of
 /// a record are bound again without a second binder, and it binds no label twice.
@@ -38,4 +42,13 @@ pub fn new_labels_are_unbound()
 pub fn runs_fit()
     ensures records { RecordsFit }
     ensures starts { ExpansionsBegin }
+{}
+
+/// So it is of a run that is at fault, as far as it came, and also where loading stopped: the records that were made fit, and the
+/// expansion that begins next, whatever comes of it, begins so.
+pub fn parts_fit()
+    ensures records { PartsFit }
+    ensures next { PartsBegin }
+    ensures programs { ProgramsBegin }
+    ensures derived { DerivedBegins }
 {}
