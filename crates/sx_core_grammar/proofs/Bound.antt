@@ -171,7 +171,7 @@ apart cs h once l m x e f =
     let w = b.0.variable in
     let is : IsTold a.0 = among_each IsTold bs a.0 h a.1.0 in
     let was : IsTold b.0 = among_each IsTold bs b.0 h b.1.0 in
-    let told = place_told v.library w.library v.symbol w.symbol v.number w.number is.0 was.0 is.1 was.1 (a.1.1.name ∙ sym b.1.1.name) in
+    let told = place_told v.library w.library v.symbol w.symbol v.number w.number is was (a.1.1.name ∙ sym b.1.1.name) in
     let same : a.0 ≡ b.0 = once_same place bs a.0 b.0 once a.1.0 b.1.0 (λ i. (told.0 i, told.1 i)) in
     sym a.1.1.label ∙ ap (λ (c : Bound). c.label) same ∙ b.1.1.label
 

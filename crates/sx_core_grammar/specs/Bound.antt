@@ -1,5 +1,5 @@
 -- The variables that get names, from what the labels of records are bound to.
-use Rattle.std.specs.Prelude.{ℕ, ◌<◌, ◌^◌, List, [], ◌∷◌, ◌++◌, map, Option, None, Some, slice_get}
+use Rattle.std.specs.Prelude.{ℕ, List, [], ◌∷◌, ◌++◌, map, Option, None, Some, slice_get}
 use Rattle.std.specs.List.{flat_map}
 use Rattle.sx_base.specs.declared.library.LibName.{LibName}
 use Rattle.sx_base.specs.declared.name.Label.{Label}
@@ -49,9 +49,9 @@ abbrev pub BoundHaveNames : Type 0
 BoundHaveNames = (records : List LibRecord) (plan : List ℕ) (program : LibRecord) (b : Bound) → Among (all_bound records plan program) b
     → HasName (all_names records plan program) b.label
 
--- a variable of the program or of a library that has a name, whose index is below 2^64
+-- a variable of the program or of a library that has a name
 abbrev pub IsTold : Bound → Type 0
-IsTold b = IsNamed b.variable.library × (b.variable.number < 2 ^ 64)
+IsTold b = IsNamed b.variable.library
 
 -- names are generated ones, and tell such variables apart where no two share library and number
 abbrev pub NamesAreGenerated : Type 0

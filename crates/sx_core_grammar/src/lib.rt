@@ -65,7 +65,7 @@ pub fn core_text_tells_its_lines()
 }
 
 /// Each variable that is bound with an index has a name. These names are generated ones; and where no two of the variables share
-/// library and index, which is below 2^64, they tell them apart.
+/// library and index, they tell them apart.
 pub fn names_are_told_by_bindings()
     ensures given { BoundHaveNames }
     ensures generated { NamesAreGenerated }

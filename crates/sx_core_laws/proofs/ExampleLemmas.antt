@@ -1,7 +1,7 @@
 -- The examples are told by computation.
 use Rattle.std.proofs.Common.{refl}
 use Rattle.std.specs.Str.{chars}
-use Rattle.std.specs.Fmt.{digits}
+use Rattle.sx_names.specs.Decimal.{number_text}
 use Rattle.sx_core_laws.specs.Examples.{ClosedExamples, WellMadeExamples, RecordExamples, FollowsExamples}
 
 pub closed_examples : ClosedExamples
@@ -11,7 +11,7 @@ pub well_made_examples : WellMadeExamples
 well_made_examples = record { formal = refl; short = refl; two_cases = refl; case_lambda = refl; last_op = refl; past_ops = refl; bound_twice = refl; numbered_twice = refl; apart = refl; literal = refl; no_literal = refl; instanced = refl; referenced = refl; once_repeated = refl; not_repeated = refl; twice_repeated = refl; other_depth = refl; fed_by_another = refl; given = refl; not_given = refl }
 
 pub record_examples : RecordExamples
-unfolding chars digits
+unfolding chars number_text
 record_examples = record { closed_later = refl; not_closed = refl; bound_once = refl; bound_twice = refl; named_twice = refl }
 
 pub follows_examples : FollowsExamples

@@ -1,21 +1,22 @@
 -- What generated names are made of, whatever their libraries, symbols and numbers are: each byte stands for itself in an identifier.
-use Rattle.std.proofs.Common.{◌≡◌, ℕ, zero, suc, ◌+◌, ◌<◌, ◌/◌, ◌%◌, ◌^◌, Bool, true, false, List, [], ◌∷◌, ◌++◌, drop, arith, refl, sym, ap, ◌∙◌, if◌then◌else◌}
-use Rattle.std.specs.Prelude.{◌==◌, decimal, nat_lt}
+use Rattle.std.proofs.Common.{◌≡◌, ℕ, zero, suc, ◌+◌, ◌<◌, ◌/◌, ◌%◌, Bool, true, false, List, [], ◌∷◌, ◌++◌, drop, arith, refl, sym, ap, ◌∙◌, if◌then◌else◌}
+use Rattle.std.specs.Prelude.{◌==◌, nat_lt}
 use Rattle.std.specs.Fmt.{digit_glyph, digits_onto, digits}
 use Rattle.std.specs.List.{flat_map, list_all}
 use Rattle.std.specs.Str.{chars}
 use Rattle.std.proofs.Math.Nat.{mod-lt}
 use Rattle.std.proofs.lemmas.Bool.{and_from}
 use Rattle.std.proofs.lemmas.Bool.Decides.{nat_tests}
-use Rattle.std.proofs.lemmas.Fmt.{decimal_injective}
 use Rattle.sx_base.specs.Hex.{hex}
 use Rattle.sx_base.specs.declared.library.LibName.{LibName}
 use Rattle.sx_base.specs.declared.library.LibName.TheVariants as library
+use Rattle.sx_names.specs.Decimal.{number_text}
 use Rattle.sx_names.specs.Generated.{is_plain, name_char, name_part, further_parts, parts_text, library_text, generated_name}
+use Rattle.sx_names.proofs.Decimal.{number_injective, number_reads}
 use Rattle.sx_printer.specs.Symbols.{is_subsequent}
 use Rattle.sx_round.proofs.Chars.{branch}
 use Rattle.sx_name_laws.specs.Variable.{IsNamed}
-use Rattle.sx_name_laws.proofs.Reading.{word_subsequent}
+use Rattle.sx_name_laws.proofs.Reading.{word_subsequent, digits_subsequent}
 use Rattle.sx_name_laws.proofs.Telling.{is_word, is_path, plain_word, library_path, library_same, name_is}
 use Rattle.sx_name_laws.proofs.Words.{cut, all_append, all_weaker}
 
@@ -28,33 +29,21 @@ upper_plain n h = by (nat_lt n 10) refl
     by true e = grind (arith, nat_tests)
     by false e = grind (arith, nat_tests)
 
-lower_plain : (n : ℕ) → n < 10 → is_plain (digit_glyph false n) ≡ true
-lower_plain n h = by (nat_lt n 10) refl
+digits_plain : (k n : ℕ) (acc : List ℕ) → list_all is_plain acc ≡ true → list_all is_plain (digits_onto k 16 true n acc) ≡ true
+digits_plain zero n acc h = h
+digits_plain (suc k) n acc h = by (n / 16 == 0) (λ e. digits_plain k (n / 16) (digit_glyph true (n % 16) ∷ acc) e)
   where
-    by : (b : Bool) → nat_lt n 10 ≡ b → is_plain (if b then 48 + n else 87 + n) ≡ true
-    by true e = grind (arith, nat_tests)
-    by false e = grind (arith, nat_tests)
+    more : list_all is_plain (digit_glyph true (n % 16) ∷ acc) ≡ true
+    more = and_from (is_plain (digit_glyph true (n % 16))) (list_all is_plain acc) (upper_plain (n % 16) (mod-lt n (omega arith))) h
 
-module _ (radix : ℕ) (upper : Bool) (good : (n : ℕ) → is_plain (digit_glyph upper (n % radix)) ≡ true) where
-  digits_plain : (k n : ℕ) (acc : List ℕ) → list_all is_plain acc ≡ true → list_all is_plain (digits_onto k radix upper n acc) ≡ true
-  digits_plain zero n acc h = h
-  digits_plain (suc k) n acc h = by (n / radix == 0) (λ e. digits_plain k (n / radix) (digit_glyph upper (n % radix) ∷ acc) e)
-    where
-      more : list_all is_plain (digit_glyph upper (n % radix) ∷ acc) ≡ true
-      more = and_from (is_plain (digit_glyph upper (n % radix))) (list_all is_plain acc) (good n) h
-
-      by : (b : Bool) → (list_all is_plain (digit_glyph upper (n % radix) ∷ acc) ≡ true → list_all is_plain (digits_onto k radix upper (n / radix) (digit_glyph upper (n % radix) ∷ acc)) ≡ true)
-          → list_all is_plain (if b then digit_glyph upper (n % radix) ∷ acc else digits_onto k radix upper (n / radix) (digit_glyph upper (n % radix) ∷ acc)) ≡ true
-      by true rest = more
-      by false rest = rest more
+    by : (b : Bool) → (list_all is_plain (digit_glyph true (n % 16) ∷ acc) ≡ true → list_all is_plain (digits_onto k 16 true (n / 16) (digit_glyph true (n % 16) ∷ acc)) ≡ true)
+        → list_all is_plain (if b then digit_glyph true (n % 16) ∷ acc else digits_onto k 16 true (n / 16) (digit_glyph true (n % 16) ∷ acc)) ≡ true
+    by true rest = more
+    by false rest = rest more
 
 hex_plain : (c : ℕ) → list_all is_plain (hex c) ≡ true
 unfolding digits
-hex_plain c = digits_plain 16 true (λ n. upper_plain (n % 16) (mod-lt n (omega arith))) 64 c [] refl
-
-decimal_plain : (n : ℕ) → list_all is_plain (decimal n) ≡ true
-unfolding digits
-decimal_plain n = digits_plain 10 false (λ m. lower_plain (m % 10) (mod-lt m (omega arith))) 64 n [] refl
+hex_plain c = digits_plain 64 c [] refl
 
 -- symbols, and the names of libraries
 
@@ -90,18 +79,18 @@ library_subsequent (library.User ps) = parts_subsequent ps
 
 -- what stands behind the percent sign
 abbrev pub rest_of_name : LibName → List ℕ → ℕ → List ℕ
-rest_of_name l x n = library_text l ++ (0x2F ∷ (name_part x ++ (0x2F ∷ decimal n)))
+rest_of_name l x n = library_text l ++ (0x2F ∷ (name_part x ++ (0x2F ∷ number_text n)))
 
 pub any_rest : (l : LibName) (x : List ℕ) (n : ℕ) → list_all is_subsequent (rest_of_name l x n) ≡ true
 any_rest l x n =
-    all_append is_subsequent (library_text l) (0x2F ∷ (name_part x ++ (0x2F ∷ decimal n))) (library_subsequent l)
-    (all_append is_subsequent (name_part x) (0x2F ∷ decimal n) (part_subsequent x)
-    (all_weaker is_word is_subsequent word_subsequent (decimal n) (all_weaker is_plain is_word plain_word (decimal n) (decimal_plain n))))
+    all_append is_subsequent (library_text l) (0x2F ∷ (name_part x ++ (0x2F ∷ number_text n))) (library_subsequent l)
+    (all_append is_subsequent (name_part x) (0x2F ∷ number_text n) (part_subsequent x)
+    (digits_subsequent (number_text n) ((number_reads n).0.1)))
 
 -- one name is of one library and one number
-pub place_told : (l m : LibName) (x y : List ℕ) (n k : ℕ) → IsNamed l → IsNamed m → n < 2 ^ 64 → k < 2 ^ 64 → generated_name l x n ≡ generated_name m y k → (l ≡ m) × (n ≡ k)
-place_told l m x y n k named other small less e =
+pub place_told : (l m : LibName) (x y : List ℕ) (n k : ℕ) → IsNamed l → IsNamed m → generated_name l x n ≡ generated_name m y k → (l ≡ m) × (n ≡ k)
+place_told l m x y n k named other e =
     let whole = ap (λ (w : List ℕ). drop 1 w) (sym (name_is l x n) ∙ e ∙ name_is m y k) in
-    let first = cut is_path (library_text l) (library_text m) (0x2F ∷ (name_part x ++ (0x2F ∷ decimal n))) (0x2F ∷ (name_part y ++ (0x2F ∷ decimal k))) (library_path l named) (library_path m other) refl refl whole in
-    let second = cut is_word (name_part x) (name_part y) (0x2F ∷ decimal n) (0x2F ∷ decimal k) (any_word x) (any_word y) refl refl (ap (λ (w : List ℕ). drop 1 w) first.1) in
-    (library_same l m named other first.0, decimal_injective n k small less (ap (λ (w : List ℕ). drop 1 w) second.1))
+    let first = cut is_path (library_text l) (library_text m) (0x2F ∷ (name_part x ++ (0x2F ∷ number_text n))) (0x2F ∷ (name_part y ++ (0x2F ∷ number_text k))) (library_path l named) (library_path m other) refl refl whole in
+    let second = cut is_word (name_part x) (name_part y) (0x2F ∷ number_text n) (0x2F ∷ number_text k) (any_word x) (any_word y) refl refl (ap (λ (w : List ℕ). drop 1 w) first.1) in
+    (library_same l m named other first.0, number_injective n k (ap (λ (w : List ℕ). drop 1 w) second.1))

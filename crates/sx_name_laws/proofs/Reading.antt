@@ -1,20 +1,20 @@
 -- A generated name is read as the symbol of its own text.
 use Rattle.std.proofs.Common.{◌≡◌, ℕ, zero, suc, ◌<◌, true, List, [], ◌∷◌, ◌++◌, arith, refl, sym, ap, ◌∙◌, Option, None, Ok}
-use Rattle.std.specs.Prelude.{decimal}
 use Rattle.std.specs.Char.{digit_value}
 use Rattle.std.specs.List.{list_all}
 use Rattle.std.specs.Str.{IsAscii, chars}
 use Rattle.std.specs.Str.Parse.{AllDigits}
 use Rattle.std.proofs.lemmas.Bool.{and_parts, and_from}
 use Rattle.std.proofs.lemmas.Bool.Decides.{nat_tests}
-use Rattle.std.proofs.lemmas.Fmt.{decimal_is_IsNumeral}
 use Rattle.std.proofs.lemmas.Str.{encode_ascii, chars-IsAscii, IsUtf8-from_ascii}
 use Rattle.sx_base.specs.Datum.{PlainDatum, atom, symbol, pair, vector, unspanned}
 use Rattle.sx_base.specs.declared.span.Span.{Span}
 use Rattle.sx_reader.specs.Read.{data_of}
 use Rattle.sx_printer.specs.DatumText.{datum_text}
 use Rattle.sx_printer.specs.Symbols.{symbol_text, name_text, initial_text, subsequent_text, subsequents_text, is_subsequent}
+use Rattle.sx_names.specs.Decimal.{number_text}
 use Rattle.sx_names.specs.Generated.{name_part, library_text}
+use Rattle.sx_names.proofs.Decimal.{number_reads}
 use Rattle.sx_round.specs.Readable.{IsName}
 use Rattle.sx_round.proofs.Round.{read_back}
 use Rattle.sx_name_laws.specs.Variable.{Variable, IsVariable, name_of}
@@ -62,13 +62,13 @@ symbol_is bs h =
     let plain : chars (0x25 ∷ bs) ≡ 0x25 ∷ bs = chars-IsAscii (0x25 ∷ bs) (ascii (0x25 ∷ bs) h) in
     ap name_text plain ∙ ap (λ (w : List ℕ). w ++ subsequents_text bs) first_itself ∙ ap (λ (w : List ℕ). 0x25 ∷ w) (all_themselves bs h)
 
-rest_subsequent : (v : Variable) → IsVariable v → list_all is_subsequent (library_text v.library ++ (0x2F ∷ (name_part v.symbol ++ (0x2F ∷ decimal v.number)))) ≡ true
+rest_subsequent : (v : Variable) → IsVariable v → list_all is_subsequent (library_text v.library ++ (0x2F ∷ (name_part v.symbol ++ (0x2F ∷ number_text v.number)))) ≡ true
 rest_subsequent v h =
     let path = all_weaker is_path is_subsequent path_subsequent (library_text v.library) (library_path v.library h.0) in
-    let word = all_weaker is_word is_subsequent word_subsequent (name_part v.symbol) (part_word v.symbol h.1.0) in
-    let number = digits_subsequent (decimal v.number) ((decimal_is_IsNumeral v.number h.1.1).0.1) in
-    all_append is_subsequent (library_text v.library) (0x2F ∷ (name_part v.symbol ++ (0x2F ∷ decimal v.number))) path
-    (all_append is_subsequent (name_part v.symbol) (0x2F ∷ decimal v.number) word number)
+    let word = all_weaker is_word is_subsequent word_subsequent (name_part v.symbol) (part_word v.symbol h.1) in
+    let number = digits_subsequent (number_text v.number) ((number_reads v.number).0.1) in
+    all_append is_subsequent (library_text v.library) (0x2F ∷ (name_part v.symbol ++ (0x2F ∷ number_text v.number))) path
+    (all_append is_subsequent (name_part v.symbol) (0x2F ∷ number_text v.number) word number)
 
 -- what the datum is but for its span
 unspanned_symbol : (d : PlainDatum) (x : List ℕ) → unspanned d ≡ symbol None x → (s : Option Span) × (d ≡ symbol s x)
@@ -93,7 +93,7 @@ read_itself file nesting bs h =
 pub names_read : NamesAreReadAsThemselves
 names_read file nesting v h =
     rw (name_is v.library v.symbol v.number)
-    (read_itself file nesting (library_text v.library ++ (0x2F ∷ (name_part v.symbol ++ (0x2F ∷ decimal v.number)))) (rest_subsequent v h))
+    (read_itself file nesting (library_text v.library ++ (0x2F ∷ (name_part v.symbol ++ (0x2F ∷ number_text v.number)))) (rest_subsequent v h))
 
 pub names_apart : NamesStayApart
 names_apart file nesting v w h k other = record {

@@ -1,6 +1,6 @@
 -- A generated name tells its variable.
 use Rattle.std.proofs.Common.{◌≡◌, ℕ, ◌<◌, Bool, true, false, List, [], ◌∷◌, ◌++◌, length, arith, refl, sym, ap, ◌∙◌, append_assoc}
-use Rattle.std.specs.Prelude.{◌==◌, ◌||◌, codes, decimal, drop, slice_index, All}
+use Rattle.std.specs.Prelude.{◌==◌, ◌||◌, codes, drop, slice_index, All}
 use Rattle.std.specs.Char.{IsScalar, digit_value}
 use Rattle.std.specs.List.{flat_map, list_all}
 use Rattle.std.specs.Str.{IsUtf8, chars, encode_utf8_all, all_scalars}
@@ -8,7 +8,6 @@ use Rattle.std.specs.Str.Parse.{AllDigits}
 use lib.Utf8.{scalar}
 use Rattle.std.proofs.lemmas.Bool.{and_parts, and_from}
 use Rattle.std.proofs.lemmas.Bool.Decides.{nat_tests}
-use Rattle.std.proofs.lemmas.Fmt.{decimal_injective}
 use Rattle.std.proofs.lemmas.List.Elements.{All-head, All-tail}
 use Rattle.std.proofs.lemmas.Str.{encodes-chars, scalars-chars}
 use Rattle.sx_base.specs.Hex.{hex}
@@ -16,6 +15,8 @@ use Rattle.sx_base.specs.declared.library.LibName.{LibName}
 use Rattle.sx_base.specs.declared.library.LibName.TheVariants as library
 use Rattle.sx_spelling.specs.Numbers.{value_from}
 use Rattle.sx_names.specs.Generated.{is_plain, name_char, name_part, further_parts, parts_text, library_text, generated_name}
+use Rattle.sx_names.specs.Decimal.{number_text}
+use Rattle.sx_names.proofs.Decimal.{number_injective}
 use Rattle.sx_round.proofs.Chars.{branch, hex_spell}
 use Rattle.sx_name_laws.specs.Variable.{IsPart, IsNamed}
 use Rattle.sx_name_laws.specs.Apart.{NamesTellVariables}
@@ -205,22 +206,22 @@ library_same (library.User ps) library.Program h k e = absurd (parts_some ps h.0
 library_same (library.User ps) (library.User qs) h k e = ap library.User (users_same ps qs h k e)
 
 -- a name is its library, a slash, and the rest
-pub name_is : (l : LibName) (x : List ℕ) (n : ℕ) → generated_name l x n ≡ 0x25 ∷ (library_text l ++ (0x2F ∷ (name_part x ++ (0x2F ∷ decimal n))))
+pub name_is : (l : LibName) (x : List ℕ) (n : ℕ) → generated_name l x n ≡ 0x25 ∷ (library_text l ++ (0x2F ∷ (name_part x ++ (0x2F ∷ number_text n))))
 name_is l x n =
     ap (λ (w : List ℕ). 0x25 ∷ w)
-    (append_assoc ((library_text l ++ (0x2F ∷ [])) ++ name_part x) (0x2F ∷ []) (decimal n)
-    ∙ append_assoc (library_text l ++ (0x2F ∷ [])) (name_part x) (0x2F ∷ decimal n)
-    ∙ append_assoc (library_text l) (0x2F ∷ []) (name_part x ++ (0x2F ∷ decimal n)))
+    (append_assoc ((library_text l ++ (0x2F ∷ [])) ++ name_part x) (0x2F ∷ []) (number_text n)
+    ∙ append_assoc (library_text l ++ (0x2F ∷ [])) (name_part x) (0x2F ∷ number_text n)
+    ∙ append_assoc (library_text l) (0x2F ∷ []) (name_part x ++ (0x2F ∷ number_text n)))
 
 pub names_tell : NamesTellVariables
 names_tell v w h k e =
     let whole = ap (λ (l : List ℕ). drop 1 l) (sym (name_is v.library v.symbol v.number) ∙ e ∙ name_is w.library w.symbol w.number) in
-    let first = cut is_path (library_text v.library) (library_text w.library) (0x2F ∷ (name_part v.symbol ++ (0x2F ∷ decimal v.number))) (0x2F ∷ (name_part w.symbol ++ (0x2F ∷ decimal w.number)))
+    let first = cut is_path (library_text v.library) (library_text w.library) (0x2F ∷ (name_part v.symbol ++ (0x2F ∷ number_text v.number))) (0x2F ∷ (name_part w.symbol ++ (0x2F ∷ number_text w.number)))
     (library_path v.library h.0) (library_path w.library k.0) refl refl whole in
     let behind = ap (λ (l : List ℕ). drop 1 l) first.1 in
-    let second = cut is_word (name_part v.symbol) (name_part w.symbol) (0x2F ∷ decimal v.number) (0x2F ∷ decimal w.number)
-    (part_word v.symbol h.1.0) (part_word w.symbol k.1.0) refl refl behind in
+    let second = cut is_word (name_part v.symbol) (name_part w.symbol) (0x2F ∷ number_text v.number) (0x2F ∷ number_text w.number)
+    (part_word v.symbol h.1) (part_word w.symbol k.1) refl refl behind in
     let same_library = library_same v.library w.library h.0 k.0 first.0 in
-    let same_symbol = part_same v.symbol w.symbol h.1.0 k.1.0 second.0 in
-    let same_number = decimal_injective v.number w.number h.1.1 k.1.1 (ap (λ (l : List ℕ). drop 1 l) second.1) in
+    let same_symbol = part_same v.symbol w.symbol h.1 k.1 second.0 in
+    let same_number = number_injective v.number w.number (ap (λ (l : List ℕ). drop 1 l) second.1) in
     λ i. record { library = same_library i; symbol = same_symbol i; number = same_number i }

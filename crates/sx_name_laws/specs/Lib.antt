@@ -1,2 +1,3 @@
 pub mod Variable
+pub mod Numbers
 pub mod Apart

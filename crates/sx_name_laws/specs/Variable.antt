@@ -1,5 +1,5 @@
 -- The variables that have generated names.
-use Rattle.std.specs.Prelude.{ℕ, ◌<◌, ◌^◌, List, length, All}
+use Rattle.std.specs.Prelude.{ℕ, ◌<◌, List, length, All}
 use Rattle.std.specs.Str.{IsUtf8}
 use Rattle.sx_base.specs.declared.library.LibName.{LibName}
 use Rattle.sx_base.specs.declared.library.LibName.TheVariants as library
@@ -24,7 +24,7 @@ IsNamed library.Program = Unit {0}
 IsNamed (library.User parts) = (0 < length parts) × All IsPart parts
 
 abbrev pub IsVariable : Variable → Type 0
-IsVariable v = IsNamed v.library × (IsUtf8 v.symbol × (v.number < 2 ^ 64))
+IsVariable v = IsNamed v.library × IsUtf8 v.symbol
 
 abbrev pub name_of : Variable → List ℕ
 name_of v = generated_name v.library v.symbol v.number

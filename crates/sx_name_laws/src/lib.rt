@@ -10,10 +10,12 @@
 //!
 //! Here are no calls to make: each function stands for the law that it ensures. The first says that a
 //! generated name tells its variable, the second that it is read as the symbol of its own text, and the
-//! third joins the two.
+//! third joins the two. The last is about the number in a name: it may be of any size, though those that
+//! the writer of names is given have 64 bits.
 #![tactic(auto)]
 
 ghost use Rattle.sx_name_laws.specs.Apart.{NamesTellVariables, NamesAreReadAsThemselves, NamesStayApart};
+ghost use Rattle.sx_name_laws.specs.Numbers.{NumbersAreInDecimal, NumbersAreTold};
 
 /// Variables with one generated name are of one library, one symbol and one number.
 pub fn names_tell_variables()
@@ -28,4 +30,10 @@ pub fn names_are_read_as_themselves()
 /// The generated names of different variables are read as different symbols.
 pub fn names_stay_apart()
     ensures { NamesStayApart }
+{}
+
+/// A number of any size is written in decimal, as Rust writes one of 64 bits, and its digits tell it.
+pub fn numbers_are_in_decimal()
+    ensures written { NumbersAreInDecimal }
+    ensures told { NumbersAreTold }
 {}

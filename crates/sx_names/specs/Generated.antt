@@ -1,5 +1,5 @@
 -- The names of variables in core text.
-use Rattle.std.specs.Prelude.{ℕ, Bool, List, [], ◌∷◌, ◌++◌, ◌||◌, if◌then◌else◌, codes, decimal}
+use Rattle.std.specs.Prelude.{ℕ, Bool, List, [], ◌∷◌, ◌++◌, ◌||◌, if◌then◌else◌, codes}
 use Rattle.std.specs.List.{flat_map, list_any}
 use Rattle.std.specs.Prelude.{◌==◌}
 use Rattle.std.specs.Str.{chars}
@@ -7,6 +7,7 @@ use Rattle.std.specs.Char.{is_ascii_alphanumeric}
 use Rattle.sx_base.specs.Hex.{hex}
 use Rattle.sx_base.specs.declared.library.LibName.{LibName}
 use Rattle.sx_base.specs.declared.library.LibName.TheVariants as library
+use Rattle.sx_names.specs.Decimal.{number_text}
 
 -- the characters beside letters and digits that stand for themselves: ! $ % & * : < = > ? ^ _ + - @
 abbrev pub is_plain_sign : ℕ → Bool
@@ -41,4 +42,4 @@ library_text (library.User parts) = parts_text parts
 
 -- %LIBRARY/SYMBOL/NUMBER
 abbrev pub generated_name : LibName → List ℕ → ℕ → List ℕ
-generated_name lib symbol number = codes "%" ++ library_text lib ++ codes "/" ++ name_part symbol ++ codes "/" ++ decimal number
+generated_name lib symbol number = codes "%" ++ library_text lib ++ codes "/" ++ name_part symbol ++ codes "/" ++ number_text number

@@ -1,5 +1,5 @@
 -- What record forms stand for can be read where the form can.
-use Rattle.std.specs.Prelude.{◌&&◌, decimal, nat_lt}
+use Rattle.std.specs.Prelude.{◌&&◌, nat_lt}
 use Rattle.std.proofs.lemmas.Bool.Decides.{nat_tests}
 use Rattle.std.specs.List.{list_all}
 use Rattle.std.specs.Str.{IsUtf8}
@@ -12,6 +12,7 @@ use Rattle.sx_base.specs.declared.span.Span.{Span}
 use Rattle.sx_scope.specs.Stands.{symbol_of}
 use Rattle.sx_round.specs.Readable.{IsName}
 use Rattle.sx_base.specs.declared.library.LibName.{LibName}
+use Rattle.sx_names.specs.Decimal.{number_text}
 use Rattle.sx_names.specs.Generated.{library_text, name_part}
 use Rattle.sx_printer.specs.Symbols.{is_subsequent}
 use Rattle.sx_name_laws.proofs.AnyName.{rest_of_name, any_rest}
@@ -476,13 +477,13 @@ record-holds fs t _ place own on h = tt
 
 -- the name that a record type has in all programs
 
-uid-is : (own : LibName) (x : List ℕ) (n : ℕ) → library_text own ++ codes "/" ++ name_part x ++ codes "/" ++ decimal n ≡ rest_of_name own x n
+uid-is : (own : LibName) (x : List ℕ) (n : ℕ) → library_text own ++ codes "/" ++ name_part x ++ codes "/" ++ number_text n ≡ rest_of_name own x n
 uid-is own x n =
-    append_assoc ((library_text own ++ (0x2F ∷ [])) ++ name_part x) (0x2F ∷ []) (decimal n) ∙ append_assoc (library_text own ++ (0x2F ∷ [])) (name_part x) (0x2F ∷ decimal n)
-    ∙ append_assoc (library_text own) (0x2F ∷ []) (name_part x ++ (0x2F ∷ decimal n))
+    append_assoc ((library_text own ++ (0x2F ∷ [])) ++ name_part x) (0x2F ∷ []) (number_text n) ∙ append_assoc (library_text own ++ (0x2F ∷ [])) (name_part x) (0x2F ∷ number_text n)
+    ∙ append_assoc (library_text own) (0x2F ∷ []) (name_part x ++ (0x2F ∷ number_text n))
 
 rest-name : (own : LibName) (x : List ℕ) (n : ℕ) → IsName (rest_of_name own x n)
-rest-name own x n = (small_text (rest_of_name own x n) (all_weaker is_subsequent is_small subsequent-small (rest_of_name own x n) (any_rest own x n)), omega (arith, length-append (library_text own) (0x2F ∷ (name_part x ++ (0x2F ∷ decimal n)))))
+rest-name own x n = (small_text (rest_of_name own x n) (all_weaker is_subsequent is_small subsequent-small (rest_of_name own x n) (any_rest own x n)), omega (arith, length-append (library_text own) (0x2F ∷ (name_part x ++ (0x2F ∷ number_text n)))))
   where
     subsequent-small : (b : ℕ) → is_subsequent b ≡ true → is_small b ≡ true
     subsequent-small b h = grind (arith, nat_tests)

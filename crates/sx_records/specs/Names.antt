@@ -1,6 +1,7 @@
 -- The names of a record type, its fields and its procedures (libraries report 6.2).
-use Rattle.std.specs.Prelude.{ℕ, List, [], ◌∷◌, ◌++◌, codes, decimal, Option, None, Some, if◌then◌else◌}
+use Rattle.std.specs.Prelude.{ℕ, List, [], ◌∷◌, ◌++◌, codes, Option, None, Some, if◌then◌else◌}
 use Rattle.sx_base.specs.declared.library.LibName.{LibName}
+use Rattle.sx_names.specs.Decimal.{number_text}
 use Rattle.sx_names.specs.Generated.{library_text, name_part}
 use Rattle.sx_scope.specs.Stands.{symbol_of}
 use Rattle.sx_shapes.specs.Lists.{is_leaf, proper_elements, if_some}
@@ -71,4 +72,4 @@ unfoldable pub record_symbol : Tree → List ℕ
 record_symbol t = symbol_behind (proper_elements t)
 
 unfoldable pub record_uid : LibName → Tree → ℕ → List ℕ
-record_uid own t n = library_text own ++ codes "/" ++ name_part (record_symbol t) ++ codes "/" ++ decimal n
+record_uid own t n = library_text own ++ codes "/" ++ name_part (record_symbol t) ++ codes "/" ++ number_text n

@@ -178,7 +178,6 @@ fn record_symbol(alloc: Global, form: &Syn) -> Result<Symbol, Memory>
 
 /// The uid of a record type whose form asks for one: the library and the record's name as they are spelt in core
 /// text, and how many forms of the library define record types before this one.
-#[tactic(auto, unfolding(crate::specs::Names::record_uid))]
 pub fn record_uid(
     alloc: Global,
     library: &LibName,

@@ -1,5 +1,5 @@
 -- The text that a run writes is closed and bound once by the names in it.
-use Rattle.std.proofs.Common.{◌≡◌, ℕ, ◌<◌, ◌^◌, List, [], ◌∷◌, ◌++◌, map, Option, Some, None, Result, Ok, Err, refl, sym, ◌∙◌, ap, subst, inl, inr}
+use Rattle.std.proofs.Common.{◌≡◌, ℕ, List, [], ◌∷◌, ◌++◌, map, Option, Some, None, Result, Ok, Err, refl, sym, ◌∙◌, ap, subst, inl, inr}
 use Rattle.std.specs.Prelude.{◌⊎◌, slice_get, unwrap_or}
 use Rattle.std.specs.List.{flat_map}
 use Rattle.std.specs.Map.{lookup}
@@ -22,7 +22,6 @@ use Rattle.sx_core_text.specs.Syntax.{Checked, written, lines_checked}
 use Rattle.sx_core_text.specs.Whole.{record_checked, plan_checked, all_names, all_text, core_text}
 use Rattle.sx_eval.specs.Codes.{Codes}
 use Rattle.sx_names.specs.Generated.{generated_name}
-use Rattle.sx_expand_laws.specs.Indices.{there, bound_index}
 use Rattle.sx_expand_laws.specs.Variables.{HasIndices}
 use Rattle.sx_expand_laws.proofs.Fresh.{each-at, each-of, each-append}
 use Rattle.sx_library.specs.Loaded.{all_records}
@@ -42,9 +41,9 @@ use Rattle.sx_text_laws.specs.Text.{text_of, IsClosedOnce}
 use Rattle.sx_text_laws.proofs.BoundOnce.{text-names-once}
 use Rattle.sx_text_laws.proofs.Closed.{text-known}
 use Rattle.sx_text_laws.proofs.Names.{same-record}
-use Rattle.sx_text_laws.proofs.Words.{among-map, among-flat, flat-among}
+use Rattle.sx_text_laws.proofs.Words.{among-map, flat-among}
 use Rattle.sx_run_laws.specs.Names.{names_for, NamesClosed, IsWrittenName, IsWrittenOnce}
-use Rattle.sx_run_laws.specs.Written.{IsCounted, RunsAreWrittenOnce}
+use Rattle.sx_run_laws.specs.Written.{RunsAreWrittenOnce}
 use Rattle.sx_run_laws.proofs.DerivedLines.{derived-bare}
 use Rattle.sx_run_laws.proofs.Lists.{once-map, map-once, found-among}
 use Rattle.sx_run_laws.proofs.NameText.{name_written}
@@ -179,17 +178,12 @@ module _ (records : List LibRecord) (program : LibRecord) (standing : AreStandin
   name-is : (l : Label) (x : IsBinder l) → name_of names l ≡ generated_name l.0.library x.indexed.variable.symbol x.indexed.number
   name-is l x = ap (λ (o : Option (List ℕ)). unwrap_or o []) x.called
 
-  module _ (once : IsClosedOnce (text_of records program)) (counted : Each IsCounted (text_of records program)) where
-    small : (l : Label) (x : IsBinder l) → x.indexed.number < 2 ^ 64
-    small l x =
-        each-at (λ (n : ℕ). n < 2 ^ 64) (flat_map bound_index x.holder.bindings) x.indexed.number (each-at IsCounted T x.holder counted x.there)
-        (among-flat bound_index x.holder.bindings (l, binding.Variable x.indexed.variable) x.indexed.number x.indexed.bound (subst (λ (o : Option ℕ). Among (there o) x.indexed.number) (sym x.indexed.index) (inl refl)))
-
+  module _ (once : IsClosedOnce (text_of records program)) where
     same-name : (l m : Label) → Among (flat_map run_binders T) l → Among (flat_map run_binders T) m → name_of names l ≡ name_of names m → l ≡ m
     same-name l m a b e =
         let x = binder l a in
         let y = binder m b in
-        let told = place_told l.0.library m.0.library x.indexed.variable.symbol y.indexed.variable.symbol x.indexed.number y.indexed.number x.named y.named (small l x) (small m y) (sym (name-is l x) ∙ e ∙ name-is m y) in
+        let told = place_told l.0.library m.0.library x.indexed.variable.symbol y.indexed.variable.symbol x.indexed.number y.indexed.number x.named y.named (sym (name-is l x) ∙ e ∙ name-is m y) in
         let one : x.holder ≡ y.holder = same-record T names-once x.holder y.holder x.there y.there (sym x.own ∙ told.0 ∙ y.own) in
         let among : Among (run_variables x.holder) m = subst (λ (r : LibRecord). Among (run_variables r) m) (sym one) y.variables in
         let index : index_of x.holder m ≡ Some y.indexed.number = subst (λ (r : LibRecord). index_of r m ≡ Some y.indexed.number) (sym one) y.indexed.told in
@@ -213,8 +207,8 @@ first-bare prelude found s records program e h =
     subst (λ (r : LibRecord). r.run ≡ []) is (derived-bare made.derived prelude made.made)
 
 pub runs-written : RunsAreWrittenOnce
-runs-written prelude files roots path found s records program text run e counted =
+runs-written prelude files roots path found s records program text run e =
     let stand = all_records_stand prelude files roots path found s records program run in
     text-written records program (all_standing found s records program stand)
     (all-sound found s records program (user_at files roots path found s run.loaded) stand (first-bare prelude found s records program run.recorded stand)) (text-checked records program text e)
-    (runs_are_closed_once prelude files roots path found s records program run) counted
+    (runs_are_closed_once prelude files roots path found s records program run)

@@ -1,12 +1,9 @@
 -- The text that a run writes.
-use Rattle.std.specs.Prelude.{◌≡◌, ℕ, ◌<◌, ◌^◌, List, Result, Ok}
-use Rattle.std.specs.List.{flat_map}
+use Rattle.std.specs.Prelude.{◌≡◌, ℕ, List, Result, Ok}
 use Rattle.sx_base.specs.declared.fault.Fault.{Fault}
 use Rattle.sx_core.specs.declared.record.LibRecord.{LibRecord}
-use Rattle.sx_core_laws.specs.Words.{Each}
 use Rattle.sx_core_text.specs.Whole.{all_names, core_text}
 use Rattle.sx_eval.specs.Codes.{Codes}
-use Rattle.sx_expand_laws.specs.Indices.{bound_index}
 use Rattle.sx_load.specs.declared.found.Found.{Found}
 use Rattle.sx_load.specs.declared.found.Loading.{Loading}
 use Rattle.sx_outside.specs.Contents.{Paths}
@@ -15,12 +12,8 @@ use Rattle.sx_run_laws.specs.Run.{IsRun}
 use Rattle.sx_text_laws.specs.Text.{text_of}
 use Rattle.sx_run_laws.specs.Names.{IsWrittenOnce}
 
--- an index is below 2^64, as code that counts in 64 bits has it
-abbrev pub IsCounted : LibRecord → Type 0
-IsCounted r = Each (λ i. i < 2 ^ 64) (flat_map bound_index r.bindings)
-
 -- where a run gives a text
 abbrev pub RunsAreWrittenOnce : Type 0
 RunsAreWrittenOnce = (prelude : Result Codes Fault) (files : Paths) (roots : List (List ℕ)) (path : List ℕ) (found : Found) (s : Loading) (records : List LibRecord) (program : LibRecord) (text : List ℕ)
-    → IsRun prelude files roots path found s records program → core_text records (plan_of records program) program ≡ Ok text → Each IsCounted (text_of records program)
+    → IsRun prelude files roots path found s records program → core_text records (plan_of records program) program ≡ Ok text
     → IsWrittenOnce (all_names records (plan_of records program) program) (text_of records program)
