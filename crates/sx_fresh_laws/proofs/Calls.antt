@@ -180,7 +180,7 @@ module _ (P : LeafContext → Type 0) where
     char_given_ok (Some c) = tt
 
     natural_ok : (n : ℕ) → MadeOr (strings.natural n)
-    natural_ok n = tt
+    natural_ok n = whole_ok (pos n)
 
     symbol_ok : (s : List ℕ) → MadeOr (strings.symbol_made s)
     symbol_ok [] = tt

@@ -170,7 +170,7 @@ module _ (P : Value → Type 0) (cells : List Cell) (holds : HoldsIn P cells) wh
   char_given_ok (Some c) = holds.plain _ tt
 
   natural_ok : (n : ℕ) → MadeOr (strings.natural n)
-  natural_ok n = holds.plain _ tt
+  natural_ok n = whole_ok (pos n)
 
   symbol_ok : (s : List ℕ) → MadeOr (strings.symbol_made s)
   symbol_ok [] = tt

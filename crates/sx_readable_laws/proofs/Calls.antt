@@ -272,7 +272,7 @@ module _ (cells : List Cell) (cells_hold : ReadableCells cells) where
   char_given_ok (Some c) h = h
 
   natural_ok : (n : ℕ) → MadeOr (strings.natural n)
-  natural_ok n = tt
+  natural_ok n = whole_ok (pos n)
 
   symbol_ok : (s : List ℕ) → IsUtf8 s → MadeOr (strings.symbol_made s)
   symbol_ok [] h = tt
