@@ -1,17 +1,21 @@
 -- The references of a library's record.
-use Rattle.std.specs.Prelude.{◌≡◌, ℕ, List, Ok}
+use Rattle.std.specs.Prelude.{◌≡◌, ℕ, List, ◌++◌, map, Option, None, Some, Ok}
 use Rattle.sx_base.specs.declared.library.LibName.{LibName}
 use Rattle.sx_base.specs.declared.name.Label.{Label}
 use Rattle.sx_base.specs.declared.span.Span.{Span}
+use Rattle.sx_tree.specs.Changes.{stamp}
 use Rattle.sx_tree.specs.Tree.{Tree}
 use Rattle.sx_frames.specs.Listed.{rows_in}
 use Rattle.sx_core.specs.References.{mentions}
+use Rattle.sx_core.specs.declared.binding.Binding.{Binding}
+use Rattle.sx_core.specs.declared.binding.Binding.TheVariants as binding
 use Rattle.sx_core.specs.declared.record.LibRecord.{LibRecord}
 use Rattle.sx_core.specs.declared.record.Line.{Line}
 use Rattle.sx_core.specs.declared.record.Line.TheVariants as line
 use Rattle.sx_eval.specs.Codes.{Codes}
 use Rattle.sx_standing.specs.Start.{started}
 use Rattle.sx_standing.specs.State.{State}
+use Rattle.sx_heads.specs.Items.{begun}
 use Rattle.sx_heads.specs.declared.taken.Taken.{Taken}
 use Rattle.sx_value.specs.Cells.{Each}
 use Rattle.sx_expand.specs.Expanding.{ready, body_of, library_record}
@@ -22,8 +26,9 @@ use Rattle.sx_fresh_laws.specs.Leaves.{CodesHold}
 use Rattle.sx_fresh_expansion_laws.specs.Events.{HasEvents}
 use Rattle.sx_fresh_expansion_laws.specs.Known.{libraries_of, IsNewAmong}
 use Rattle.sx_fresh_expansion_laws.specs.RecordMarks.{HasOnly, RecordHasOnly, WasRead}
-use Rattle.sx_reference_laws.specs.Expands.{Told, lines, Finish}
-use Rattle.sx_reference_laws.specs.Whole.{mentioned, IsRight}
+use Rattle.sx_reference_laws.specs.Expands.{Take, Finish}
+use Rattle.sx_reference_laws.specs.Noted.{Expression, Told, lines, of_lines, mentioned, IsExpression}
+use Rattle.sx_reference_laws.specs.Whole.{IsRight, IsRightExpression}
 
 abbrev pub line_mentions : Line → List Label
 line_mentions (line.Define l c) = mentions c
@@ -31,22 +36,32 @@ line_mentions (line.Expr c) = mentions c
 
 -- a line, and its references in a state
 abbrev pub IsRightLine : List LibName → LibName → State → Told → Type 0
-IsRightLine libs own u x = (line_mentions x.line ≡ mentioned x.references) × Each (IsRight libs own u) x.references
+IsRightLine libs own u x = (line_mentions x.line ≡ mentioned x.noted.references) × Each (IsRight libs own u) x.noted.references
 
--- The lines of a record are those of what the first pass took, and their references are right in the last state, whose rows the record has.
+-- where a binding has the expression of a keyword, that is one of these
+abbrev pub IsBoundTo : List Expression → Label → Binding → Type 0
+IsBoundTo es l (binding.Macro level (Some c)) = IsExpression es l c
+IsBoundTo es l _ = Unit {0}
+
+-- The lines of a record are those of what the first pass took, and their references are right in the last state, whose rows the record has. Its keywords
+-- have the expressions that were expanded in the first pass and in the second, and the references of these are right, each to the end of its expression.
 pub record RunIsRight (libs : List LibName) (own : LibName) (records : List LibRecord) (start : State) (at : TopAt) (exports : List (List ℕ × Tree)) (forms : List Tree) (r : LibRecord) : Type 0 where
   pub taken : Taken
   pub first : State
+  pub bound : List Expression
   pub exported : List (List ℕ × Label)
   pub between : State
   pub told : List Told
   pub last : State
   pub takes : top.first_pass (inside records 602) at forms start ≡ Ok (taken, first)
+  pub taking : Take records (top.body_at at start.library) 0 begun (map (stamp at.frame) forms) start taken first bound
   pub looks : top.exports at exports first ≡ Ok (exported, between)
   pub ends : Finish records 0 taken.waiting between told last
   pub run : lines told ≡ r.run
   pub frames : r.frames ≡ rows_in last.library last.frames
   pub right : Each (IsRightLine libs own last) told
+  pub expressions : Each (IsRightExpression libs own) (bound ++ of_lines told)
+  pub keywords : Each (λ (b : Label × Binding). IsBoundTo (bound ++ of_lines told) b.0 b.1) r.bindings
 
 -- So it is of the record of each library with a new name, behind records and codes of texts whose leaves have histories.
 abbrev pub RecordsAreHygienic : Type 0

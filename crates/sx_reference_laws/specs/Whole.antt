@@ -1,5 +1,5 @@
 -- The references of a whole expansion.
-use Rattle.std.specs.Prelude.{◌≡◌, ℕ, List, [], ◌∷◌, ◌++◌, Option, Some, Ok}
+use Rattle.std.specs.Prelude.{◌≡◌, ◌⊎◌, ℕ, List, Option, Some, Ok}
 use Rattle.sx_base.specs.declared.library.LibName.{LibName}
 use Rattle.sx_base.specs.declared.library.LibName.TheVariants as library
 use Rattle.sx_base.specs.declared.name.Label.{Label}
@@ -12,7 +12,8 @@ use Rattle.sx_scope.specs.Stands.{stands}
 use Rattle.sx_core.specs.Core.{PlainCore}
 use Rattle.sx_core.specs.References.{mentions}
 use Rattle.sx_core.specs.declared.record.LibRecord.{LibRecord}
-use Rattle.sx_standing.specs.State.{State}
+use Rattle.sx_stage.specs.Stage.{expression_of}
+use Rattle.sx_standing.specs.State.{State, stage_of}
 use Rattle.sx_hygiene_laws.specs.Binder.{Captures}
 use Rattle.sx_hygiene_laws.specs.Marked.{Among}
 use Rattle.sx_value.specs.Cells.{Each}
@@ -23,12 +24,8 @@ use Rattle.sx_fresh_expansion_laws.specs.Events.{HasKnownEvents}
 use Rattle.sx_fresh_expansion_laws.specs.Known.{IsKnown, IsNewAmong}
 use Rattle.sx_fresh_expansion_laws.specs.States.{RecordsHold, StateHolds}
 use Rattle.sx_reference_laws.specs.Captured.{IsHygienic}
-use Rattle.sx_reference_laws.specs.Expands.{Reference, Expands}
-
--- the labels of variables that these refer to or assign
-abbrev pub mentioned : List Reference → List Label
-mentioned [] = []
-mentioned (r ∷ rs) = mentions r.code ++ mentioned rs
+use Rattle.sx_reference_laws.specs.Expands.{Expands}
+use Rattle.sx_reference_laws.specs.Noted.{Reference, Expression, Noted, mentioned, IsExpression}
 
 -- A reference names what its identifier stood for when it was taken, and stands for in this later state: the label of the binder that captures the
 -- identifier, as its history allows.
@@ -46,14 +43,27 @@ pub record IsRight (libs : List LibName) (own : LibName) (u : State) (r : Refere
   pub binder : row.label ≡ r.label
   pub hygienic : IsHygienic u.frames row span symbol history.marks history.events
 
--- The core code of a form refers, place by place, to what the identifiers stand for that became these references.
-pub record Tells (libs : List LibName) (own : LibName) (c : PlainCore) (u : State) (refs : List Reference) : Type 0 where
-  pub all : mentions c ≡ mentioned refs
-  pub right : Each (IsRight libs own u) refs
+-- The code of a keyword's expression refers, place by place, to what the identifiers stood for that became these references, when they were taken and to
+-- the end of the expression.
+pub record IsRightExpression (libs : List LibName) (own : LibName) (e : Expression) : Type 0 where
+  pub all : mentions e.code ≡ mentioned e.references
+  pub right : Each (IsRight libs own e.state) e.references
+
+-- What is kept of keywords in a state was kept in the one before, or is one of these expressions.
+abbrev pub KeepsOnly : List Expression → State → State → Type 0
+KeepsOnly es s u = (l : Label) (c : PlainCore) → expression_of l (stage_of u) ≡ Some c → (expression_of l (stage_of s) ≡ Some c) ⊎ IsExpression es l c
+
+-- The core code of a form refers, place by place, to what the identifiers stand for that became these references. So do the expressions of the keywords
+-- that were bound in it, and these are all that came to be kept.
+pub record Tells (libs : List LibName) (own : LibName) (c : PlainCore) (s u : State) (x : Noted) : Type 0 where
+  pub all : mentions c ≡ mentioned x.references
+  pub right : Each (IsRight libs own u) x.references
+  pub expressions : Each (IsRightExpression libs own) x.expressions
+  pub kept : KeepsOnly x.expressions s u
 
 -- So it is of each form that the expansion of a new library comes to.
 abbrev pub FormsAreHygienic : Type 0
 FormsAreHygienic = (libs : List LibName) (own : LibName) (records : List LibRecord) (room : ℕ) (place : Span) (level depth : ℕ) (t : Tree) (s u : State) (c : PlainCore) → Among libs library.Core → IsNewAmong libs own
     → StateHolds own (IsKnown libs own) (HasKnownEvents libs own) s.names.number s → RecordsHold (HasKnownEvents libs own s.names.number) records → TreeHolds (HasKnownEvents libs own s.names.number) t
     → (inside records room).form place level depth t s ≡ Ok (c, u)
-    → (refs : List Reference) × (Expands records place level t s c u refs × Tells libs own c u refs)
+    → (x : Noted) × (Expands records place level t s c u x × Tells libs own c s u x)
