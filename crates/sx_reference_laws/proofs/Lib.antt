@@ -3,6 +3,7 @@ pub mod Referring
 pub mod Introducing
 pub mod Settling
 pub mod Staying
+pub mod Telling
 pub mod Walking
 pub mod Filling
 pub mod Performing
