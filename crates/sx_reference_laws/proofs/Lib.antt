@@ -2,6 +2,7 @@ pub mod Capturing
 pub mod Referring
 pub mod Introducing
 pub mod Settling
+pub mod SettlingItems
 pub mod Staying
 pub mod Telling
 pub mod Walking
