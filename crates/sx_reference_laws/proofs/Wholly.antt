@@ -21,11 +21,11 @@ use Rattle.sx_fresh_laws.specs.Leaves.{TreeHolds}
 use Rattle.sx_fresh_laws.proofs.Eachs.{each_mapped}
 use Rattle.sx_fresh_expansion_laws.specs.Events.{HasKnownEvents}
 use Rattle.sx_fresh_expansion_laws.specs.Known.{IsNewAmong}
-use Rattle.sx_reference_laws.specs.Expands.{Reference}
-use Rattle.sx_reference_laws.specs.Whole.{IsRight, FormsAreHygienic}
+use Rattle.sx_reference_laws.specs.Noted.{Reference, Expression}
+use Rattle.sx_reference_laws.specs.Whole.{IsRight, IsRightExpression, FormsAreHygienic}
 use Rattle.sx_reference_laws.proofs.Capturing.{captures-hygienic}
 use Rattle.sx_reference_laws.proofs.Performing.{all-traced}
-use Rattle.sx_reference_laws.proofs.Staying.{Kept}
+use Rattle.sx_reference_laws.proofs.Staying.{Kept, KeptExpression}
 use Rattle.sx_reference_laws.proofs.Walking.{FormMade}
 
 module _ (libs : List LibName) (own : LibName) (core : Among libs library.Core) (new : IsNewAmong libs own) where
@@ -64,7 +64,14 @@ module _ (libs : List LibName) (own : LibName) (core : Among libs library.Core) 
   pub all-right : (u : State) (refs : List Reference) → Each (Kept libs own core new u) refs → Each (IsRight libs own u) refs
   all-right u refs h = each_mapped (Kept libs own core new u) (IsRight libs own u) (right-so u) refs h
 
+  -- so are expressions of keywords
+  right-expression : (e : Expression) → KeptExpression libs own core new e → IsRightExpression libs own e
+  right-expression e h = record { all = h.0; right = all-right e.state e.references h.1 }
+
+  pub all-expressions : (es : List Expression) → Each (KeptExpression libs own core new) es → Each (IsRightExpression libs own) es
+  all-expressions es h = each_mapped (KeptExpression libs own core new) (IsRightExpression libs own) right-expression es h
+
 pub forms-hygienic : FormsAreHygienic
 forms-hygienic libs own records room place level depth t s u c core new holds held has e =
     let made = told (FormMade libs own core new records place level t s) ((inside records room).form place level depth t s) c u ((all-traced libs own core new records s.names.number held room).form place level depth t s holds has) e in
-    (made.refs, (made.is, record { all = made.all; right = all-right libs own core new u made.refs made.kept }))
+    (made.noted, (made.is, record { all = made.all; right = all-right libs own core new u made.noted.references made.kept; expressions = all-expressions libs own core new made.noted.expressions made.expressions; kept = made.told }))
