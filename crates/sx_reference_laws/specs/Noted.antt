@@ -7,6 +7,7 @@ use Rattle.sx_core.specs.References.{mentions}
 use Rattle.sx_core.specs.declared.record.Line.{Line}
 use Rattle.sx_core.specs.declared.record.Line.TheVariants as line
 use Rattle.sx_standing.specs.State.{State}
+use Rattle.sx_reference_laws.specs.Namings.{Naming, namings}
 
 -- An identifier that became a reference, or the target of an assignment: what it was, the state then, the label that it stood for, and the reference.
 pub record Reference : Type 0 where
@@ -79,6 +80,11 @@ of_body es xs = record { references = of_definitions xs ++ of_expressions xs; ex
 abbrev pub mentioned : List Reference → List Label
 mentioned [] = []
 mentioned (r ∷ rs) = mentions r.code ++ mentioned rs
+
+-- what these name
+abbrev pub named : List Reference → List Naming
+named [] = []
+named (r ∷ rs) = namings r.code ++ named rs
 
 -- the code is that of one of these expressions, which is the keyword's
 abbrev pub IsExpression : List Expression → Label → PlainCore → Type 0
