@@ -380,11 +380,11 @@ module _ (libs : List LibName) (own : LibName) (core : Among libs library.Core) 
       ActsMade at depth d t i s e u = staying.Bound libs own core new (λ es. Acts rs at depth d t i s e u es) s u
 
       keyword-item-made : (at : BodyAt) (depth : ℕ) (d : Taken) (t : Tree) (b : BindingSpec) (s : State) → F s → standing.SpecAt own K J P lives first s.names.number b
-          → Gave (λ e u. ActsMade at depth d t (of_items.Keyword b) s d u) (after (define_syntax go at (deeper depth) d t b s) (λ _. give d))
+          → Gave (ActsMade at depth d t (of_items.Keyword b) s) (after (define_syntax go at (deeper depth) d t b s) (λ _. give d))
       unfolding define_syntax
       keyword-item-made at depth d t b s h k =
           let made = define_keyword at d t b s in
-          let So : Taken → State → Type 0 = λ e u. ActsMade at depth d t (of_items.Keyword b) s d u in
+          let So : Taken → State → Type 0 = ActsMade at depth d t (of_items.Keyword b) s in
           gave-after (λ x u. ActsMade at depth d t (of_items.Keyword b) s d u) So (after made (keyword go at.place at.level (deeper depth))) (λ _. give d)
           (gave-after (λ x v. ((StateHolds own K P s.names.number v × standing.BoundHolds own K J P lives first v.names.number x) × (made ≡ Ok (x, v))) × Untold s x v) (λ x u. ActsMade at depth d t (of_items.Keyword b) s d u) made (keyword go at.place at.level (deeper depth))
           (gave-both (λ x v. (StateHolds own K P s.names.number v × standing.BoundHolds own K J P lives first v.names.number x) × (made ≡ Ok (x, v))) (Untold s) made
@@ -402,7 +402,7 @@ module _ (libs : List LibName) (own : LibName) (core : Among libs library.Core) 
           gave-less (walking.TakeMade libs own core new rs at (deeper depth) d fs s) (ActsMade at depth d t (of_items.Forms fs) s) (splice go at (deeper depth) d fs s)
           (walking.take-made libs own core new rs first held room traced at (deeper depth) d fs s h k y q)
           (λ e u x. staying.bound-from libs own core new (λ es. Take rs at (deeper depth) d fs s e u es) (λ es. Acts rs at depth d t (of_items.Forms fs) s e u es) s s u (told-self s) x (λ es i. takes_forms i))
-      acts-made at depth d t (of_items.Keyword b) s h k g y q = gave-after (λ e u. ActsMade at depth d t (of_items.Keyword b) s d u) (ActsMade at depth d t (of_items.Keyword b) s) _ _ (keyword-item-made at depth d t b s h y) (λ e u x. x)
+      acts-made at depth d t (of_items.Keyword b) s h k g y q = keyword-item-made at depth d t b s h y
       acts-made at depth d t (of_items.Keywords recursive bs fs) s h k g y q =
           let bound = with_keywords go at.place at.level (deeper depth) recursive bs fs s in
           let Keywords : List Tree → State → Type 0 = λ xs v. staying.Bound libs own core new (λ es. BindsKeywords rs at.place at.level recursive bs fs s xs v es) s v in

@@ -26,6 +26,7 @@ use Rattle.sx_shapes.specs.declared.shape.Shape.TheVariants as shapes
 use Rattle.sx_standing.specs.Binders.{put_row, bind_variable}
 use Rattle.sx_standing.specs.Patterns.{has_variables, first_outside, outside_fault, template_in, template_of, bind_pattern}
 use Rattle.sx_standing.specs.Standing.{standing_of}
+use Rattle.sx_template.specs.Compile as templates
 use Rattle.sx_standing.specs.State.{State, Does, fresh, fresh_frame, fault_form, fault_word}
 use Rattle.sx_standing.specs.Uses.{bind_keyword, asks_variable}
 use Rattle.sx_standing.specs.declared.binders.BoundSpec.{BoundSpec}
@@ -82,7 +83,8 @@ same-is-told s r h = gave-less (Same s) (Untold s) r h (λ a u e. told-same s u 
 -- Templates.
 
 template-same : (place : Span) (level : ℕ) (t : Tree) (s : State) → Gave (λ x u. u ≡ s) (template_of place level t s)
-template-same place level t s = by _
+unfolding template_of
+template-same place level t s = by (templates.compiled (record { frames = s.frames; bindings = s.bindings; level = level; place = place }) t)
   where
     by : (r : Result PlainTemplate Fault) → Gave (λ x u. u ≡ s) (template_in place t s r)
     by (Err f) = tt
@@ -157,7 +159,7 @@ module _ (rs : List LibRecord) (level : ℕ) where
 -- Forms of a body.
 
 module _ (at : BodyAt) (depth : ℕ) where
-  in-time : (done : Taken) (id : Tree) (l : Label) (s : State) → Gave (Untold s) (after (in_time at done id s) (λ taken. give (taken, l)))
+  in-time : (done : Taken) (id : Tree) (l : Label) (s : State) → Gave {A = Taken × Label} (Untold s) (after (in_time at done id s) (λ taken. give (taken, l)))
   unfolding in_time
   in-time done id l s = by (any_changed false s (heads_like done id))
     where

@@ -333,14 +333,14 @@ module _ (libs : List LibName) (own : LibName) (core : Among libs library.Core) 
               expressions = h.noted.expressions ++ e ∷ [];
               is = means h.is q.1;
               kept = each_both (staying.KeptExpression libs own core new) h.noted.expressions (e ∷ []) h.expressions ((h.all, h.kept), tt);
-              told = staying.only-joined libs own core new h.noted.expressions (e ∷ []) s w u (λ l d k. h.told l d k) (λ l d k. last l d (q.0 l d k));
+              told = staying.only-joined libs own core new h.noted.expressions (e ∷ []) s w u (λ l d k. h.told l d k) (λ l d k. last w.keywords h.noted.references l d (q.0 l d k));
             })
           where
-            last : {ks : List (Label × Keyword)} {refs : List Reference} (l : Label) (d : PlainCore) → Known ks l d ⊎ ((l ≡ b.label) × (d ≡ c)) → Known ks l d ⊎ IsExpression (record { keyword = b.label; code = c; references = refs; state = v } ∷ []) l d
-            last l d (inl k) = inl k
-            last l d (inr k) = inr (inl k)
+            last : (ks : List (Label × Keyword)) (refs : List Reference) (l : Label) (d : PlainCore) → Known ks l d ⊎ ((l ≡ b.label) × (d ≡ c)) → Known ks l d ⊎ IsExpression (record { keyword = b.label; code = c; references = refs; state = v } ∷ []) l d
+            last ks refs l d (inl k) = inl k
+            last ks refs l d (inr k) = inr (inl k)
 
-        means-made : (place : Span) (level depth : ℕ) (b : BoundSpec) (s : State) → F s → T s.names.number b.init → Gave (λ x u. MeansMade place level b s u) (keywords.keyword go place level depth b s)
+        pub means-made : (place : Span) (level depth : ℕ) (b : BoundSpec) (s : State) → F s → T s.names.number b.init → Gave (λ x u. MeansMade place level b s u) (keywords.keyword go place level depth b s)
         unfolding keywords.keyword
         means-made place level depth b s h k =
             let z : State = record s { scope = [] } in
