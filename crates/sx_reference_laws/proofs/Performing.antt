@@ -76,7 +76,7 @@ use Rattle.sx_reference_laws.proofs.Telling.{Untold, told-self, told-same, settl
 use Rattle.sx_reference_laws.proofs.Walking as walking
 
 -- only leaves stand for something
-leaf-stands : (t : Tree) (s : State) (l : Label) → stands s.frames t ≡ Some l → is_leaf t ≡ true
+pub leaf-stands : (t : Tree) (s : State) (l : Label) → stands s.frames t ≡ Some l → is_leaf t ≡ true
 leaf-stands (atom r a) s l e = absurd (cc)
 leaf-stands (leaf r x c) s l e = refl
 leaf-stands (pair r a d) s l e = absurd (cc)

@@ -27,21 +27,24 @@ use Rattle.sx_reference_laws.specs.Captured.{IsHygienic}
 use Rattle.sx_reference_laws.specs.Expands.{Expands}
 use Rattle.sx_reference_laws.specs.Noted.{Reference, Expression, Noted, mentioned, IsExpression}
 
--- A reference names what its identifier stood for when it was taken, and stands for in this later state: the label of the binder that captures the
--- identifier, as its history allows.
-pub record IsRight (libs : List LibName) (own : LibName) (u : State) (r : Reference) : Type 0 where
+-- An identifier stands for the label of the binder that captures it, as its history allows, which it had before this name was taken.
+pub record IsCaptured (libs : List LibName) (own : LibName) (n : ℕ) (u : State) (t : Tree) (l : Label) : Type 0 where
   pub span : Option Span
   pub symbol : List ℕ
   pub context : LeafContext
-  pub leaf : r.leaf ≡ tree.leaf span symbol context
-  pub history : HasKnownEvents libs own r.state.names.number context
+  pub leaf : t ≡ tree.leaf span symbol context
+  pub history : HasKnownEvents libs own n context
+  pub now : stands u.frames t ≡ Some l
+  pub row : Row
+  pub captures : Captures u.frames row t
+  pub binder : row.label ≡ l
+  pub hygienic : IsHygienic u.frames row span symbol history.marks history.events
+
+-- A reference names what its identifier stood for when it was taken, and stands for in this later state.
+pub record IsRight (libs : List LibName) (own : LibName) (u : State) (r : Reference) : Type 0 where
   pub code : RefersTo r.state (Some r.label) r.code
   pub stood : stands r.state.frames r.leaf ≡ Some r.label
-  pub now : stands u.frames r.leaf ≡ Some r.label
-  pub row : Row
-  pub captures : Captures u.frames row r.leaf
-  pub binder : row.label ≡ r.label
-  pub hygienic : IsHygienic u.frames row span symbol history.marks history.events
+  pub captured : IsCaptured libs own r.state.names.number u r.leaf r.label
 
 -- The code of a keyword's expression refers, place by place, to what the identifiers stood for that became these references, when they were taken and to
 -- the end of the expression.

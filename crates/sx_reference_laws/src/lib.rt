@@ -24,7 +24,8 @@
 //!   (two))
 //! ```
 //!
-//! `specs/Records` says so of the record of a library, whose keywords have the expressions that were expanded so.
+//! `specs/Records` says so of the record of a library, whose keywords have the expressions that were expanded so, and whose exports
+//! are what the identifiers of their clauses stand for.
 //!
 //! Below it stand the laws of one identifier. Each that an expansion comes to has a history, by the laws of
 //! `sx_fresh_expansion_laws`: it was read or made as a temporary, and then uses introduced it, none of them twice, and frames
