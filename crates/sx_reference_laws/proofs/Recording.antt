@@ -56,9 +56,13 @@ use Rattle.sx_fresh_expansion_laws.proofs.Forms as forms
 use Rattle.sx_fresh_expansion_laws.proofs.Items as items
 use Rattle.sx_fresh_expansion_laws.proofs.Recorded.{exports-hold, events-stay}
 use Rattle.sx_fresh_expansion_laws.proofs.Standing as standing
-use Rattle.sx_reference_laws.specs.Noted.{Expression, Told, of_lines, IsExpression}
-use Rattle.sx_reference_laws.specs.Records.{IsRightLine, IsBoundTo, IsRightExport, AreRightExports, RunIsRight, RecordsAreHygienic}
+use Rattle.sx_core.specs.declared.record.Line.{Line}
+use Rattle.sx_core.specs.declared.record.Line.TheVariants as line
+use Rattle.sx_reference_laws.specs.Namings.{Naming}
+use Rattle.sx_reference_laws.specs.Noted.{Reference, Expression, Told, of_lines, mentioned, named, IsExpression}
+use Rattle.sx_reference_laws.specs.Records.{line_mentions, line_namings, IsRightLine, IsBoundTo, IsRightExport, AreRightExports, RunIsRight, RecordsAreHygienic}
 use Rattle.sx_reference_laws.specs.Whole.{KeepsOnly}
+use Rattle.sx_reference_laws.proofs.Naming.{mentions-named}
 use Rattle.sx_reference_laws.proofs.Performing.{leaf-stands, all-traced}
 use Rattle.sx_reference_laws.proofs.Staying as staying
 use Rattle.sx_reference_laws.proofs.Telling.{Untold, told-self, told-then, then-told}
@@ -84,6 +88,15 @@ read-unmarked fs (leaf p x c) f r h is = by (by_a_stamp fs x (stamps_of (stamp f
         none t (inr a) = absurd a
 read-unmarked fs (pair p a d) f r h is = absurd (cc)
 read-unmarked fs (vector p d) f r h is = absurd (cc)
+
+-- what a line names
+line-named : (l : Line) (ns : List Naming) → walking.line-said l ≡ ns → line_namings l ≡ ns
+line-named (line.Define l c) ns e = e
+line-named (line.Expr c) ns e = e
+
+line-mentioned : (l : Line) (refs : List Reference) → walking.line-said l ≡ named refs → line_mentions l ≡ mentioned refs
+line-mentioned (line.Define l c) refs e = mentions-named c refs e
+line-mentioned (line.Expr c) refs e = mentions-named c refs e
 
 -- no expression of a keyword is kept
 abbrev KeepsNone : State → Type 0
@@ -152,7 +165,7 @@ module _ (libs : List LibName) (own : LibName) (core : Among libs library.Core) 
   lives = staying.lives libs own core new
 
   line-right : (u : State) (x : Told) → walking.TellsLine libs own core new u x → IsRightLine libs own u x
-  line-right u x h = (h.0, all-right libs own core new u x.noted.references h.1)
+  line-right u x h = record { all = line-named x.line (named x.noted.references) h.0; mentions = line-mentioned x.line x.noted.references h.0; right = all-right libs own core new u x.noted.references h.1 }
 
   abbrev KeptExpression : Expression → Type 0
   KeptExpression e = staying.KeptExpression libs own core new e

@@ -12,7 +12,6 @@ use Rattle.sx_tree.specs.Tree.{Tree, atom, leaf, pair, vector}
 use Rattle.sx_tree.specs.declared.stamp.Stamp.{Stamp}
 use Rattle.sx_scope.specs.Stands.{stands}
 use Rattle.sx_core.specs.Core.{PlainCore}
-use Rattle.sx_core.specs.References.{mentions}
 use Rattle.sx_core.specs.declared.record.LibRecord.{LibRecord}
 use Rattle.sx_shapes.specs.Lists.{is_leaf}
 use Rattle.sx_standing.specs.InScope.{cut}
@@ -40,12 +39,10 @@ use Rattle.sx_fresh_expansion_laws.proofs.Having.{history-marks}
 use Rattle.sx_fresh_expansion_laws.proofs.Making.{are-made}
 use Rattle.sx_fresh_expansion_laws.proofs.Once.{as-history, lives-once}
 use Rattle.sx_fresh_expansion_laws.proofs.Standing as standing
-use Rattle.sx_reference_laws.specs.Noted.{Reference, Expression, Noted, nothing, of_keywords, both, mentioned, IsExpression}
-use Rattle.sx_reference_laws.specs.Whole.{KeepsOnly}
-
-pub mentioned-joined : (xs ys : List Reference) → mentioned (xs ++ ys) ≡ mentioned xs ++ mentioned ys
-mentioned-joined [] ys = refl
-mentioned-joined (x ∷ xs) ys = ap (λ ls. mentions x.code ++ ls) (mentioned-joined xs ys) ∙ sym (append_assoc (mentions x.code) (mentioned xs) (mentioned ys))
+use Rattle.sx_reference_laws.specs.Noted.{Reference, Expression, Noted, nothing, of_keywords, both, named, IsExpression}
+use Rattle.sx_reference_laws.specs.Namings.{Naming, namings}
+use Rattle.sx_reference_laws.specs.Whole.{IsOnlyVariable, KeepsOnly}
+use Rattle.sx_reference_laws.proofs.Templating.{named-joined}
 
 -- known identifiers have stamps of frames that were made
 module _ (own : LibName) (s : State) where
@@ -101,7 +98,7 @@ module _ (libs : List LibName) (own : LibName) (core : Among libs library.Core) 
   pub record Kept (u : State) (r : Reference) : Type 0 where
     pub leafy : is_leaf r.leaf ≡ true
     pub known : T r.state.names.number r.leaf
-    pub code : RefersTo r.state (Some r.label) r.code
+    pub code : RefersTo r.state (Some r.label) r.code ⊎ IsOnlyVariable r.state r.label r.code
     pub stood : stands r.state.frames r.leaf ≡ Some r.label
     pub before : r.state.names.number ≤ u.names.number
     pub now : stands u.frames r.leaf ≡ Some r.label
@@ -127,25 +124,25 @@ module _ (libs : List LibName) (own : LibName) (core : Among libs library.Core) 
 
   -- an expression of a keyword, whose references name what their identifiers stood for to its end
   abbrev pub KeptExpression : Expression → Type 0
-  KeptExpression e = (mentions e.code ≡ mentioned e.references) × Each (Kept e.state) e.references
+  KeptExpression e = (namings e.code ≡ named e.references) × Each (Kept e.state) e.references
 
   -- What comes of a form, with what is noted of it that is related to it so, and whose references name these labels.
-  pub record Made (R : Noted → Type 0) (m : List Label) (s u : State) : Type 0 where
+  pub record Made (R : Noted → Type 0) (m : List Naming) (s u : State) : Type 0 where
     pub noted : Noted
     pub is : R noted
-    pub all : m ≡ mentioned noted.references
+    pub all : m ≡ named noted.references
     pub kept : Each (Kept u) noted.references
     pub expressions : Each KeptExpression noted.expressions
     pub told : KeepsOnly noted.expressions s u
 
-  pub made-none : (R : Noted → Type 0) (m : List Label) (s u : State) → R nothing → m ≡ [] → Tells s.keywords u.keywords → Made R m s u
+  pub made-none : (R : Noted → Type 0) (m : List Naming) (s u : State) → R nothing → m ≡ [] → Tells s.keywords u.keywords → Made R m s u
   made-none R m s u h e k = record { noted = nothing; is = h; all = e; kept = tt; expressions = tt; told = λ l c x. inl (k l c x) }
 
-  pub made-so : (R V : Noted → Type 0) (m n : List Label) (s u : State) → Made R m s u → ((x : Noted) → R x → V x) → n ≡ m → Made V n s u
+  pub made-so : (R V : Noted → Type 0) (m n : List Naming) (s u : State) → Made R m s u → ((x : Noted) → R x → V x) → n ≡ m → Made V n s u
   made-so R V m n s u h f e = record { noted = h.noted; is = f h.noted h.is; all = e ∙ h.all; kept = h.kept; expressions = h.expressions; told = h.told }
 
   -- from an earlier state, and to a later one
-  pub made-from : (R V : Noted → Type 0) (m n : List Label) (s v u : State) → Tells s.keywords v.keywords → Made R m v u → ((x : Noted) → R x → V x) → n ≡ m → Made V n s u
+  pub made-from : (R V : Noted → Type 0) (m n : List Naming) (s v u : State) → Tells s.keywords v.keywords → Made R m v u → ((x : Noted) → R x → V x) → n ≡ m → Made V n s u
   made-from R V m n s v u k h f e = record {
     noted = h.noted;
     is = f h.noted h.is;
@@ -159,7 +156,7 @@ module _ (libs : List LibName) (own : LibName) (core : Among libs library.Core) 
       by l c (inl x) = inl (k l c x)
       by l c (inr x) = inr x
 
-  pub made-later : (R : Noted → Type 0) (m : List Label) (s v u : State) → Later own v u → Tells v.keywords u.keywords → Made R m s v → Made R m s u
+  pub made-later : (R : Noted → Type 0) (m : List Naming) (s v u : State) → Later own v u → Tells v.keywords u.keywords → Made R m s v → Made R m s u
   made-later R m s v u l k h = record { noted = h.noted; is = h.is; all = h.all; kept = all-later v u l h.noted.references h.kept; expressions = h.expressions; told = λ x c e. h.told x c (k x c e) }
 
   -- expressions that come to be kept, and others behind them
@@ -184,17 +181,17 @@ module _ (libs : List LibName) (own : LibName) (core : Among libs library.Core) 
       by l c (inr a) = inr (last es l c a)
 
   -- what came before, and what came after it
-  pub made-joined : (R Q V : Noted → Type 0) (m n : List Label) (s v u : State) → Later own v u → Made R m s v → Made Q n v u → ((x y : Noted) → R x → Q y → V (both x y)) → Made V (m ++ n) s u
+  pub made-joined : (R Q V : Noted → Type 0) (m n : List Naming) (s v u : State) → Later own v u → Made R m s v → Made Q n v u → ((x y : Noted) → R x → Q y → V (both x y)) → Made V (m ++ n) s u
   made-joined R Q V m n s v u l a b f = record {
     noted = both a.noted b.noted;
     is = f a.noted b.noted a.is b.is;
-    all = (λ i. a.all i ++ b.all i) ∙ sym (mentioned-joined a.noted.references b.noted.references);
+    all = (λ i. a.all i ++ b.all i) ∙ sym (named-joined a.noted.references b.noted.references);
     kept = each_both (Kept u) a.noted.references b.noted.references (all-later v u l a.noted.references a.kept) b.kept;
     expressions = each_both KeptExpression a.noted.expressions b.noted.expressions a.expressions b.expressions;
     told = only-joined a.noted.expressions b.noted.expressions s v u a.told b.told;
   }
 
-  pub made-cut : (R V : Noted → Type 0) (m : List Label) (n : ℕ) (s u : State) → Made R m s u → ((x : Noted) → R x → V x) → Made V m s (cut n u)
+  pub made-cut : (R V : Noted → Type 0) (m : List Naming) (n : ℕ) (s u : State) → Made R m s u → ((x : Noted) → R x → V x) → Made V m s (cut n u)
   made-cut R V m n s u h f = record { noted = h.noted; is = f h.noted h.is; all = h.all; kept = all-cut n u h.noted.references h.kept; expressions = h.expressions; told = h.told }
 
   -- What comes of keywords, whose expressions are related to them so.
@@ -223,7 +220,7 @@ module _ (libs : List LibName) (own : LibName) (core : Among libs library.Core) 
   }
 
   -- keywords, and what comes of forms behind them
-  pub bound-made : (R : List Expression → Type 0) (Q V : Noted → Type 0) (m n : List Label) (s v u : State) → Bound R s v → Made Q m v u → ((es : List Expression) (x : Noted) → R es → Q x → V (both (of_keywords es) x)) → n ≡ m → Made V n s u
+  pub bound-made : (R : List Expression → Type 0) (Q V : Noted → Type 0) (m n : List Naming) (s v u : State) → Bound R s v → Made Q m v u → ((es : List Expression) (x : Noted) → R es → Q x → V (both (of_keywords es) x)) → n ≡ m → Made V n s u
   bound-made R Q V m n s v u a b f e = record {
     noted = both (of_keywords a.expressions) b.noted;
     is = f a.expressions b.noted a.is b.is;

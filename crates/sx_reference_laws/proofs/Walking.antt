@@ -14,7 +14,6 @@ use Rattle.sx_tree.specs.Context.{LeafContext}
 use Rattle.sx_tree.specs.Tree.{Tree}
 use Rattle.sx_core.specs.Core.{PlainCore, procedure, letrec, cores}
 use Rattle.sx_core.specs.CoreView.{inits, cases, clauses, clause_on}
-use Rattle.sx_core.specs.References.{mentions, all_mentions, init_mentions, case_mentions, clause_mentions}
 use Rattle.sx_core.specs.declared.code.Clause.{Clause}
 use Rattle.sx_core.specs.declared.code.Init.{Init}
 use Rattle.sx_core.specs.declared.code.Lambda.{Lambda}
@@ -71,42 +70,43 @@ use Rattle.sx_fresh_expansion_laws.proofs.Standing as standing
 use Rattle.sx_reference_laws.specs.Expands.{counted, Expands, Performs, binds_all, Expand, none, more, Binds, binds_formals, Bind, no_case, case, Starts, starts_with, Start, no_init, init}
 use Rattle.sx_reference_laws.specs.Expands.{Matches, matches_pattern, Match, no_clause, clause, Asks, asks_nothing, asks_first, IsBody, is_body, Finish, no_line, next_line, Ends, declares, defines, defines_procedure, is_expression}
 use Rattle.sx_reference_laws.specs.Expands.{Means, means, Mean, no_keyword, keyword, BindsKeywords, binds_keywords, Takes, Take, none_taken, more_taken}
-use Rattle.sx_reference_laws.specs.Noted.{Reference, Expression, Noted, nothing, both, Told, lines, if_definition, if_expression, of_definitions, of_expressions, of_lines, of_body, mentioned, IsExpression}
+use Rattle.sx_reference_laws.specs.Noted.{Reference, Expression, Noted, nothing, both, Told, lines, if_definition, if_expression, of_definitions, of_expressions, of_lines, of_body, named, IsExpression}
+use Rattle.sx_reference_laws.specs.Namings.{Naming, namings, all_namings, init_namings, case_namings, clause_namings}
 use Rattle.sx_reference_laws.specs.Whole.{KeepsOnly}
 use Rattle.sx_reference_laws.proofs.Staying as staying
-use Rattle.sx_reference_laws.proofs.Staying.{mentioned-joined}
+use Rattle.sx_reference_laws.proofs.Templating.{named-joined}
 use Rattle.sx_reference_laws.proofs.Telling.{told-self, told-same, told-then}
 
 -- What parts mention.
 
-abbrev fender-mentions : Option PlainCore → List Label
-fender-mentions None = []
-fender-mentions (Some c) = mentions c
+abbrev fender-namings : Option PlainCore → List Naming
+fender-namings None = []
+fender-namings (Some c) = namings c
 
-abbrev clause-said : Clause → List Label
-clause-said c = fender-mentions c.fender ++ mentions c.output
+abbrev clause-said : Clause → List Naming
+clause-said c = fender-namings c.fender ++ namings c.output
 
-clauses-said : (c : Clause) (cs : List Clause) → clause_mentions (clauses (c ∷ cs)) ≡ clause-said c ++ clause_mentions (clauses cs)
+clauses-said : (c : Clause) (cs : List Clause) → clause_namings (clauses (c ∷ cs)) ≡ clause-said c ++ clause_namings (clauses cs)
 clauses-said c cs = by c.fender
   where
-    by : (o : Option PlainCore) → clause_mentions (clause_on c.pattern o c.output (clauses cs)) ≡ (fender-mentions o ++ mentions c.output) ++ clause_mentions (clauses cs)
+    by : (o : Option PlainCore) → clause_namings (clause_on c.pattern o c.output (clauses cs)) ≡ (fender-namings o ++ namings c.output) ++ clause_namings (clauses cs)
     by None = refl
-    by (Some f) = sym (append_assoc (mentions f) (mentions c.output) (clause_mentions (clauses cs)))
+    by (Some f) = sym (append_assoc (namings f) (namings c.output) (clause_namings (clauses cs)))
 
-sequence-said : (cs : List PlainCore) → mentions (sequence_of cs) ≡ all_mentions (cores cs)
+sequence-said : (cs : List PlainCore) → namings (sequence_of cs) ≡ all_namings (cores cs)
 sequence-said [] = refl
-sequence-said (c ∷ []) = sym (append-nil (mentions c))
+sequence-said (c ∷ []) = sym (append-nil (namings c))
 sequence-said (c ∷ (d ∷ cs)) = refl
 
-abbrev pub line-said : Line → List Label
-line-said (line.Define l c) = mentions c
-line-said (line.Expr c) = mentions c
+abbrev pub line-said : Line → List Naming
+line-said (line.Define l c) = namings c
+line-said (line.Expr c) = namings c
 
 -- what bindings and patterns keep of keywords
 told-by : {A : Type 0} (s v : State) (r : Result (A × State) Fault) (x : A) → Gave (Same s) r → r ≡ Ok (x, v) → Tells s.keywords v.keywords
 told-by s v r x h e = told-same s v (told (Same s) r x v h e)
 
-with-inits-said : (is : List Init) (c : PlainCore) → mentions (with_inits is c) ≡ init_mentions (inits is) ++ mentions c
+with-inits-said : (is : List Init) (c : PlainCore) → namings (with_inits is c) ≡ init_namings (inits is) ++ namings c
 with-inits-said [] c = refl
 with-inits-said (i ∷ is) c = refl
 
@@ -135,7 +135,7 @@ module _ (libs : List LibName) (own : LibName) (core : Among libs library.Core) 
   abbrev Went : State → State → Type 0
   Went s u = staying.Went libs own core new s u
 
-  abbrev Made : (Noted → Type 0) → List Label → State → State → Type 0
+  abbrev Made : (Noted → Type 0) → List Naming → State → State → Type 0
   Made R m s u = staying.Made libs own core new R m s u
 
   abbrev Bound : (List Expression → Type 0) → State → State → Type 0
@@ -143,25 +143,25 @@ module _ (libs : List LibName) (own : LibName) (core : Among libs library.Core) 
 
   -- a line, and its references
   abbrev pub TellsLine : State → Told → Type 0
-  TellsLine u x = (line-said x.line ≡ mentioned x.noted.references) × Each (Kept u) x.noted.references
+  TellsLine u x = (line-said x.line ≡ named x.noted.references) × Each (Kept u) x.noted.references
 
   module _ (rs : List LibRecord) where
     -- What is told of what forms come to.
 
     abbrev pub FormMade : Span → ℕ → Tree → State → PlainCore → State → Type 0
-    FormMade place level t s c u = Made (λ refs. Expands rs place level t s c u refs) (mentions c) s u
+    FormMade place level t s c u = Made (λ refs. Expands rs place level t s c u refs) (namings c) s u
 
     abbrev pub FormsMade : Span → ℕ → List Tree → State → List PlainCore → State → Type 0
-    FormsMade place level ts s cs u = Made (λ refs. Expand rs place level ts s cs u refs) (all_mentions (cores cs)) s u
+    FormsMade place level ts s cs u = Made (λ refs. Expand rs place level ts s cs u refs) (all_namings (cores cs)) s u
 
     abbrev pub CaseMade : Span → ℕ → Tree → FormalIds → List Tree → State → Lambda → State → Type 0
-    CaseMade place level t ids forms s c u = Made (λ refs. Binds rs place level t ids forms s c u refs) (mentions c.body) s u
+    CaseMade place level t ids forms s c u = Made (λ refs. Binds rs place level t ids forms s c u refs) (namings c.body) s u
 
     abbrev pub BodyMade : Span → ℕ → Tree → List Tree → State → PlainCore → State → Type 0
-    BodyMade place level t forms s c u = Made (λ refs. IsBody rs place level t forms s c u refs) (mentions c) s u
+    BodyMade place level t forms s c u = Made (λ refs. IsBody rs place level t forms s c u refs) (namings c) s u
 
     abbrev InitMade : Span → ℕ → FrameNo → BoundSpec → State → Init → State → Type 0
-    InitMade place level f b s i u = Made (λ refs. Starts rs place level f b s i u refs) (mentions i.value) s u
+    InitMade place level f b s i u = Made (λ refs. Starts rs place level f b s i u refs) (namings i.value) s u
 
     abbrev ClauseMade : Span → ℕ → List Tree → PatternCase → State → Clause → State → Type 0
     ClauseMade place level literals x s c u = Made (λ refs. Matches rs place level literals x s c u refs) (clause-said c) s u
@@ -176,7 +176,7 @@ module _ (libs : List LibName) (own : LibName) (core : Among libs library.Core) 
       pub kept : KeepsOnly (of_lines told) s u
 
     abbrev pub PlanMade : Span → ℕ → Tree → Plan → State → PlainCore → State → Type 0
-    PlanMade place level t p s c u = Made (λ refs. Performs rs place level t p s c u refs) (mentions c) s u
+    PlanMade place level t p s c u = Made (λ refs. Performs rs place level t p s c u refs) (namings c) s u
 
     -- of the first pass over a form, and over forms
     abbrev pub TakesMade : BodyAt → ℕ → Taken → Tree → State → Taken → State → Type 0
@@ -235,7 +235,7 @@ module _ (libs : List LibName) (own : LibName) (core : Among libs library.Core) 
 
         -- Lists: what one comes to, and what the others come to after it.
 
-        module _ {X A : Type 0} (step : X → Does A) (Known : ℕ → X → Type 0) (up : (m n : ℕ) → m ≤ n → (x : X) → Known m x → Known n x) (One : X → State → A → State → Noted → Type 0) (All : List X → State → List A → State → Noted → Type 0) (m : A → List Label) (ms : List A → List Label) (empty-is : (s : State) → All [] s [] s nothing) (another : (x : X) (xs : List X) (s v u : State) (a : A) (made : List A) (refs others : Noted) → One x s a v refs → All xs v made u others → All (x ∷ xs) s (a ∷ made) u (both refs others)) (empty : ms [] ≡ []) (apart : (a : A) (made : List A) → ms (a ∷ made) ≡ m a ++ ms made) (one : (x : X) (s : State) → F s → Known s.names.number x → Gave (λ a u. Went s u × Made (One x s a u) (m a) s u) (step x s)) where
+        module _ {X A : Type 0} (step : X → Does A) (Known : ℕ → X → Type 0) (up : (m n : ℕ) → m ≤ n → (x : X) → Known m x → Known n x) (One : X → State → A → State → Noted → Type 0) (All : List X → State → List A → State → Noted → Type 0) (m : A → List Naming) (ms : List A → List Naming) (empty-is : (s : State) → All [] s [] s nothing) (another : (x : X) (xs : List X) (s v u : State) (a : A) (made : List A) (refs others : Noted) → One x s a v refs → All xs v made u others → All (x ∷ xs) s (a ∷ made) u (both refs others)) (empty : ms [] ≡ []) (apart : (a : A) (made : List A) → ms (a ∷ made) ≡ m a ++ ms made) (one : (x : X) (s : State) → F s → Known s.names.number x → Gave (λ a u. Went s u × Made (One x s a u) (m a) s u) (step x s)) where
           abbrev AllMade : List X → State → List A → State → Type 0
           AllMade xs s made u = Went s u × Made (All xs s made u) (ms made) s u
 
@@ -257,7 +257,7 @@ module _ (libs : List LibName) (own : LibName) (core : Among libs library.Core) 
 
         pub order-went : (place : Span) (level depth : ℕ) (ts : List Tree) (s : State) → F s → Ts s.names.number ts → Gave (Goes (FormsMade place level ts s) s) (in_order go place level depth ts s)
         order-went place level depth ts s h k =
-            each-went (go.form place level depth) T tree-up (λ t s c u refs. Expands rs place level t s c u refs) (λ ts s cs u refs. Expand rs place level ts s cs u refs) mentions (λ cs. all_mentions (cores cs))
+            each-went (go.form place level depth) T tree-up (λ t s c u refs. Expands rs place level t s c u refs) (λ ts s cs u refs. Expand rs place level ts s cs u refs) namings (λ cs. all_namings (cores cs))
             (λ s. none) (λ t ts s v u c cs refs others i j. more i j) refl (λ c cs. refl) (λ t s h k. form-went place level depth t s h k) ts s h k
 
         -- Lines of a body.
@@ -273,7 +273,7 @@ module _ (libs : List LibName) (own : LibName) (core : Among libs library.Core) 
             staying.made-none libs own core new (λ refs. Ends rs level (record { place = place; depth = depth; what = waits.Variable l None }) s (record { line = line.Define l no_value; noted = refs }) s) [] s s declares refl (told-self s)
         value-made place level depth l (Some t) s h k =
             gave-less (FormMade place level t s) (ValueMade place level depth l (Some t) s) (go.form place level (deeper depth) t s) (traced.form place level (deeper depth) t s h k)
-            (λ c u z. staying.made-so libs own core new (λ refs. Expands rs place level t s c u refs) (λ refs. Ends rs level (record { place = place; depth = depth; what = waits.Variable l (Some t) }) s (record { line = line.Define l c; noted = refs }) u) (mentions c) (mentions c) s u z (λ refs i. defines i) refl)
+            (λ c u z. staying.made-so libs own core new (λ refs. Expands rs place level t s c u refs) (λ refs. Ends rs level (record { place = place; depth = depth; what = waits.Variable l (Some t) }) s (record { line = line.Define l c; noted = refs }) u) (namings c) (namings c) s u z (λ refs i. defines i) refl)
 
         line-made : (level : ℕ) (place : Span) (depth : ℕ) (w : Waits) (s : State) → F s → WaitsHold (P s.names.number) w → Gave (LineMade level (record { place = place; depth = depth; what = w }) s) (finish_as go level place depth w s)
         unfolding finish_as fresh
@@ -284,10 +284,10 @@ module _ (libs : List LibName) (own : LibName) (core : Among libs library.Core) 
             (λ c u z.
             let code = procedure (record { 0 = s.names }) (cases (c ∷ [])) true in
             staying.made-from libs own core new (λ refs. Binds rs place level t ids fs (counted s) c u refs) (λ refs. Ends rs level (record { place = place; depth = depth; what = waits.Procedure l t ids fs }) s (record { line = line.Define l code; noted = refs }) u)
-            (mentions c.body) (mentions code) s (counted s) u (told-self s) z (λ refs i. defines_procedure i) (append-nil (mentions c.body)))
+            (namings c.body) (namings code) s (counted s) u (told-self s) z (λ refs i. defines_procedure i) (append-nil (namings c.body)))
         line-made level place depth (waits.Expression t) s h k =
             gave-after (FormMade place level t s) (LineMade level (record { place = place; depth = depth; what = waits.Expression t }) s) (go.form place level depth t s) (λ c. give (line.Expr c)) (traced.form place level depth t s h k)
-            (λ c u z. staying.made-so libs own core new (λ refs. Expands rs place level t s c u refs) (λ refs. Ends rs level (record { place = place; depth = depth; what = waits.Expression t }) s (record { line = line.Expr c; noted = refs }) u) (mentions c) (mentions c) s u z (λ refs i. is_expression i) refl)
+            (λ c u z. staying.made-so libs own core new (λ refs. Expands rs place level t s c u refs) (λ refs. Ends rs level (record { place = place; depth = depth; what = waits.Expression t }) s (record { line = line.Expr c; noted = refs }) u) (namings c) (namings c) s u z (λ refs i. is_expression i) refl)
 
         pub line-went : (level : ℕ) (w : Waiting) (s : State) → F s → WaitsHold (P s.names.number) w.what → Gave (Goes (LineMade level w s) s) (finish_one go level w s)
         line-went level w s h k =
@@ -411,27 +411,27 @@ module _ (libs : List LibName) (own : LibName) (core : Among libs library.Core) 
 
         -- Bodies.
 
-        definitions-said : (xs : List Told) (u : State) → Each (TellsLine u) xs → init_mentions (inits (inits_in (lines xs))) ≡ mentioned (of_definitions xs)
+        definitions-said : (xs : List Told) (u : State) → Each (TellsLine u) xs → init_namings (inits (inits_in (lines xs))) ≡ named (of_definitions xs)
         definitions-said [] u h = refl
-        definitions-said (x ∷ xs) u h = by x.line h.0.0 (definitions-said xs u h.1) ∙ sym (mentioned-joined (if_definition x.line x.noted.references) (of_definitions xs))
+        definitions-said (x ∷ xs) u h = by x.line h.0.0 (definitions-said xs u h.1) ∙ sym (named-joined (if_definition x.line x.noted.references) (of_definitions xs))
           where
-            by : (l : Line) → line-said l ≡ mentioned x.noted.references → init_mentions (inits (inits_in (lines xs))) ≡ mentioned (of_definitions xs) → init_mentions (inits (inits_in (l ∷ lines xs))) ≡ mentioned (if_definition l x.noted.references) ++ mentioned (of_definitions xs)
+            by : (l : Line) → line-said l ≡ named x.noted.references → init_namings (inits (inits_in (lines xs))) ≡ named (of_definitions xs) → init_namings (inits (inits_in (l ∷ lines xs))) ≡ named (if_definition l x.noted.references) ++ named (of_definitions xs)
             by (line.Define l c) e others = λ i. e i ++ others i
             by (line.Expr c) e others = others
 
-        expressions-said : (xs : List Told) (u : State) → Each (TellsLine u) xs → all_mentions (cores (values_in (lines xs))) ≡ mentioned (of_expressions xs)
+        expressions-said : (xs : List Told) (u : State) → Each (TellsLine u) xs → all_namings (cores (values_in (lines xs))) ≡ named (of_expressions xs)
         expressions-said [] u h = refl
-        expressions-said (x ∷ xs) u h = by x.line h.0.0 (expressions-said xs u h.1) ∙ sym (mentioned-joined (if_expression x.line x.noted.references) (of_expressions xs))
+        expressions-said (x ∷ xs) u h = by x.line h.0.0 (expressions-said xs u h.1) ∙ sym (named-joined (if_expression x.line x.noted.references) (of_expressions xs))
           where
-            by : (l : Line) → line-said l ≡ mentioned x.noted.references → all_mentions (cores (values_in (lines xs))) ≡ mentioned (of_expressions xs) → all_mentions (cores (values_in (l ∷ lines xs))) ≡ mentioned (if_expression l x.noted.references) ++ mentioned (of_expressions xs)
+            by : (l : Line) → line-said l ≡ named x.noted.references → all_namings (cores (values_in (lines xs))) ≡ named (of_expressions xs) → all_namings (cores (values_in (l ∷ lines xs))) ≡ named (if_expression l x.noted.references) ++ named (of_expressions xs)
             by (line.Define l c) e others = others
             by (line.Expr c) e others = λ i. e i ++ others i
 
-        body-said : (xs : List Told) (u : State) → Each (TellsLine u) xs → mentions (body_core (lines xs)) ≡ mentioned (of_definitions xs ++ of_expressions xs)
+        body-said : (xs : List Told) (u : State) → Each (TellsLine u) xs → namings (body_core (lines xs)) ≡ named (of_definitions xs ++ of_expressions xs)
         body-said xs u h =
             with-inits-said (inits_in (lines xs)) (sequence_of (values_in (lines xs)))
             ∙ (λ i. definitions-said xs u h i ++ (sequence-said (values_in (lines xs)) ∙ expressions-said xs u h) i)
-            ∙ sym (mentioned-joined (of_definitions xs) (of_expressions xs))
+            ∙ sym (named-joined (of_definitions xs) (of_expressions xs))
 
         definitions-kept : (xs : List Told) (u : State) → Each (TellsLine u) xs → Each (Kept u) (of_definitions xs)
         definitions-kept [] u h = tt
@@ -506,15 +506,15 @@ module _ (libs : List LibName) (own : LibName) (core : Among libs library.Core) 
             (stamps-hold own K J P lives v.names.number f fs (lives.frames (s.names.number + 1) v.names.number f z.0.0.stage.up (standing.frame-made own K J P lives first s h)) (trees-up s.names.number v.names.number (let up : s.names.number + 1 ≤ v.names.number = z.0.0.stage.up in omega (arith, up)) fs g)))
             (λ c u y.
             let Case : Noted → Type 0 = λ refs. Binds rs place level t ids fs s (record { formals = x; body = c }) (cut n u) refs in
-            staying.made-cut libs own core new Case Case (mentions c) n s u
-            (staying.made-from libs own core new (λ refs. IsBody rs place level t (map (stamp f) fs) v c u refs) Case (mentions c) (mentions c) s v u (told-by (counted s) v bound x (formals-same f place level ids (counted s)) z.1) y (λ refs i. binds_formals z.1 i) refl) (λ refs i. i))))
+            staying.made-cut libs own core new Case Case (namings c) n s u
+            (staying.made-from libs own core new (λ refs. IsBody rs place level t (map (stamp f) fs) v c u refs) Case (namings c) (namings c) s v u (told-by (counted s) v bound x (formals-same f place level ids (counted s)) z.1) y (λ refs i. binds_formals z.1 i) refl) (λ refs i. i))))
 
         abbrev Case : Span → ℕ → Tree → LambdaCase → State → Lambda → State → Noted → Type 0
         Case place level t x s c u refs = Binds rs place level t x.formals x.body s c u refs
 
-        case-went : (place : Span) (level depth : ℕ) (t : Tree) (x : LambdaCase) (s : State) → F s → LambdaHolds (P s.names.number) x → Gave (λ c u. Went s u × Made (Case place level t x s c u) (mentions c.body) s u) (one_case go place level depth t x s)
+        case-went : (place : Span) (level depth : ℕ) (t : Tree) (x : LambdaCase) (s : State) → F s → LambdaHolds (P s.names.number) x → Gave (λ c u. Went s u × Made (Case place level t x s c u) (namings c.body) s u) (one_case go place level depth t x s)
         case-went place level depth t x s h k =
-            gave-less (λ c u. Went s u × (CoreHolds (P u.names.number) c.body × CaseMade place level t x.formals x.body s c u)) (λ c u. Went s u × Made (Case place level t x s c u) (mentions c.body) s u) (one_case go place level depth t x s)
+            gave-less (λ c u. Went s u × (CoreHolds (P u.names.number) c.body × CaseMade place level t x.formals x.body s c u)) (λ c u. Went s u × Made (Case place level t x s c u) (namings c.body) s u) (one_case go place level depth t x s)
             (staying.gave-went libs own core new first (forms.CaseAt own K J P lives first) (CaseMade place level t x.formals x.body s) s (one_case go place level depth t x s)
             (forms.case-holds own K J P lives first go keeps place level depth t x.formals x.body s h k.0 k.1) (moved-case own go moves place level depth t x.formals x.body s h.stage.library) (case-made place level depth t x.formals x.body s h k.0 k.1))
             (λ c u k. (k.0, k.1.1))
@@ -523,9 +523,9 @@ module _ (libs : List LibName) (own : LibName) (core : Among libs library.Core) 
         lambda-case-up m n le x h = (items.formals-up own K J P lives first m n le x.formals h.0, trees-up m n le x.body h.1)
 
         pub cases-went : (place : Span) (level depth : ℕ) (t : Tree) (xs : List LambdaCase) (s : State) → F s → Each (LambdaHolds (P s.names.number)) xs
-            → Gave (λ cs u. Went s u × Made (Bind rs place level t xs s cs u) (case_mentions (cases cs)) s u) (all_cases go place level depth t xs s)
+            → Gave (λ cs u. Went s u × Made (Bind rs place level t xs s cs u) (case_namings (cases cs)) s u) (all_cases go place level depth t xs s)
         cases-went place level depth t xs s h k =
-            each-went (one_case go place level depth t) (λ n x. LambdaHolds (P n) x) lambda-case-up (Case place level t) (λ xs s cs u refs. Bind rs place level t xs s cs u refs) (λ (c : Lambda). mentions c.body) (λ cs. case_mentions (cases cs))
+            each-went (one_case go place level depth t) (λ n x. LambdaHolds (P n) x) lambda-case-up (Case place level t) (λ xs s cs u refs. Bind rs place level t xs s cs u refs) (λ (c : Lambda). namings c.body) (λ cs. case_namings (cases cs))
             (λ s. no_case) (λ x xs s v u c cs refs others i j. case i j) refl (λ c cs. refl) (λ x s h k. case-went place level depth t x s h k) xs s h k
 
         -- `letrec` and `letrec*`.
@@ -535,13 +535,13 @@ module _ (libs : List LibName) (own : LibName) (core : Among libs library.Core) 
         init-went place level depth f b s h k =
             gave-after (Goes (FormMade place level (stamp f b.init) s) s) (λ i u. Went s u × InitMade place level f b s i u) (go.form place level depth (stamp f b.init) s) (λ c. give (record { label = b.label; value = c }))
             (form-went place level depth (stamp f b.init) s h (stamp-holds own K J P lives s.names.number f b.init k.1 k.0))
-            (λ c u z. (z.0, staying.made-so libs own core new (λ refs. Expands rs place level (stamp f b.init) s c u refs) (λ refs. Starts rs place level f b s (record { label = b.label; value = c }) u refs) (mentions c) (mentions c) s u z.1 (λ refs i. starts_with i) refl))
+            (λ c u z. (z.0, staying.made-so libs own core new (λ refs. Expands rs place level (stamp f b.init) s c u refs) (λ refs. Starts rs place level f b s (record { label = b.label; value = c }) u refs) (namings c) (namings c) s u z.1 (λ refs i. starts_with i) refl))
 
         inits-went : (place : Span) (level depth : ℕ) (f : FrameNo) (bs : List BoundSpec) (s : State) → F s → Each (forms.BoundIn own K J P lives first f s.names.number) bs
-            → Gave (λ is u. Went s u × Made (Start rs place level f bs s is u) (init_mentions (inits is)) s u) (all_inits go place level depth f bs s)
+            → Gave (λ is u. Went s u × Made (Start rs place level f bs s is u) (init_namings (inits is)) s u) (all_inits go place level depth f bs s)
         inits-went place level depth f bs s h k =
             each-went (one_init go place level depth f) (λ n b. forms.BoundIn own K J P lives first f n b) (forms.bound-in-up own K J P lives first f) (λ b s i u refs. Starts rs place level f b s i u refs) (λ bs s is u refs. Start rs place level f bs s is u refs)
-            (λ (i : Init). mentions i.value) (λ is. init_mentions (inits is)) (λ s. no_init) (λ b bs s v u i is refs others x y. init x y) refl (λ i is. refl) (λ b s h k. init-went place level depth f b s h k) bs s h k
+            (λ (i : Init). namings i.value) (λ is. init_namings (inits is)) (λ s. no_init) (λ b bs s v u i is refs others x y. init x y) refl (λ i is. refl) (λ b s h k. init-went place level depth f b s h k) bs s h k
 
         pub letrec-made : (place : Span) (level depth : ℕ) (t : Tree) (star : Bool) (bs : List BindingSpec) (fs : List Tree) (s : State) → F s → Each (standing.SpecAt own K J P lives first s.names.number) bs → Ts s.names.number fs
             → Gave (PlanMade place level t (plans.Letrec star bs fs) s) (letrec_form go place level depth t star bs fs s)
@@ -561,7 +561,7 @@ module _ (libs : List LibName) (own : LibName) (core : Among libs library.Core) 
             (λ ls v z.
             let hv = from-to (counted s) v hs z.0.0 in
             let up : s.names.number + 1 ≤ v.names.number = z.0.0.stage.up in
-            gave-after (λ is w. Went v w × Made (Start rs place level f ls v is w) (init_mentions (inits is)) v w) So (all_inits go place level depth f ls v) _
+            gave-after (λ is w. Went v w × Made (Start rs place level f ls v is w) (init_namings (inits is)) v w) So (all_inits go place level depth f ls v) _
             (inits-went place level depth f ls v hv (forms.all-bound-in own K J P lives first f v.names.number ls z.0.1 (lives.frames (s.names.number + 1) v.names.number f up made)))
             (λ is w y.
             let more-up = y.0.from.stage.up in
@@ -570,21 +570,21 @@ module _ (libs : List LibName) (own : LibName) (core : Among libs library.Core) 
             (stamps-hold own K J P lives w.names.number f fs (lives.frames (s.names.number + 1) w.names.number f (omega (arith, up, more-up)) made) (trees-up s.names.number w.names.number (omega (arith, one, up, more-up)) fs g)))
             (λ c u x.
             let All : Noted → Type 0 = λ refs. Performs rs place level t (plans.Letrec star bs fs) s (letrec star (inits is) c) (cut n u) refs in
-            let m = init_mentions (inits is) ++ mentions c in
+            let m = init_namings (inits is) ++ namings c in
             staying.made-cut libs own core new All All m n s u
             (staying.made-from libs own core new All All m m s v u (told-by (counted s) v bound ls (specs-same f place level bs (counted s)) z.1)
             (staying.made-joined libs own core new (Start rs place level f ls v is w) (λ refs. IsBody rs place level t (map (stamp f) fs) w c u refs) All
-            (init_mentions (inits is)) (mentions c) v w u x.0 y.1 x.1 (λ refs others i j. binds_all z.1 i j)) (λ refs i. i) refl) (λ refs i. i)))))
+            (init_namings (inits is)) (namings c) v w u x.0 y.1 x.1 (λ refs others i j. binds_all z.1 i j)) (λ refs i. i) refl) (λ refs i. i)))))
 
         -- `syntax-case`.
 
         fender-made : (place : Span) (level depth : ℕ) (f : FrameNo) (o : Option Tree) (s : State) → F s → J s.names.number f → OptionHolds (T s.names.number) o
-            → Gave (λ x u. Went s u × Made (Asks rs place level f o s x u) (fender-mentions x) s u) (fender go place level depth f o s)
+            → Gave (λ x u. Went s u × Made (Asks rs place level f o s x u) (fender-namings x) s u) (fender go place level depth f o s)
         fender-made place level depth f None s h q k = (staying.went-self libs own core new first s h, staying.made-none libs own core new (Asks rs place level f None s None s) [] s s asks_nothing refl (told-self s))
         fender-made place level depth f (Some t) s h q k =
-            gave-after (Goes (FormMade place level (stamp f t) s) s) (λ x u. Went s u × Made (Asks rs place level f (Some t) s x u) (fender-mentions x) s u) (go.form place level depth (stamp f t) s) (λ c. give (Some c))
+            gave-after (Goes (FormMade place level (stamp f t) s) s) (λ x u. Went s u × Made (Asks rs place level f (Some t) s x u) (fender-namings x) s u) (go.form place level depth (stamp f t) s) (λ c. give (Some c))
             (form-went place level depth (stamp f t) s h (stamp-holds own K J P lives s.names.number f t q k))
-            (λ c u z. (z.0, staying.made-so libs own core new (λ refs. Expands rs place level (stamp f t) s c u refs) (Asks rs place level f (Some t) s (Some c) u) (mentions c) (mentions c) s u z.1 (λ refs i. asks_first i) refl))
+            (λ c u z. (z.0, staying.made-so libs own core new (λ refs. Expands rs place level (stamp f t) s c u refs) (Asks rs place level f (Some t) s (Some c) u) (namings c) (namings c) s u z.1 (λ refs i. asks_first i) refl))
 
         clause-made : (place : Span) (level depth : ℕ) (literals : List Tree) (x : PatternCase) (s : State) → F s → PatternCaseHolds (P s.names.number) x → Gave (ClauseMade place level literals x s) (pattern_clause go place level depth literals x s)
         unfolding pattern_clause fresh_frame
@@ -609,7 +609,7 @@ module _ (libs : List LibName) (own : LibName) (core : Among libs library.Core) 
             (λ e w y.
             let hw = from-to v w hv y.0.0 in
             let up-more = y.0.0.stage.up in
-            gave-after (λ o b. Went w b × Made (Asks rs place level f x.fender w o b) (fender-mentions o) w b) So (fender go place level depth f x.fender w) _
+            gave-after (λ o b. Went w b × Made (Asks rs place level f x.fender w o b) (fender-namings o) w b) So (fender go place level depth f x.fender w) _
             (fender-made place level depth f x.fender w hw (lives.frames (s.names.number + 1) w.names.number f (omega (arith, up, up-more)) made) (standing.option-up own K J P lives first s.names.number w.names.number (omega (arith, one, up, up-more)) x.fender k.1.0))
             (λ o b q.
             let up-last = q.0.from.stage.up in
@@ -618,12 +618,12 @@ module _ (libs : List LibName) (own : LibName) (core : Among libs library.Core) 
             (stamp-holds own K J P lives b.names.number f x.output (lives.frames (s.names.number + 1) b.names.number f (omega (arith, up, up-more, up-last)) made) (tree-up s.names.number b.names.number (omega (arith, one, up, up-more, up-last)) x.output k.1.1)))
             (λ c u r.
             let One : Noted → Type 0 = Matches rs place level literals x s (record { pattern = p.pattern; fender = o; output = c }) (cut n u) in
-            let m = fender-mentions o ++ mentions c in
+            let m = fender-namings o ++ namings c in
             let tells = told-then (counted s) v w (told-by (counted s) v compiled p (pattern-same literals place x.pattern (counted s)) z.1) (told-by v w bound e (bind-pattern-same f place level p.variables v) y.1) in
             staying.made-cut libs own core new One One m n s u
             (staying.made-from libs own core new One One m m s w u tells
             (staying.made-joined libs own core new (Asks rs place level f x.fender w o b) (λ refs. Expands rs place level (stamp f x.output) b c u refs) One
-            (fender-mentions o) (mentions c) w b u r.0.later q.1 r.1 (λ refs others i j. matches_pattern z.1 y.1 i j)) (λ refs i. i) refl) (λ refs i. i))))))
+            (fender-namings o) (namings c) w b u r.0.later q.1 r.1 (λ refs others i j. matches_pattern z.1 y.1 i j)) (λ refs i. i) refl) (λ refs i. i))))))
 
         clause-went : (place : Span) (level depth : ℕ) (literals : List Tree) (x : PatternCase) (s : State) → F s → PatternCaseHolds (P s.names.number) x → Gave (λ c u. Went s u × ClauseMade place level literals x s c u) (pattern_clause go place level depth literals x s)
         clause-went place level depth literals x s h k =
@@ -633,7 +633,7 @@ module _ (libs : List LibName) (own : LibName) (core : Among libs library.Core) 
             (λ c u k. (k.0, k.1.1))
 
         pub clauses-went : (place : Span) (level depth : ℕ) (literals : List Tree) (xs : List PatternCase) (s : State) → F s → Each (PatternCaseHolds (P s.names.number)) xs
-            → Gave (λ cs u. Went s u × Made (Match rs place level literals xs s cs u) (clause_mentions (clauses cs)) s u) (all_clauses go place level depth literals xs s)
+            → Gave (λ cs u. Went s u × Made (Match rs place level literals xs s cs u) (clause_namings (clauses cs)) s u) (all_clauses go place level depth literals xs s)
         clauses-went place level depth literals xs s h k =
             each-went (pattern_clause go place level depth literals) (λ n x. PatternCaseHolds (P n) x) (forms.pattern-case-up own K J P lives first go keeps) (λ x s c u refs. Matches rs place level literals x s c u refs) (λ xs s cs u refs. Match rs place level literals xs s cs u refs)
-            clause-said (λ cs. clause_mentions (clauses cs)) (λ s. no_clause) (λ x xs s v u c cs refs others i j. clause i j) refl clauses-said (λ x s h k. clause-went place level depth literals x s h k) xs s h k
+            clause-said (λ cs. clause_namings (clauses cs)) (λ s. no_clause) (λ x xs s v u c cs refs others i j. clause i j) refl clauses-said (λ x s h k. clause-went place level depth literals x s h k) xs s h k

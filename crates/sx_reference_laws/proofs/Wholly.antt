@@ -25,6 +25,7 @@ use Rattle.sx_fresh_expansion_laws.specs.Known.{IsNewAmong}
 use Rattle.sx_reference_laws.specs.Noted.{Reference, Expression}
 use Rattle.sx_reference_laws.specs.Whole.{IsCaptured, IsRight, IsRightExpression, FormsAreHygienic}
 use Rattle.sx_reference_laws.proofs.Capturing.{captures-hygienic}
+use Rattle.sx_reference_laws.proofs.Naming.{mentions-named}
 use Rattle.sx_reference_laws.proofs.Performing.{all-traced}
 use Rattle.sx_reference_laws.proofs.Staying.{Kept, KeptExpression}
 use Rattle.sx_reference_laws.proofs.Walking.{FormMade}
@@ -67,7 +68,7 @@ module _ (libs : List LibName) (own : LibName) (core : Among libs library.Core) 
 
   -- so are expressions of keywords
   right-expression : (e : Expression) → KeptExpression libs own core new e → IsRightExpression libs own e
-  right-expression e h = record { all = h.0; right = all-right e.state e.references h.1 }
+  right-expression e h = record { all = h.0; mentions = mentions-named e.code e.references h.0; right = all-right e.state e.references h.1 }
 
   pub all-expressions : (es : List Expression) → Each (KeptExpression libs own core new) es → Each (IsRightExpression libs own) es
   all-expressions es h = each_mapped (KeptExpression libs own core new) (IsRightExpression libs own) right-expression es h
@@ -75,4 +76,4 @@ module _ (libs : List LibName) (own : LibName) (core : Among libs library.Core) 
 pub forms-hygienic : FormsAreHygienic
 forms-hygienic libs own records room place level depth t s u c core new holds held has e =
     let made = told (FormMade libs own core new records place level t s) ((inside records room).form place level depth t s) c u ((all-traced libs own core new records s.names.number held room).form place level depth t s holds has) e in
-    (made.noted, (made.is, record { all = made.all; right = all-right libs own core new u made.noted.references made.kept; expressions = all-expressions libs own core new made.noted.expressions made.expressions; kept = made.told }))
+    (made.noted, (made.is, record { all = made.all; mentions = mentions-named c made.noted.references made.all; right = all-right libs own core new u made.noted.references made.kept; expressions = all-expressions libs own core new made.noted.expressions made.expressions; kept = made.told }))

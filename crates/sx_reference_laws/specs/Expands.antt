@@ -7,20 +7,27 @@ use Rattle.sx_base.specs.declared.span.Span.{Span}
 use Rattle.sx_tree.specs.Changes.{stamp}
 use Rattle.sx_tree.specs.Tree.{Tree}
 use Rattle.sx_scope.specs.Stands.{stands}
-use Rattle.sx_core.specs.Core.{PlainCore, variable, one_armed, two_armed, assignment, procedure, letrec, call, matching, cores}
+use Rattle.sx_core.specs.Core.{PlainCore, variable, instance, one_armed, two_armed, assignment, procedure, letrec, call, matching, cores}
 use Rattle.sx_core.specs.CoreView.{inits, cases, clauses}
-use Rattle.sx_core.specs.References.{mentions}
+use Rattle.sx_core.specs.Template.{PlainTemplate}
 use Rattle.sx_core.specs.declared.code.Clause.{Clause}
 use Rattle.sx_core.specs.declared.code.Init.{Init}
 use Rattle.sx_core.specs.declared.code.Lambda.{Lambda}
 use Rattle.sx_core.specs.declared.core_form.CoreForm.{CoreForm}
+use Rattle.sx_core.specs.declared.core_form.CoreForm.TheVariants as core_forms
 use Rattle.sx_core.specs.declared.formals.Formals.{Formals}
 use Rattle.sx_core.specs.declared.record.LibRecord.{LibRecord}
 use Rattle.sx_core.specs.declared.record.Line.TheVariants as line
 use Rattle.sx_pattern.specs.declared.compile.Compiled.{Compiled}
+use Rattle.sx_pattern.specs.declared.compile.PatternVariable.{PatternVariable}
+use Rattle.sx_quasi.specs.Plan.{PlainQuasi}
+use Rattle.sx_quasi.specs.declared.quasi_syntax.QuasiSyntax.{QuasiSyntax}
 use Rattle.sx_quasi.specs.declared.word.Family.{Family}
 use Rattle.sx_quasi_code.specs.Form as quasi
+use Rattle.sx_quasi_code.specs.Filled.{filled}
+use Rattle.sx_quasi_code.specs.Inserted.{insert_variables, match_of, bind_inserts}
 use Rattle.sx_quasi_code.specs.declared.form.QuasiForm.{QuasiForm}
+use Rattle.sx_quasi_code.specs.declared.form.QuasiForm.TheVariants as quasi_forms
 use Rattle.sx_quasi_code.specs.declared.parts.Part.{Part}
 use Rattle.sx_shapes.specs.At.{place_of}
 use Rattle.sx_shapes.specs.Forms.{shape}
@@ -32,7 +39,7 @@ use Rattle.sx_shapes.specs.declared.shape.PatternCase.{PatternCase}
 use Rattle.sx_shapes.specs.declared.shape.Shape.TheVariants as shapes
 use Rattle.sx_standing.specs.Binders.{bind_specs, bind_formals}
 use Rattle.sx_standing.specs.InScope.{cut}
-use Rattle.sx_standing.specs.Patterns.{pattern_of, check_literals, bind_pattern}
+use Rattle.sx_standing.specs.Patterns.{pattern_of, check_literals, bind_pattern, template_of}
 use Rattle.sx_standing.specs.State.{State}
 use Rattle.sx_standing.specs.Uses.{bind_keywords, finish_keyword}
 use Rattle.sx_standing.specs.declared.binders.BoundSpec.{BoundSpec}
@@ -52,11 +59,24 @@ use Rattle.sx_expand.specs.Settle.{settle, settle_item}
 use Rattle.sx_expand.specs.declared.settle.Settled.{Settled}
 use Rattle.sx_expand.specs.declared.settle.SettledItem.{SettledItem}
 use Rattle.sx_expand_laws.specs.Named.{RefersTo}
-use Rattle.sx_reference_laws.specs.Noted.{Expression, Noted, nothing, only, of_keywords, both, Told, lines, of_body}
+use Rattle.sx_reference_laws.specs.Namings.{namings}
+use Rattle.sx_reference_laws.specs.Noted.{Reference, Expression, Noted, nothing, only, of_references, of_keywords, both, Told, lines, of_body}
+use Rattle.sx_reference_laws.specs.Templates.{IsTemplate}
 
 -- the state with the next name taken
 abbrev pub counted : State → State
 counted s = record s { names = record { library = s.names.library; number = s.names.number + 1 } }
+
+-- The code of a quasi form, whose parts have these codes. A template with inserts stands in a frame of its own, in which the inserts are pattern variables.
+pub data Codes : Span → ℕ → Tree → QuasiForm → List PlainCore → State → PlainCore → State → Noted → Type 0 where
+  quotes : {place : Span} {level : ℕ} {t : Tree} {q : PlainQuasi} {cs : List PlainCore} {s : State} → Codes place level t (quasi_forms.Quote q) cs s (filled q cs).0 s nothing
+  has_no_insert : {place : Span} {level : ℕ} {t : Tree} {q : QuasiSyntax} {cs : List PlainCore} {s : State} {x : PlainTemplate} {refs : List Reference}
+      → q.inserts ≡ [] → template_of place level q.template s ≡ Ok (x, s) → IsTemplate s level q.template x refs
+      → Codes place level t (quasi_forms.Syntax q) cs s (instance x (place_of t place)) s (of_references refs)
+  has_inserts : {place : Span} {level : ℕ} {t : Tree} {q : QuasiSyntax} {cs : List PlainCore} {s v w : State} {vs : List PatternVariable} {e : Unit {0}} {x : PlainTemplate} {refs : List Reference}
+      → (q.inserts ≡ [] → ⊥) → insert_variables q.inserts (counted s) ≡ Ok (vs, v) → bind_inserts (record { 0 = s.names }) place level vs v ≡ Ok (e, w)
+      → template_of place level (stamp (record { 0 = s.names }) q.template) w ≡ Ok (x, w) → IsTemplate w level (stamp (record { 0 = s.names }) q.template) x refs
+      → Codes place level t (quasi_forms.Syntax q) cs s (match_of vs x (place_of t place) cs) (cut (length s.scope) w) (of_references refs)
 
 mutual
   -- a form, at a place and a level: uses of keywords give other forms in its place until it is no use
@@ -69,9 +89,13 @@ mutual
     refers : {place : Span} {level : ℕ} {t : Tree} {s : State} {l : Label} {c : PlainCore}
         → is_leaf t ≡ true → stands s.frames t ≡ Some l → RefersTo s (Some l) c
         → Performs rs place level t (plans.Done c) s c s (only (record { leaf = t; state = s; label = l; code = c }))
-    -- constants, data and templates refer to no variables
+    -- constants and data name nothing
     is_done : {place : Span} {level : ℕ} {t : Tree} {s : State} {c : PlainCore}
-        → is_leaf t ≡ false → mentions c ≡ [] → Performs rs place level t (plans.Done c) s c s nothing
+        → is_leaf t ≡ false → namings c ≡ [] → Performs rs place level t (plans.Done c) s c s nothing
+    -- each pattern variable of a template was an identifier that stands for it
+    is_template : {place : Span} {level : ℕ} {t operand : Tree} {s : State} {x : PlainTemplate} {refs : List Reference}
+        → shape core_forms.Syntax t place ≡ Ok (shapes.Operand operand) → template_of place level operand s ≡ Ok (x, s) → IsTemplate s level operand x refs
+        → Performs rs place level t (plans.Done (instance x (place_of t place))) s (instance x (place_of t place)) s (of_references refs)
     calls : {place : Span} {level : ℕ} {t operator : Tree} {operands : List Tree} {s v u : State} {c : PlainCore} {cs : List PlainCore} {refs more : Noted}
         → Expands rs place level operator s c v refs → Expand rs place level operands v cs u more
         → Performs rs place level t (plans.Call operator operands) s (call c (cores cs)) u (both refs more)
@@ -104,10 +128,10 @@ mutual
     has_keywords : {place : Span} {level : ℕ} {t : Tree} {recursive : Bool} {bs : List BindingSpec} {forms stamped : List Tree} {s v u : State} {es : List Expression} {cs : List PlainCore} {refs : Noted}
         → BindsKeywords rs place level recursive bs forms s stamped v es → Expand rs place level stamped v cs u refs
         → Performs rs place level t (plans.Keywords recursive bs forms) s (sequence_of cs) u (both (of_keywords es) refs)
-    -- all variables in the code are those of the parts
-    fills : {place : Span} {level : ℕ} {t template : Tree} {which : Family} {s v w u : State} {q : QuasiForm} {c : PlainCore} {cs : List PlainCore} {refs : Noted}
-        → (depth : ℕ) → quasi.form_of place t which template s ≡ Ok (q, v) → Fill rs place level (quasi.parts_of t depth q) v cs w refs → quasi.code_of place level t q cs w ≡ Ok (c, u)
-        → Performs rs place level t (plans.Quasi which template) s c u refs
+    -- all variables in the code are those of the parts, and all pattern variables behind them those of the template
+    fills : {place : Span} {level : ℕ} {t template : Tree} {which : Family} {s v w u : State} {q : QuasiForm} {c : PlainCore} {cs : List PlainCore} {refs others : Noted}
+        → (depth : ℕ) → quasi.form_of place t which template s ≡ Ok (q, v) → Fill rs place level (quasi.parts_of t depth q) v cs w refs → Codes place level t q cs w c u others
+        → Performs rs place level t (plans.Quasi which template) s c u (both refs others)
 
   -- forms, one after another
   pub data Expand (rs : List LibRecord) : Span → ℕ → List Tree → State → List PlainCore → State → Noted → Type 0 where

@@ -9,7 +9,8 @@ use Rattle.sx_core.specs.declared.record.Line.TheVariants as line
 use Rattle.sx_standing.specs.State.{State}
 use Rattle.sx_reference_laws.specs.Namings.{Naming, namings}
 
--- An identifier that became a reference, or the target of an assignment: what it was, the state then, the label that it stood for, and the reference.
+-- An identifier that became a reference, the target of an assignment, or a pattern variable of a template: what it was, the state then, the label that it
+-- stood for, and the reference, or the template that has no more than the variable.
 pub record Reference : Type 0 where
   pub leaf : Tree
   pub state : State
@@ -23,7 +24,7 @@ pub record Expression : Type 0 where
   pub references : List Reference
   pub state : State
 
--- of a form: the references of its code, in the order of their places, and the expressions of the keywords that were bound in it
+-- of a form: the references of its code and the pattern variables of its templates, in the order of their places, and the expressions of the keywords that were bound in it
 pub record Noted : Type 0 where
   pub references : List Reference
   pub expressions : List Expression
@@ -33,6 +34,9 @@ nothing = record { references = []; expressions = [] }
 
 abbrev pub only : Reference → Noted
 only r = record { references = r ∷ []; expressions = [] }
+
+abbrev pub of_references : List Reference → Noted
+of_references refs = record { references = refs; expressions = [] }
 
 abbrev pub of_keywords : List Expression → Noted
 of_keywords es = record { references = []; expressions = es }

@@ -29,16 +29,23 @@ use Rattle.sx_fresh_expansion_laws.specs.Events.{HasEvents}
 use Rattle.sx_fresh_expansion_laws.specs.Known.{libraries_of, IsNewAmong}
 use Rattle.sx_fresh_expansion_laws.specs.RecordMarks.{HasOnly, RecordHasOnly, WasRead}
 use Rattle.sx_reference_laws.specs.Expands.{Take, Finish}
-use Rattle.sx_reference_laws.specs.Noted.{Expression, Told, lines, of_lines, mentioned, IsExpression}
+use Rattle.sx_reference_laws.specs.Namings.{Naming, namings}
+use Rattle.sx_reference_laws.specs.Noted.{Expression, Told, lines, of_lines, mentioned, named, IsExpression}
 use Rattle.sx_reference_laws.specs.Whole.{IsCaptured, IsRight, IsRightExpression}
 
 abbrev pub line_mentions : Line → List Label
 line_mentions (line.Define l c) = mentions c
 line_mentions (line.Expr c) = mentions c
 
+abbrev pub line_namings : Line → List Naming
+line_namings (line.Define l c) = namings c
+line_namings (line.Expr c) = namings c
+
 -- a line, and its references in a state
-abbrev pub IsRightLine : List LibName → LibName → State → Told → Type 0
-IsRightLine libs own u x = (line_mentions x.line ≡ mentioned x.noted.references) × Each (IsRight libs own u) x.noted.references
+pub record IsRightLine (libs : List LibName) (own : LibName) (u : State) (x : Told) : Type 0 where
+  pub all : line_namings x.line ≡ named x.noted.references
+  pub mentions : line_mentions x.line ≡ mentioned x.noted.references
+  pub right : Each (IsRight libs own u) x.noted.references
 
 -- where a binding has the expression of a keyword, that is one of these
 abbrev pub IsBoundTo : List Expression → Label → Binding → Type 0
