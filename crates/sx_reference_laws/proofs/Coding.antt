@@ -1,7 +1,6 @@
 -- What the code of a quasi form names: what its parts name, and then the pattern variables of its template.
-use Rattle.std.proofs.Common.{◌≡◌, ◌≤◌, ◌+◌, ℕ, Bool, true, false, List, [], ◌∷◌, ◌++◌, length, Option, None, Some, refl, sym, ap, ◌∙◌, subst, arith, append-nil, append_assoc, inl, inr}
+use Rattle.std.proofs.Common.{◌≡◌, ◌≤◌, ◌+◌, ℕ, true, List, [], ◌∷◌, ◌++◌, length, Some, refl, sym, ap, ◌∙◌, subst, arith, append-nil, inl, inr}
 use Rattle.sx_base.specs.Act.{after, give}
-use Rattle.sx_base.specs.Named.{Named}
 use Rattle.sx_base.specs.declared.library.LibName.{LibName}
 use Rattle.sx_base.specs.declared.library.LibName.TheVariants as library
 use Rattle.sx_base.specs.declared.name.FrameNo.{FrameNo}
@@ -25,9 +24,7 @@ use Rattle.sx_quasi_code.specs.declared.form.QuasiForm.{QuasiForm}
 use Rattle.sx_quasi_code.specs.declared.form.QuasiForm.TheVariants as forms
 use Rattle.sx_scope.specs.Stands.{row_for}
 use Rattle.sx_frames.specs.Scope.{Scope, bound}
-use Rattle.sx_frames.specs.Rows.{Row}
 use Rattle.sx_base.specs.declared.fault.Bare.{Bare}
-use Rattle.sx_base.specs.declared.fault.Fault.{Fault}
 use Rattle.std.specs.Prelude.{Result, Ok, Err}
 use Rattle.sx_shapes.specs.At.{place_of}
 use Rattle.sx_shapes.specs.Lists.{is_leaf}
@@ -47,10 +44,9 @@ use Rattle.sx_fresh_expansion_laws.proofs.Changing.{stamp-holds}
 use Rattle.sx_fresh_expansion_laws.proofs.Standing as standing
 use Rattle.sx_reference_laws.specs.Expands.{counted, Codes, quotes, has_no_insert, has_inserts}
 use Rattle.sx_reference_laws.specs.Namings.{template_namings, namings, all_namings}
-use Rattle.sx_reference_laws.specs.Noted.{Reference, nothing, of_references, named}
-use Rattle.sx_reference_laws.specs.Templates.{IsLeafOf, IsPatternVariable, IsTemplate}
+use Rattle.sx_reference_laws.specs.Noted.{Reference, of_references, named}
+use Rattle.sx_reference_laws.specs.Templates.{IsLeafOf, IsPatternVariable}
 use Rattle.sx_reference_laws.proofs.Filling.{IsLow, made-low, no-cores, quote-said}
-use Rattle.sx_reference_laws.proofs.Staying as staying
 use Rattle.sx_reference_laws.proofs.Staying.{K, J, P, lives, Kept, gave-is}
 use Rattle.sx_reference_laws.proofs.Templating.{TemplateNames, template-of-names}
 

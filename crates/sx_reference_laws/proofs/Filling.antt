@@ -1,31 +1,16 @@
 -- What the code of a plan of `quasiquote` names, its parts name.
 use Rattle.std.proofs.Common.{◌≡◌, ◌≤◌, ◌+◌, ℕ, Bool, true, false, List, [], ◌∷◌, ◌++◌, length, refl, sym, ap, ◌∙◌, subst, arith, append-nil, append_assoc, length-append, true≢false, if◌then◌else◌}
 use Rattle.std.specs.Prelude.{nat_lt}
-use Rattle.sx_base.specs.Act.{after, give}
-use Rattle.sx_base.specs.declared.span.Span.{Span}
-use Rattle.sx_tree.specs.Changes.{stamp}
 use Rattle.sx_tree.specs.Tree.{Tree}
-use Rattle.sx_core.specs.Core.{PlainCore, instance, cores}
+use Rattle.sx_core.specs.Core.{PlainCore, cores}
 use Rattle.sx_reference_laws.specs.Namings.{namings, all_namings}
-use Rattle.sx_core.specs.Template.{PlainTemplate}
-use Rattle.sx_pattern.specs.declared.compile.PatternVariable.{PatternVariable}
 use Rattle.sx_quasi.specs.Plan as quasi
 use Rattle.sx_quasi.specs.Plan.{PlainQuasi, PlainQuasis, constant, expression, none, more}
-use Rattle.sx_quasi.specs.declared.quasi_syntax.Insert.{Insert}
-use Rattle.sx_quasi.specs.declared.quasi_syntax.QuasiSyntax.{QuasiSyntax}
 use Rattle.sx_quasi_code.specs.Filled.{next_code, filled, all_filled}
-use Rattle.sx_quasi_code.specs.Form.{parts_of, code_of}
-use Rattle.sx_quasi_code.specs.Inserted.{insert_variables, match_of, bind_inserts, inserted_in, inserted, syntax_code}
-use Rattle.sx_quasi_code.specs.Parts.{part, with_made, quasi_parts, all_quasi_parts, inserts_parts}
-use Rattle.sx_quasi_code.specs.declared.form.QuasiForm.{QuasiForm}
-use Rattle.sx_quasi_code.specs.declared.form.QuasiForm.TheVariants as forms
+use Rattle.sx_quasi_code.specs.Parts.{part, with_made, quasi_parts, all_quasi_parts}
 use Rattle.sx_quasi_code.specs.declared.parts.Part.{Part}
-use Rattle.sx_shapes.specs.At.{place_of}
-use Rattle.sx_standing.specs.Patterns.{template_of}
-use Rattle.sx_standing.specs.State.{State, fresh_frame}
 use Rattle.sx_heads.specs.Depth.{deeper}
 use Rattle.sx_value.specs.Cells.{Each}
-use Rattle.sx_expand_laws.proofs.Acts.{Gave, gave-any, gave-after, gave-within}
 
 -- how many expressions there are in a plan
 abbrev mutual

@@ -1,6 +1,6 @@
 -- What is settled of a form of a body may be met.
-use Rattle.std.proofs.Common.{◌≡◌, ℕ, zero, suc, Bool, true, false, List, Option, None, Some, Result, arith}
-use Rattle.sx_base.specs.Act.{after, give}
+use Rattle.std.proofs.Common.{ℕ, zero, suc, Bool, true, false, List, Some, Result, arith}
+use Rattle.sx_base.specs.Act.{after}
 use Rattle.sx_base.specs.declared.fault.Fault.{Fault}
 use Rattle.sx_base.specs.declared.library.LibName.{LibName}
 use Rattle.sx_base.specs.declared.name.FrameNo.{FrameNo}
@@ -18,7 +18,6 @@ use Rattle.sx_heads.specs.declared.item.Item.TheVariants as of_items
 use Rattle.sx_heads.specs.declared.taken.BodyAt.{BodyAt}
 use Rattle.sx_heads.specs.declared.taken.Taken.{Taken}
 use Rattle.sx_heads.specs.declared.taken.Waits.TheVariants as waits
-use Rattle.sx_value.specs.Cells.{Each}
 use Rattle.sx_expand.specs.Settle.{next_form, too_many, at_use, set_item_step, item_step_of, item_step, item_by, settle_item_to, settle_item}
 use Rattle.sx_expand.specs.declared.settle.ItemStep.{ItemStep}
 use Rattle.sx_expand.specs.declared.settle.ItemStep.TheVariants as item_steps

@@ -1,5 +1,5 @@
 -- What is kept of keywords while forms are planned, used and bound: no expression comes but that of a keyword that is finished.
-use Rattle.std.proofs.Common.{◌≡◌, ℕ, zero, suc, Bool, true, false, List, [], ◌∷◌, Option, None, Some, Result, Ok, Err, refl, sym, ap, ◌∙◌, subst, if◌then◌else◌}
+use Rattle.std.proofs.Common.{◌≡◌, ℕ, zero, suc, Bool, true, false, List, [], ◌∷◌, None, Some, Result, Ok, refl, ap, ◌∙◌, subst, if◌then◌else◌}
 use Rattle.std.specs.Prelude.{◌||◌, ◌&&◌, not}
 use Rattle.sx_base.specs.Act.{after, give}
 use Rattle.sx_base.specs.declared.fault.Fault.{Fault}
@@ -10,13 +10,12 @@ use Rattle.sx_base.specs.declared.span.Span.{Span}
 use Rattle.sx_tree.specs.Changes.{stamp}
 use Rattle.sx_tree.specs.Tree.{Tree}
 use Rattle.sx_core.specs.Core.{PlainCore, instance}
-use Rattle.sx_core.specs.Template.{PlainTemplate}
 use Rattle.sx_core.specs.declared.record.LibRecord.{LibRecord}
 use Rattle.sx_pattern.specs.declared.compile.PatternVariable.{PatternVariable}
 use Rattle.sx_quasi.specs.declared.quasi_syntax.Insert.{Insert}
 use Rattle.sx_quasi.specs.declared.quasi_syntax.QuasiSyntax.{QuasiSyntax}
 use Rattle.sx_quasi_code.specs.Form.{code_of}
-use Rattle.sx_quasi_code.specs.Inserted.{dots, ellipsis, variable_of, insert_variable, insert_variables, match_of, bind_inserts, inserted_in, inserted, syntax_code}
+use Rattle.sx_quasi_code.specs.Inserted.{dots, ellipsis, insert_variable, insert_variables, match_of, bind_inserts, inserted_in, inserted, syntax_code}
 use Rattle.sx_quasi_code.specs.declared.form.QuasiForm.{QuasiForm}
 use Rattle.sx_quasi_code.specs.declared.form.QuasiForm.TheVariants as forms
 use Rattle.sx_shapes.specs.At.{place_of}
@@ -24,16 +23,15 @@ use Rattle.sx_shapes.specs.declared.shape.BindingSpec.{BindingSpec}
 use Rattle.sx_shapes.specs.declared.shape.Shape.{Shape}
 use Rattle.sx_shapes.specs.declared.shape.Shape.TheVariants as shapes
 use Rattle.sx_standing.specs.Binders.{put_row, bind_variable}
-use Rattle.sx_standing.specs.Patterns.{has_variables, first_outside, outside_fault, template_in, template_of, bind_pattern}
+use Rattle.sx_standing.specs.Patterns.{template_of, bind_pattern}
 use Rattle.sx_standing.specs.Standing.{standing_of}
-use Rattle.sx_template.specs.Compile as templates
-use Rattle.sx_standing.specs.State.{State, Does, fresh, fresh_frame, fault_form, fault_word}
+use Rattle.sx_standing.specs.State.{State, Does, fresh, fresh_frame, fault_word}
 use Rattle.sx_standing.specs.Uses.{bind_keyword, asks_variable}
 use Rattle.sx_standing.specs.declared.binders.BoundSpec.{BoundSpec}
 use Rattle.sx_standing.specs.declared.standing.Standing.{Standing}
 use Rattle.sx_standing.specs.declared.standing.Standing.TheVariants as standing
-use Rattle.sx_heads.specs.Items.{waiting_at, any_changed, is_mixed, is_top, with_waiting, heads_like, in_time, keyword_in_time, define, define_keyword, define_item, item_plan}
-use Rattle.sx_heads.specs.Plan.{reference, assign, operand_plan, plan_of}
+use Rattle.sx_heads.specs.Items.{any_changed, is_mixed, is_top, with_waiting, heads_like, in_time, keyword_in_time, define, define_keyword, define_item, item_plan}
+use Rattle.sx_heads.specs.Plan.{reference, assign, plan_of}
 use Rattle.sx_heads.specs.declared.item.Item.{Item}
 use Rattle.sx_heads.specs.declared.item.Item.TheVariants as items
 use Rattle.sx_heads.specs.declared.plan.KeywordUse.{KeywordUse}
@@ -44,21 +42,21 @@ use Rattle.sx_heads.specs.declared.taken.Taken.{Taken}
 use Rattle.sx_heads.specs.declared.taken.Waits.TheVariants as waits
 use Rattle.sx_expand.specs.Settle.{next_form, too_many, set_step, step_of, step, settled_by, settle_to, settle, at_use, set_item_step, item_step_of, item_step, settle_item_to, settle_item}
 use Rattle.sx_expand.specs.Settle as expand_settle
-use Rattle.sx_expand.specs.Top.{export, all_exports, exports}
 use Rattle.sx_expand.specs.declared.settle.ItemStep.{ItemStep}
 use Rattle.sx_expand.specs.declared.settle.ItemStep.TheVariants as item_steps
 use Rattle.sx_expand.specs.declared.settle.Settled.{Settled}
 use Rattle.sx_expand.specs.declared.settle.SettledItem.{SettledItem}
 use Rattle.sx_expand.specs.declared.settle.Step.{Step}
 use Rattle.sx_expand.specs.declared.settle.Step.TheVariants as steps
-use Rattle.sx_expand_laws.proofs.Acts.{Gave, gave-any, gave-after, gave-less, gave-if, gave-within, gave-each}
+use Rattle.sx_expand_laws.proofs.Acts.{Gave, gave-after, gave-less, gave-if, gave-within, gave-each}
 use Rattle.sx_expand_laws.proofs.Inserts.{with_dots, IsNewThere, dots-put}
 use Rattle.sx_expand_laws.proofs.Items.{item-cases}
-use Rattle.sx_expand_laws.proofs.Plans.{IsOfForms, plan-cases}
+use Rattle.sx_expand_laws.proofs.Plans.{plan-cases}
 use Rattle.sx_expand_laws.proofs.References.{Refers, AssignsBy, reference-is, assign-is}
 use Rattle.sx_expand_laws.proofs.Spent.{Known}
 use Rattle.sx_expand_laws.proofs.SpentBinding.{Same, variable-same, bind-pattern-same, keyword-told}
 use Rattle.sx_expand_laws.proofs.SpentOnStage.{Tells, next-told, variable-told}
+use Rattle.sx_reference_laws.proofs.Templating.{TemplateNames, template-of-names}
 
 -- no expression comes to be kept
 abbrev pub Untold : {A : Type 0} → State → A → State → Type 0
@@ -82,20 +80,8 @@ same-is-told s r h = gave-less (Same s) (Untold s) r h (λ a u e. told-same s u 
 
 -- Templates.
 
-template-same : (place : Span) (level : ℕ) (t : Tree) (s : State) → Gave (λ x u. u ≡ s) (template_of place level t s)
-unfolding template_of
-template-same place level t s = by (templates.compiled (record { frames = s.frames; bindings = s.bindings; level = level; place = place }) t)
-  where
-    by : (r : Result PlainTemplate Fault) → Gave (λ x u. u ≡ s) (template_in place t s r)
-    by (Err f) = tt
-    by (Ok x) = gave-if (λ (x : PlainTemplate) u. u ≡ s) (has_variables s.scope x) (Ok (x, s)) (outside_fault place t (first_outside s t) s) (λ e. refl) (λ e. outside (first_outside s t))
-      where
-        outside : (o : Option Tree) → Gave (λ (x : PlainTemplate) u. u ≡ s) (outside_fault place t o s)
-        outside None = tt
-        outside (Some id) = tt
-
 template-told : (place : Span) (level : ℕ) (t : Tree) (s : State) → Gave (Untold s) (template_of place level t s)
-template-told place level t s = gave-less (λ x u. u ≡ s) (Untold s) (template_of place level t s) (template-same place level t s) (λ x u e. told-same s u (ap (λ (v : State). v.keywords) e))
+template-told place level t s = gave-less (TemplateNames level t s) (Untold s) (template_of place level t s) (template-of-names place level t s) (λ x u k. told-same s u (ap (λ (v : State). v.keywords) k.0))
 
 -- Plans.
 
