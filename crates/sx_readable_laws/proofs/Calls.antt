@@ -46,6 +46,7 @@ use Rattle.sx_prims.specs.Syntax as identifiers
 use Rattle.sx_prims.specs.Syntax.{identifier_made, temporaries_made}
 use Rattle.sx_readable_laws.specs.Readable.{ReadableTree, ReadableValue, ReadableValues, ReadableCells}
 use Rattle.sx_round.specs.Readable.{Fits}
+use Rattle.sx_round.proofs.Chars.{scalar_small}
 use Rattle.sx_fresh_laws.specs.Leaves.{OptionHolds}
 use Rattle.sx_fresh_laws.proofs.Eachs.{each_both, each_and, each_at, each_taken, each_reversed}
 use Rattle.sx_readable_laws.proofs.Reading.{PairOr, ValueOr, ValuesOr, TextOr, value_at, vector_at_holds, string_at_holds, pair_holds, all_elements, the_end, elements_hold, tail_holds}
@@ -84,8 +85,8 @@ same_small (pos n) e = omega (arith, ltb-true, e)
 same_small (negsuc n) e = omega (arith, ltb-true, e)
 
 -- as a scalar value has
-scalar_small : (c : ℕ) → IsScalar c → Fits (pos c)
-scalar_small c h = ?
+scalar_fits : (c : ℕ) → IsScalar c → Fits (pos c)
+scalar_fits c h = let few = scalar_small c h in omega (arith, few)
 
 module _ (cells : List Cell) (cells_hold : ReadableCells cells) where
   -- Ways to make.
@@ -200,7 +201,7 @@ module _ (cells : List Cell) (cells_hold : ReadableCells cells) where
   to_character_ok _ = tt
 
   from_character_ok : (x : Value) → ReadableValue x → MadeOr (characters.from_character x)
-  from_character_ok (value.Atom (a.Char c)) h = scalar_small c h
+  from_character_ok (value.Atom (a.Char c)) h = scalar_fits c h
   from_character_ok (value.Atom (a.Int z)) h = tt
   from_character_ok (value.Atom (a.Spelt text)) h = tt
   from_character_ok (value.Atom a.Nil) h = tt
