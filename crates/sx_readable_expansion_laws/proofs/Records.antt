@@ -474,7 +474,7 @@ module _ (ts : List Tree) (fs : List Field) (h : Ts ts) (j : Each FieldHolds fs)
   fields-fit us e few = by (with_fields 0 ts fs) e (with-fields-good 0 ts fs enough h j)
     where
       counted : length fs ≤ length us
-      counted = subst (OkHolds (Has (0 + length fs))) e (fields-have 0 0 ts fs (omega arith))
+      counted = let k : 0 + length fs ≤ length us = subst (OkHolds (Has (0 + length fs))) e (fields-have 0 0 ts fs (omega arith)) in omega (arith, k)
 
       enough : 0 + length fs ≤ 2 ^ 127
       enough = let k = counted in let i = list-size us in omega arith

@@ -88,15 +88,23 @@ module _ (rs : List LibRecord) (place : Span) (level : ℕ) (word t : Tree) (s :
       ∙ begin-performed (inside rs room) place level depth (pair o word (pair None form nil)) form s
       ∙ ap (λ n. (inside rs room).form place level n form s) (one-deeper depth few)
 
+  room-is : (a b depth : ℕ) (u : Tree) → a ≡ b → (inside rs a).form place level depth u s ≡ (inside rs b).form place level depth u s
+  room-is a b depth u e = ap (λ n. (inside rs n).form place level depth u s) e
+
+  depth-is : (room a b : ℕ) → a ≡ b → (inside rs room).form place level a t s ≡ (inside rs room).form place level b t s
+  depth-is room a b e = ap (λ n. (inside rs room).form place level n t s) e
+
   all-begins : (ss : List (Option Span)) (room depth : ℕ) → depth + length ss ≤ 601 → (inside rs (length ss + room)).form place level depth (begun ss word t) s ≡ (inside rs room).form place level (depth + length ss) t s
-  all-begins [] room depth h = ap (λ n. (inside rs room).form place level n t s) (omega arith)
+  all-begins [] room depth h = room-is (length {A = Option Span} [] + room) room depth t (omega arith) ∙ depth-is room depth (depth + length {A = Option Span} []) (omega arith)
   all-begins (o ∷ ss) room depth h =
-      begin-in (length ss + room) depth o (begun ss word t) (omega (arith, h)) ∙ all-begins ss room (suc depth) (omega (arith, h)) ∙ ap (λ n. (inside rs room).form place level n t s) (omega arith)
+      room-is (length (o ∷ ss) + room) (suc (length ss + room)) depth (begun (o ∷ ss) word t) (omega arith) ∙ begin-in (length ss + room) depth o (begun ss word t) (omega (arith, h))
+      ∙ all-begins ss room (suc depth) (omega (arith, h)) ∙ depth-is room (suc depth + length ss) (depth + length (o ∷ ss)) (omega arith)
 
 begins-are : (rs : List LibRecord) (place : Span) (level : ℕ) (ss : List (Option Span)) (word t : Tree) (s : State) → IsBegin s word → length ss ≤ 601
     → expression rs place level (begun ss word t) s ≡ (inside rs 602).form place level (length ss) t s
 begins-are rs place level ss word t s is few =
-    forms-need-no-more rs 602 (length ss + 602) place level 0 (begun ss word t) s (omega arith) (omega arith) ∙ all-begins rs place level word t s is ss 602 0 few
+    forms-need-no-more rs 602 (length ss + 602) place level 0 (begun ss word t) s (omega arith) (omega arith) ∙ all-begins rs place level word t s is ss 602 0 (omega (arith, few))
+    ∙ depth-is rs place level word t s is 602 (0 + length ss) (length ss) (omega arith)
 
 constant-is : (go : Inside) (place : Span) (level depth : ℕ) (o : Option Span) (a : Atom) (s : State) → depth ≤ 600 → is_nil_atom a ≡ false → form_at go place level depth (atom o a) s ≡ Ok (quoted (strip (atom o a)), s)
 unfolding perform
