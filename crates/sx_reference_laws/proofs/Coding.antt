@@ -1,5 +1,5 @@
 -- What the code of a quasi form names: what its parts name, and then the pattern variables of its template.
-use Rattle.std.proofs.Common.{◌≡◌, ◌≤◌, ◌+◌, ℕ, true, List, [], ◌∷◌, ◌++◌, length, Some, refl, sym, ap, ◌∙◌, subst, arith, append-nil, inl, inr}
+use Rattle.std.proofs.Common.{◌≡◌, ◌≤◌, ◌+◌, ℕ, true, List, [], ◌∷◌, ◌++◌, length, Some, refl, sym, ap, ◌∙◌, subst, arith, append-nil, inr}
 use Rattle.sx_base.specs.Act.{after, give}
 use Rattle.sx_base.specs.declared.library.LibName.{LibName}
 use Rattle.sx_base.specs.declared.library.LibName.TheVariants as library
@@ -36,7 +36,7 @@ use Rattle.sx_hygiene_laws.specs.Marked.{Among}
 use Rattle.sx_value.specs.Cells.{Each}
 use Rattle.sx_expand_laws.proofs.Acts.{Gave, gave-both, gave-after, gave-less, gave-within, gave-each, gave-gather}
 use Rattle.sx_fresh_laws.specs.Leaves.{TreeHolds}
-use Rattle.sx_fresh_laws.proofs.Eachs.{each_mapped}
+use Rattle.sx_fresh_laws.proofs.Eachs.{each_both}
 use Rattle.sx_fresh_expansion_laws.specs.Events.{HasKnownEvents}
 use Rattle.sx_fresh_expansion_laws.specs.Known.{IsNewAmong}
 use Rattle.sx_fresh_expansion_laws.specs.States.{StateHolds}
@@ -45,25 +45,27 @@ use Rattle.sx_fresh_expansion_laws.proofs.Standing as standing
 use Rattle.sx_reference_laws.specs.Expands.{counted, Codes, quotes, has_no_insert, has_inserts}
 use Rattle.sx_reference_laws.specs.Namings.{template_namings, namings, all_namings}
 use Rattle.sx_reference_laws.specs.Noted.{Reference, of_references, named}
-use Rattle.sx_reference_laws.specs.Templates.{IsLeafOf, IsPatternVariable}
+use Rattle.sx_reference_laws.specs.Templates.{leaves, AreSome, taken, passed, leaves_of, IsPatternVariable, IsTemplate}
 use Rattle.sx_reference_laws.proofs.Filling.{IsLow, made-low, no-cores, quote-said}
 use Rattle.sx_reference_laws.proofs.Staying.{K, J, P, lives, Kept, gave-is}
 use Rattle.sx_reference_laws.proofs.Templating.{TemplateNames, template-of-names}
 
--- a leaf of a tree
-leaf-known : (Q : LeafContext → Type 0) (t x : Tree) → TreeHolds Q t → IsLeafOf t x → TreeHolds Q x
-leaf-known Q (atom p a) x h e = absurd e
-leaf-known Q (leaf p y c) x h e = subst (TreeHolds Q) (sym e) h
-leaf-known Q (pair p a d) x h (inl e) = leaf-known Q a x h.0 e
-leaf-known Q (pair p a d) x h (inr e) = leaf-known Q d x h.1 e
-leaf-known Q (vector p d) x h e = leaf-known Q d x h e
+-- Leaves of a tree.
 
-leaf-leafy : (t x : Tree) → IsLeafOf t x → is_leaf x ≡ true
-leaf-leafy (atom p a) x e = absurd e
-leaf-leafy (leaf p y c) x e = ap is_leaf e
-leaf-leafy (pair p a d) x (inl e) = leaf-leafy a x e
-leaf-leafy (pair p a d) x (inr e) = leaf-leafy d x e
-leaf-leafy (vector p d) x e = leaf-leafy d x e
+abbrev AllAre : (Tree → Type 0) → Tree → Type 0
+AllAre Q t = Each Q (leaves t)
+
+leaves-known : (Q : LeafContext → Type 0) (t : Tree) → TreeHolds Q t → AllAre (λ x. (is_leaf x ≡ true) × TreeHolds Q x) t
+leaves-known Q (atom p a) h = tt
+leaves-known Q (leaf p y c) h = ((refl, h), tt)
+leaves-known Q (pair p a d) h = each_both (λ x. (is_leaf x ≡ true) × TreeHolds Q x) (leaves a) (leaves d) (leaves-known Q a h.0) (leaves-known Q d h.1)
+leaves-known Q (vector p d) h = leaves-known Q d h
+
+some-known : (Q : Tree → Type 0) (refs : List Reference) (ls : List Tree) → AreSome (leaves_of refs) ls → Each Q ls → Each (λ (r : Reference). Q r.leaf) refs
+some-known Q [] ls h k = tt
+some-known Q (r ∷ refs) [] h k = elim h [ ]
+some-known Q (r ∷ refs) (l ∷ ls) (taken h) k = (k.0, some-known Q refs ls h k.1)
+some-known Q (r ∷ refs) (l ∷ ls) (passed h) k = some-known Q (r ∷ refs) ls h k.1
 
 -- the template of a quasi form
 abbrev pub QuasiTemplateHolds : (LeafContext → Type 0) → QuasiForm → Type 0
@@ -101,20 +103,25 @@ module _ (libs : List LibName) (own : LibName) (core : Among libs library.Core) 
   Q n c = HasKnownEvents libs own n c
 
   -- the pattern variables of a template are taken
-  pub template-kept : (s u : State) (level : ℕ) (t : Tree) (refs : List Reference) → TreeHolds (Q s.names.number) t → s.names.number ≤ u.names.number → u.frames ≡ s.frames → Each (IsPatternVariable s level t) refs → Each (Kept libs own core new u) refs
-  template-kept s u level t refs g up same h = each_mapped (IsPatternVariable s level t) (Kept libs own core new u) one refs h
+  pub template-kept : (s u : State) (level : ℕ) (t : Tree) (x : PlainTemplate) (refs : List Reference) → TreeHolds (Q s.names.number) t → s.names.number ≤ u.names.number → u.frames ≡ s.frames → IsTemplate s level t x refs → Each (Kept libs own core new u) refs
+  template-kept s u level t x refs g up same h = all refs h.variables (some-known Known refs (leaves t) h.places (leaves-known (Q s.names.number) t g))
     where
-      one : (r : Reference) → IsPatternVariable s level t r → Kept libs own core new u r
-      one r k =
-          let leafy = leaf-leafy t r.leaf k.leaf in
-          record {
-            leafy = leafy;
-            known = subst (λ (v : State). TreeHolds (Q v.names.number) r.leaf) (sym k.state) (leaf-known (Q s.names.number) t r.leaf g k.leaf);
-            code = inr (level, (k.depth, (k.place, (subst (λ (v : State). bound_to v.bindings r.label ≡ Some (binding.PatternVariable level k.depth)) (sym k.state) k.bound, k.code))));
-            stood = subst (λ (v : State). stands v.frames r.leaf ≡ Some r.label) (sym k.state) k.stood;
-            before = subst (λ (v : State). v.names.number ≤ u.names.number) (sym k.state) up;
-            now = ap (λ (fs : Scope). stands fs r.leaf) same ∙ k.stood;
-          }
+      Known : Tree → Type 0
+      Known y = (is_leaf y ≡ true) × TreeHolds (Q s.names.number) y
+
+      one : (r : Reference) → IsPatternVariable s level r → Known r.leaf → Kept libs own core new u r
+      one r k there = record {
+        leafy = there.0;
+        known = subst (λ (v : State). TreeHolds (Q v.names.number) r.leaf) (sym k.state) there.1;
+        code = inr (level, (k.depth, (k.place, (subst (λ (v : State). bound_to v.bindings r.label ≡ Some (binding.PatternVariable level k.depth)) (sym k.state) k.bound, k.code))));
+        stood = subst (λ (v : State). stands v.frames r.leaf ≡ Some r.label) (sym k.state) k.stood;
+        before = subst (λ (v : State). v.names.number ≤ u.names.number) (sym k.state) up;
+        now = ap (λ (fs : Scope). stands fs r.leaf) same ∙ k.stood;
+      }
+
+      all : (rs : List Reference) → Each (IsPatternVariable s level) rs → Each (λ (r : Reference). Known r.leaf) rs → Each (Kept libs own core new u) rs
+      all [] v k = tt
+      all (r ∷ rs) v k = (one r v.0 k.0, all rs v.1 k.1)
 
   -- what the code of a quasi form is, and the pattern variables in it
   pub record Coded (place : Span) (level : ℕ) (t : Tree) (q : QuasiForm) (cs : List PlainCore) (s : State) (c : PlainCore) (u : State) : Type 0 where
@@ -157,7 +164,7 @@ module _ (libs : List LibName) (own : LibName) (core : Among libs library.Core) 
           references = k.1.1.0;
           is = has_inserts some a.1 b.1 (subst (λ (y : State). template ≡ Ok (x, y)) k.1.0 k.0) k.1.1.1;
           all = match-named vs x (place_of t place) cs k.1.1.0 k.1.1.1.all;
-          kept = template-kept w (cut (length s.scope) w) level operand k.1.1.0 known (omega arith) refl k.1.1.1.variables;
+          kept = template-kept w (cut (length s.scope) w) level operand x k.1.1.0 known (omega arith) refl k.1.1.1;
         })))))
 
     plain-coded : (d : ℕ) (q : QuasiSyntax) (cs : List PlainCore) (s : State) → q.inserts ≡ [] → TreeHolds (Q s.names.number) q.template → length cs ≡ 0
@@ -171,7 +178,7 @@ module _ (libs : List LibName) (own : LibName) (core : Among libs library.Core) 
           references = k.1.1.0;
           is = has_no_insert none (subst (λ (y : State). template ≡ Ok (x, y)) k.1.0 k.0) k.1.1.1;
           all = k.1.1.1.all ∙ ap (λ (ds : List PlainCore). all_namings (cores ds) ++ named k.1.1.0) (sym (no-cores cs e));
-          kept = template-kept s s level q.template k.1.1.0 g (omega arith) refl k.1.1.1.variables;
+          kept = template-kept s s level q.template x k.1.1.0 g (omega arith) refl k.1.1.1;
         }))
 
     pub code-coded : (d : ℕ) (q : QuasiForm) (cs : List PlainCore) (s : State) → F s → QuasiTemplateHolds (Q s.names.number) q → Each IsLow (parts_of t d q) → length cs ≡ length (parts_of t d q) → Gave (Coded place level t q cs s) (code_of place level t q cs s)

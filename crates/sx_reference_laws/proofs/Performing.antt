@@ -368,7 +368,7 @@ module _ (libs : List LibName) (own : LibName) (core : Among libs library.Core) 
         noted = of_references refs;
         is = is_template shaped made is;
         all = is.all;
-        kept = template-kept libs own core new s s level operand refs (operand-known place t operand s g shaped) (omega arith) refl is.variables;
+        kept = template-kept libs own core new s s level operand x refs (operand-known place t operand s g shaped) (omega arith) refl is;
         expressions = tt;
         told = λ l d e. inl e;
       }

@@ -1,5 +1,5 @@
 -- The identifiers of a template: each of its pattern variables is an identifier of the form that stands for it, and its other identifiers are left as they are.
-use Rattle.std.specs.Prelude.{◌≡◌, ◌⊎◌, ℕ, List, Some}
+use Rattle.std.specs.Prelude.{◌≡◌, ◌⊎◌, ℕ, List, [], ◌∷◌, ◌++◌, Some}
 use Rattle.sx_base.specs.declared.span.Span.{Span}
 use Rattle.sx_tree.specs.Context.{LeafContext}
 use Rattle.sx_tree.specs.Tree.{Tree, atom, leaf, pair, vector}
@@ -14,12 +14,22 @@ use Rattle.sx_value.specs.Cells.{Each}
 use Rattle.sx_reference_laws.specs.Namings.{template_namings}
 use Rattle.sx_reference_laws.specs.Noted.{Reference, named}
 
--- it is a leaf of this tree
-abbrev pub IsLeafOf : Tree → Tree → Type 0
-IsLeafOf (atom p a) x = ⊥
-IsLeafOf (leaf p y c) x = x ≡ leaf p y c
-IsLeafOf (pair p a d) x = IsLeafOf a x ⊎ IsLeafOf d x
-IsLeafOf (vector p d) x = IsLeafOf d x
+-- the leaves of a tree, from left to right
+abbrev pub leaves : Tree → List Tree
+leaves (atom p a) = []
+leaves (leaf p x c) = leaf p x c ∷ []
+leaves (pair p a d) = leaves a ++ leaves d
+leaves (vector p d) = leaves d
+
+-- some of these, in the order in which they stand
+pub data AreSome : List Tree → List Tree → Type 0 where
+  no_more : AreSome [] []
+  taken : {x : Tree} {xs ys : List Tree} → AreSome xs ys → AreSome (x ∷ xs) (x ∷ ys)
+  passed : {y : Tree} {xs ys : List Tree} → AreSome xs ys → AreSome xs (y ∷ ys)
+
+abbrev pub leaves_of : List Reference → List Tree
+leaves_of [] = []
+leaves_of (r ∷ rs) = r.leaf ∷ leaves_of rs
 
 -- a leaf of this tree has the symbol and the context
 abbrev pub HasIdentifier : Tree → List ℕ → LeafContext → Type 0
@@ -48,9 +58,8 @@ module _ (Q : List ℕ → LeafContext → Type 0) where
     ItemConstantsHold template.none = Unit {0}
     ItemConstantsHold (template.more t e is) = ConstantsHold t × ItemConstantsHold is
 
--- A leaf of the form that stands for a pattern variable of this level, and is the template that has no more than the variable.
-pub record IsPatternVariable (s : State) (level : ℕ) (t : Tree) (r : Reference) : Type 0 where
-  pub leaf : IsLeafOf t r.leaf
+-- A leaf that stands for a pattern variable of this level, and is the template that has no more than the variable.
+pub record IsPatternVariable (s : State) (level : ℕ) (r : Reference) : Type 0 where
   pub state : r.state ≡ s
   pub stood : stands s.frames r.leaf ≡ Some r.label
   pub depth : ℕ
@@ -58,9 +67,10 @@ pub record IsPatternVariable (s : State) (level : ℕ) (t : Tree) (r : Reference
   pub place : Span
   pub code : r.code ≡ instance (template.variable r.label depth) place
 
--- A template of a form: its pattern variables are those that these leaves of the form stand for, in the order of their places, and all other identifiers
--- in it are identifiers of the form as they are.
+-- A template of a form: its pattern variables are those that these leaves of the form stand for, in the order in which they stand there, and all other
+-- identifiers in it are identifiers of the form as they are.
 pub record IsTemplate (s : State) (level : ℕ) (t : Tree) (x : PlainTemplate) (refs : List Reference) : Type 0 where
   pub all : template_namings x ≡ named refs
-  pub variables : Each (IsPatternVariable s level t) refs
+  pub variables : Each (IsPatternVariable s level) refs
+  pub places : AreSome (leaves_of refs) (leaves t)
   pub constants : ConstantsHold (HasIdentifier t) x
