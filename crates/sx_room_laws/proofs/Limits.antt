@@ -1,5 +1,5 @@
 -- 600 forms may stand round a form, and no more.
-use Rattle.std.proofs.Common.{◌≡◌, ◌<◌, ◌≤◌, ℕ, zero, suc, ◌+◌, Bool, true, false, List, [], ◌∷◌, length, Option, None, Result, Ok, Err, refl, sym, ◌∙◌, ap, subst, if◌then◌else◌, arith}
+use Rattle.std.proofs.Common.{◌≡◌, ◌<◌, ◌≤◌, ℕ, zero, suc, ◌+◌, true, false, List, [], ◌∷◌, length, Option, None, Result, Ok, Err, refl, ◌∙◌, ap, if◌then◌else◌, arith}
 use Rattle.std.specs.Prelude.{nat_lt}
 use Rattle.std.proofs.lemmas.Bool.Decides.{nat_tests}
 use Rattle.sx_base.specs.Act.{after, give, each}
@@ -7,24 +7,19 @@ use Rattle.sx_base.specs.declared.atom.Atom.{Atom}
 use Rattle.sx_base.specs.declared.fault.Fault.{Fault}
 use Rattle.sx_base.specs.declared.fault.FaultKind.TheVariants as kind
 use Rattle.sx_base.specs.declared.span.Span.{Span}
-use Rattle.sx_tree.specs.Tree.{Tree, atom, leaf, pair, vector, nil}
+use Rattle.sx_tree.specs.Tree.{Tree, atom, pair, nil}
 use Rattle.sx_tree.specs.Leaves.{strip}
 use Rattle.sx_core.specs.Core.{PlainCore, quoted}
-use Rattle.sx_core.specs.declared.core_form.CoreForm.TheVariants as core_forms
 use Rattle.sx_core.specs.declared.record.LibRecord.{LibRecord}
 use Rattle.sx_shapes.specs.At.{place_of}
 use Rattle.sx_shapes.specs.Forms.{shaped, shape_of, shape}
-use Rattle.sx_shapes.specs.Lists.{is_leaf, is_nil_atom}
+use Rattle.sx_shapes.specs.Lists.{is_nil_atom}
 use Rattle.sx_standing.specs.Standing.{standing_of, role_of}
 use Rattle.sx_standing.specs.State.{State, fault_form}
-use Rattle.sx_standing.specs.declared.standing.Standing.{Standing}
-use Rattle.sx_standing.specs.declared.standing.Standing.TheVariants as standing
 use Rattle.sx_heads.specs.Depth.{deeper}
 use Rattle.sx_heads.specs.Plan.{application, by_head, constant, keyword_plan, list_plan, plan_of, shape_plan}
 use Rattle.sx_heads.specs.declared.plan.Plan.{Plan}
 use Rattle.sx_heads.specs.declared.plan.Plan.TheVariants as plans
-use Rattle.sx_heads.specs.declared.taken.BodyAt.{BodyAt}
-use Rattle.sx_heads.specs.declared.taken.Taken.{Taken}
 use Rattle.sx_expand.specs.Body.{sequence_of}
 use Rattle.sx_expand.specs.Expanding.{expression}
 use Rattle.sx_expand.specs.Expression.{in_sequence, perform, perform_settled, form_at, inside}

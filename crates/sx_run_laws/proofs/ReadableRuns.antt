@@ -54,7 +54,6 @@ use Rattle.sx_text_laws.proofs.Closed.{text-known}
 use Rattle.sx_tree.specs.Tree.{Tree}
 use Rattle.sx_value.specs.Cells.{Each}
 use Rattle.sx_run_laws.specs.Readable.{IsReadablePrelude, RunsAreReadable, ConstantsAreRead, TextsAreReadBack, TextsTellTheirLines}
-use Rattle.sx_run_laws.specs.Run.{IsRun}
 use Rattle.sx_run_laws.specs.Spelled.{run_lines, GivesText}
 use Rattle.sx_run_laws.proofs.ClosedLemmas.{all_standing}
 use Rattle.sx_run_laws.proofs.ReadableData.{Ds, text-data, library-body, program-body, trees-hold}

@@ -35,7 +35,7 @@
 //!
 //! More stand in modules of their own: `by_name`, that the text is closed and bound once by the names in it; `follow`,
 //! that the records follow one another; `memory`, that want of memory hides no other cause; `spelled`, that the text is spelled by the
-//! grammar of core text, and read back; `readable`, that each constant in it can be read; `hygiene`, that each record is hygienic; and
+//! grammar of core text; `readable`, that each constant in it, and the whole text, is read back; `hygiene`, that each record is hygienic; and
 //! `stuck`, that no run ends with the fault of cells that don't fit.
 //!
 //! Nothing is computed here: each function stands for the law that it ensures.
