@@ -54,13 +54,13 @@ use Rattle.sx_text_laws.proofs.Closed.{text-known}
 use Rattle.sx_tree.specs.Tree.{Tree}
 use Rattle.sx_value.specs.Cells.{Each}
 use Rattle.sx_run_laws.specs.Readable.{IsReadablePrelude, RunsAreReadable, ConstantsAreRead, TextsAreReadBack, TextsTellTheirLines}
-use Rattle.sx_run_laws.specs.Spelled.{run_lines, GivesText}
+use Rattle.sx_run_laws.specs.Spelled.{run_lines, GivesText, CanAllBeRead}
 use Rattle.sx_run_laws.proofs.ClosedLemmas.{all_standing}
 use Rattle.sx_run_laws.proofs.ReadableData.{Ds, text-data, library-body, program-body, trees-hold}
 use Rattle.sx_run_laws.proofs.ReadableGiven.{prelude-readable, derived-readable}
 use Rattle.sx_run_laws.proofs.RunLemmas.{all_records_stand}
 use Rattle.sx_run_laws.proofs.SpelledLines.{text-lines}
-use Rattle.sx_run_laws.proofs.SpelledRuns.{CanAllBeRead, core-text}
+use Rattle.sx_run_laws.proofs.SpelledRuns.{core-text}
 use Rattle.sx_run_laws.proofs.UserLemmas.{Nothing, Closes, users_file}
 
 -- What is loaded.
