@@ -14,7 +14,7 @@
 //! can be read, and so can the constants in the records before and in the codes of texts, so can those in all core code that its expansion
 //! makes, and in the library's record.
 //!
-//! Nothing is said of the size of integers, as in sx_readable_laws.
+//! Integers have at most 128 bits, as sx_readable_laws says.
 //!
 //! Here are no calls to make: each function stands for the law that it ensures.
 #![tactic(auto)]
