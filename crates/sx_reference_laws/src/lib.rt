@@ -42,6 +42,7 @@ ghost use Rattle.sx_reference_laws.specs.Captured.{CapturesAreHygienic};
 ghost use Rattle.sx_reference_laws.specs.Introduced.{UsesIntroduceTheRest};
 ghost use Rattle.sx_reference_laws.specs.Records.{RecordsAreHygienic};
 ghost use Rattle.sx_reference_laws.specs.Reference.{ReferencesAreHygienic};
+ghost use Rattle.sx_reference_laws.specs.Single.{RelationHasOneAnswer};
 ghost use Rattle.sx_reference_laws.specs.Whole.{FormsAreHygienic};
 
 /// The binder that captures an identifier of an expansion was introduced by uses that introduced this, or captures it in the template.
@@ -67,4 +68,9 @@ pub fn forms_are_hygienic()
 /// So are those of a library's record.
 pub fn records_are_hygienic()
     ensures { RecordsAreHygienic }
+{}
+
+/// The relation gives one core code, one state and one list of references for a form in a state.
+pub fn relation_has_one_answer()
+    ensures { RelationHasOneAnswer }
 {}
