@@ -12,12 +12,12 @@
 //! a form so. The expression of a keyword is a form one level up, with nothing in scope: wherever one is bound, in a body or
 //! round expressions, the relation has the expression, the code that was kept, and the references in it. A template has its
 //! pattern variables from identifiers, as code has its references (`specs/Templates`), and they stand in one list with these, by the
-//! places of what names them (`specs/Namings`). `specs/Single` says that the relation has one answer: nothing in it is left to choose.
-//! `specs/Whole` says that expansion
-//! gives what is so related to the form, that its references name what these identifiers stood for when they were taken and
-//! stand for to the end, and that the two sentences of Dybvig, Hieb and Bruggeman (1992) hold of each: a reference that a use
-//! introduces is captured by no binder but one that the same use introduced or that captured it in the transformer's template, and a
-//! binder that a use introduces captures no references but those that the same use introduced. Of a keyword's expression it says so
+//! places of what names them (`specs/Namings`). `specs/Single` says that the relation has one answer: nothing in it is left to
+//! choose. `specs/Whole` says that expansion gives what is so related to the form, that its references name what these
+//! identifiers stood for when they were taken and stand for to the end, and that the two sentences of Dybvig, Hieb and Bruggeman
+//! (1992) hold of each: a reference that a use introduces is captured by no binder but one that the same use introduced or that
+//! captured it in the transformer's template, and a binder that a use introduces captures no references but those that the same
+//! use introduced. Of a keyword's expression it says so
 //! to the end of the expression: a definition behind it may bind an identifier that it has, as in
 //!
 //! ```scheme
