@@ -263,9 +263,9 @@ module _ (rs : List LibRecord) where
     one-form (settles {v = v} {d = d} e p) (settles {v = v'} {d = d'} e' p') = one-plan p (plan-from (d, v) (d', v') (ok-same (d, v) (d', v') (sym e ∙ e')) p')
 
     one-plan : {place : Span} {level : ℕ} {t : Tree} {p : Plan} {s u v : State} {c d : PlainCore} {x y : Noted} → Performs rs place level t p s c u x → Performs rs place level t p s d v y → Same c d u v x y
-    one-plan (refers a b r) h = done-same (done-of rs (refers a b r)) (done-of rs h)
-    one-plan (is_done a b) h = done-same (done-of rs (is_done a b)) (done-of rs h)
-    one-plan (is_template a b i) h = done-same (done-of rs (is_template a b i)) (done-of rs h)
+    one-plan (refers {place = place} {level = level} {t = t} {s = s} {l = l} {c = c} a b r) h = done-same (done-of rs (refers {place = place} {level = level} {t = t} {s = s} {l = l} {c = c} a b r)) (done-of rs h)
+    one-plan (is_done {place = place} {level = level} {t = t} {s = s} {c = c} a b) h = done-same (done-of rs (is_done {place = place} {level = level} {t = t} {s = s} {c = c} a b)) (done-of rs h)
+    one-plan (is_template {place = place} {level = level} {t = t} {operand = operand} {s = s} {x = x} {refs = refs} a b i) h = done-same (done-of rs (is_template {place = place} {level = level} {t = t} {operand = operand} {s = s} {x = x} {refs = refs} a b i)) (done-of rs h)
     one-plan (calls a b) (calls a' b') =
         let x = one-form a a' in
         let y = one-forms b (forms-from refl x.1.0 b') in
