@@ -188,7 +188,7 @@ some-joined [] ws no_more k = k
 some-joined (y ∷ ys) ws (taken h) k = taken (some-joined ys ws h k)
 some-joined (y ∷ ys) ws (passed h) k = passed (some-joined ys ws h k)
 
--- others stand before them, or behind
+-- others stand before them
 some-behind : {xs : List Tree} (ys ws : List Tree) → AreSome xs ws → AreSome xs (ys ++ ws)
 some-behind [] ws h = h
 some-behind (y ∷ ys) ws h = passed (some-behind ys ws h)
