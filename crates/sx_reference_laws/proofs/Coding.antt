@@ -103,23 +103,23 @@ module _ (libs : List LibName) (own : LibName) (core : Among libs library.Core) 
   Q n c = HasKnownEvents libs own n c
 
   -- the pattern variables of a template are taken
-  pub template-kept : (s u : State) (level : ℕ) (t : Tree) (x : PlainTemplate) (refs : List Reference) → TreeHolds (Q s.names.number) t → s.names.number ≤ u.names.number → u.frames ≡ s.frames → IsTemplate s level t x refs → Each (Kept libs own core new u) refs
-  template-kept s u level t x refs g up same h = all refs h.variables (some-known Known refs (leaves t) h.places (leaves-known (Q s.names.number) t g))
+  pub template-kept : (s u : State) (place : Span) (level : ℕ) (t : Tree) (x : PlainTemplate) (refs : List Reference) → TreeHolds (Q s.names.number) t → s.names.number ≤ u.names.number → u.frames ≡ s.frames → IsTemplate s place level t x refs → Each (Kept libs own core new u) refs
+  template-kept s u place level t x refs g up same h = all refs h.variables (some-known Known refs (leaves t) h.places (leaves-known (Q s.names.number) t g))
     where
       Known : Tree → Type 0
       Known y = (is_leaf y ≡ true) × TreeHolds (Q s.names.number) y
 
-      one : (r : Reference) → IsPatternVariable s level r → Known r.leaf → Kept libs own core new u r
+      one : (r : Reference) → IsPatternVariable s place level r → Known r.leaf → Kept libs own core new u r
       one r k there = record {
         leafy = there.0;
         known = subst (λ (v : State). TreeHolds (Q v.names.number) r.leaf) (sym k.state) there.1;
-        code = inr (level, (k.depth, (k.place, (subst (λ (v : State). bound_to v.bindings r.label ≡ Some (binding.PatternVariable level k.depth)) (sym k.state) k.bound, k.code))));
+        code = inr (level, (k.depth, (place, (subst (λ (v : State). bound_to v.bindings r.label ≡ Some (binding.PatternVariable level k.depth)) (sym k.state) k.bound, k.code))));
         stood = subst (λ (v : State). stands v.frames r.leaf ≡ Some r.label) (sym k.state) k.stood;
         before = subst (λ (v : State). v.names.number ≤ u.names.number) (sym k.state) up;
         now = ap (λ (fs : Scope). stands fs r.leaf) same ∙ k.stood;
       }
 
-      all : (rs : List Reference) → Each (IsPatternVariable s level) rs → Each (λ (r : Reference). Known r.leaf) rs → Each (Kept libs own core new u) rs
+      all : (rs : List Reference) → Each (IsPatternVariable s place level) rs → Each (λ (r : Reference). Known r.leaf) rs → Each (Kept libs own core new u) rs
       all [] v k = tt
       all (r ∷ rs) v k = (one r v.0 k.0, all rs v.1 k.1)
 
@@ -158,13 +158,13 @@ module _ (libs : List LibName) (own : LibName) (core : Among libs library.Core) 
         (alive.frames (s.names.number + 1) w.names.number f up (standing.frame-made own (K libs own core new) (J libs own core new) (P libs own core new) alive first s h))
         (standing.tree-up own (K libs own core new) (J libs own core new) (P libs own core new) alive first s.names.number w.names.number (omega (arith, up)) q.template g) in
         let template = template_of place level operand w in
-        gave-after (λ x y. (template ≡ Ok (x, y)) × TemplateNames level operand w x y) So template (λ x. give (match_of vs x (place_of t place) cs))
-        (gave-both (λ x y. template ≡ Ok (x, y)) (TemplateNames level operand w) template (gave-is template) (template-of-names place level operand w))
+        gave-after (λ x y. (template ≡ Ok (x, y)) × TemplateNames place level operand w x y) So template (λ x. give (match_of vs x (place_of t place) cs))
+        (gave-both (λ x y. template ≡ Ok (x, y)) (TemplateNames place level operand w) template (gave-is template) (template-of-names place level operand w))
         (λ x y k. subst (λ (y : State). So (match_of vs x (place_of t place) cs) y) (sym k.1.0) (record {
           references = k.1.1.0;
           is = has_inserts some a.1 b.1 (subst (λ (y : State). template ≡ Ok (x, y)) k.1.0 k.0) k.1.1.1;
           all = match-named vs x (place_of t place) cs k.1.1.0 k.1.1.1.all;
-          kept = template-kept w (cut (length s.scope) w) level operand x k.1.1.0 known (omega arith) refl k.1.1.1;
+          kept = template-kept w (cut (length s.scope) w) place level operand x k.1.1.0 known (omega arith) refl k.1.1.1;
         })))))
 
     plain-coded : (d : ℕ) (q : QuasiSyntax) (cs : List PlainCore) (s : State) → q.inserts ≡ [] → TreeHolds (Q s.names.number) q.template → length cs ≡ 0
@@ -172,13 +172,13 @@ module _ (libs : List LibName) (own : LibName) (core : Among libs library.Core) 
     plain-coded d q cs s none g e =
         let template = template_of place level q.template s in
         let So : PlainCore → State → Type 0 = Coded place level t (forms.Syntax q) cs s in
-        gave-after (λ x y. (template ≡ Ok (x, y)) × TemplateNames level q.template s x y) So template (λ x. give (instance x (place_of t place)))
-        (gave-both (λ x y. template ≡ Ok (x, y)) (TemplateNames level q.template s) template (gave-is template) (template-of-names place level q.template s))
+        gave-after (λ x y. (template ≡ Ok (x, y)) × TemplateNames place level q.template s x y) So template (λ x. give (instance x (place_of t place)))
+        (gave-both (λ x y. template ≡ Ok (x, y)) (TemplateNames place level q.template s) template (gave-is template) (template-of-names place level q.template s))
         (λ x y k. subst (λ (y : State). So (instance x (place_of t place)) y) (sym k.1.0) (record {
           references = k.1.1.0;
           is = has_no_insert none (subst (λ (y : State). template ≡ Ok (x, y)) k.1.0 k.0) k.1.1.1;
           all = k.1.1.1.all ∙ ap (λ (ds : List PlainCore). all_namings (cores ds) ++ named k.1.1.0) (sym (no-cores cs e));
-          kept = template-kept s s level q.template x k.1.1.0 g (omega arith) refl k.1.1.1;
+          kept = template-kept s s place level q.template x k.1.1.0 g (omega arith) refl k.1.1.1;
         }))
 
     pub code-coded : (d : ℕ) (q : QuasiForm) (cs : List PlainCore) (s : State) → F s → QuasiTemplateHolds (Q s.names.number) q → Each IsLow (parts_of t d q) → length cs ≡ length (parts_of t d q) → Gave (Coded place level t q cs s) (code_of place level t q cs s)

@@ -1,13 +1,18 @@
--- What the code of a plan of `quasiquote` names, its parts name.
-use Rattle.std.proofs.Common.{◌≡◌, ◌≤◌, ◌+◌, ℕ, Bool, true, false, List, [], ◌∷◌, ◌++◌, length, refl, sym, ap, ◌∙◌, subst, arith, append-nil, append_assoc, length-append, true≢false, if◌then◌else◌}
+-- What the code of a plan of `quasiquote` names, its parts name, and these are the expressions in it.
+use Rattle.std.proofs.Common.{◌≡◌, ◌≤◌, ◌+◌, ℕ, Bool, true, false, List, [], ◌∷◌, ◌++◌, map, length, refl, sym, ap, ◌∙◌, subst, arith, append-nil, append_assoc, length-append, true≢false, if◌then◌else◌}
 use Rattle.std.specs.Prelude.{nat_lt}
 use Rattle.sx_tree.specs.Tree.{Tree}
 use Rattle.sx_core.specs.Core.{PlainCore, cores}
 use Rattle.sx_reference_laws.specs.Namings.{namings, all_namings}
+use Rattle.sx_reference_laws.specs.Parts.{expressions_in, all_expressions, inserted_expressions, expressions_of}
 use Rattle.sx_quasi.specs.Plan as quasi
 use Rattle.sx_quasi.specs.Plan.{PlainQuasi, PlainQuasis, constant, expression, none, more}
 use Rattle.sx_quasi_code.specs.Filled.{next_code, filled, all_filled}
-use Rattle.sx_quasi_code.specs.Parts.{part, with_made, quasi_parts, all_quasi_parts}
+use Rattle.sx_quasi.specs.declared.quasi_syntax.Insert.{Insert}
+use Rattle.sx_quasi_code.specs.Form.{parts_of}
+use Rattle.sx_quasi_code.specs.Parts.{part, with_made, quasi_parts, all_quasi_parts, insert_part, inserts_parts}
+use Rattle.sx_quasi_code.specs.declared.form.QuasiForm.{QuasiForm}
+use Rattle.sx_quasi_code.specs.declared.form.QuasiForm.TheVariants as quasi_forms
 use Rattle.sx_quasi_code.specs.declared.parts.Part.{Part}
 use Rattle.sx_heads.specs.Depth.{deeper}
 use Rattle.sx_value.specs.Cells.{Each}
@@ -65,6 +70,45 @@ mutual
       let others = all-counted t d (quasi_parts t d done q) qs h in
       let one = quasi-counted t d done q others.low in
       record { low = one.low; all = let x = others.all in let y = one.all in omega (arith, x, y) }
+
+-- So the parts are the expressions in the form.
+
+abbrev pub forms_of : List Part → List Tree
+forms_of ps = map (λ (p : Part). p.form) ps
+
+forms-joined : (ps qs : List Part) → forms_of (ps ++ qs) ≡ forms_of ps ++ forms_of qs
+forms-joined [] qs = refl
+forms-joined (p ∷ ps) qs = ap (λ ts. p.form ∷ ts) (forms-joined ps qs)
+
+mutual
+  quasi-forms : (t : Tree) (d : ℕ) (done : List Part) (q : PlainQuasi) → Each IsLow (quasi_parts t d done q) → forms_of (quasi_parts t d done q) ≡ forms_of done ++ expressions_in q
+  quasi-forms t d done (constant c) h = ap forms_of (made-low t d done h) ∙ sym (append-nil (forms_of done))
+  quasi-forms t d done (expression e) h = forms-joined done (part e d ∷ [])
+  quasi-forms t d done (quasi.call m qs) h =
+      all-forms t (deeper d) (with_made t (deeper d) done) qs h
+      ∙ ap (λ ps. forms_of ps ++ all_expressions qs) (made-low t (deeper d) done (all-counted t (deeper d) (with_made t (deeper d) done) qs h).low)
+
+  all-forms : (t : Tree) (d : ℕ) (done : List Part) (qs : PlainQuasis) → Each IsLow (all_quasi_parts t d done qs) → forms_of (all_quasi_parts t d done qs) ≡ forms_of done ++ all_expressions qs
+  all-forms t d done none h = sym (append-nil (forms_of done))
+  all-forms t d done (more q qs) h =
+      all-forms t d (quasi_parts t d done q) qs h
+      ∙ ap (λ ts. ts ++ all_expressions qs) (quasi-forms t d done q (all-counted t d (quasi_parts t d done q) qs h).low)
+      ∙ append_assoc (forms_of done) (expressions_in q) (all_expressions qs)
+
+inserts-forms : (d : ℕ) (is : List Insert) → forms_of (map (insert_part d) is) ≡ inserted_expressions is
+inserts-forms d [] = refl
+inserts-forms d (i ∷ is) = ap (λ ts. i.expression ∷ ts) (inserts-forms d is)
+
+pub parts-are : (t : Tree) (d : ℕ) (q : QuasiForm) → Each IsLow (parts_of t d q) → forms_of (parts_of t d q) ≡ expressions_of q
+parts-are t d (quasi_forms.Quote q) h = quasi-forms t d [] q h
+parts-are t d (quasi_forms.Syntax q) h = by q.inserts h
+  where
+    by : (is : List Insert) → Each IsLow (inserts_parts t d is) → forms_of (inserts_parts t d is) ≡ inserted_expressions is
+    by [] k = ap forms_of (made-low t d [] k)
+    by (i ∷ is) k =
+        let e = deeper (deeper d) in
+        let those : List Part = map (insert_part e) (i ∷ is) in
+        ap (λ ps. forms_of (ps ++ those)) (made-low t e [] (each-first (with_made t e []) those k)) ∙ inserts-forms e (i ∷ is)
 
 -- The code takes the codes in order, and all of them.
 

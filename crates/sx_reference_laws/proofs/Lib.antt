@@ -1,6 +1,8 @@
 pub mod Capturing
 pub mod Referring
 pub mod Introducing
+pub mod Shaping
+pub mod Depths
 pub mod Settling
 pub mod SettlingItems
 pub mod Naming
@@ -13,3 +15,4 @@ pub mod Coding
 pub mod Performing
 pub mod Wholly
 pub mod Recording
+pub mod Answering

@@ -71,13 +71,13 @@ use Rattle.sx_fresh_expansion_laws.proofs.Plans as plan
 use Rattle.sx_fresh_expansion_laws.proofs.Settled as settled
 use Rattle.sx_fresh_expansion_laws.proofs.Shapes.{FormalsHold, LambdaHolds, PatternCaseHolds, ShapeHolds, shape-holds}
 use Rattle.sx_fresh_expansion_laws.proofs.Standing as standing
-use Rattle.sx_reference_laws.specs.Expands.{counted, Expands, settles, Performs, refers, is_done, is_template, Codes, calls, tests, chooses, assigns, follows, makes, makes_cases, matches_one, has_keywords, fills, Expand, Fill, no_part, part, Binds, Bind, Match}
+use Rattle.sx_reference_laws.specs.Expands.{counted, Expands, settles, Performs, refers, is_done, is_template, Codes, calls, tests, chooses, assigns, follows, makes, makes_cases, matches_one, has_keywords, fills, Expand, none, more, Binds, Bind, Match}
 use Rattle.sx_reference_laws.specs.Expands.{Means, BindsKeywords, Takes, takes, Acts, is_taken, takes_forms, defines_keyword, takes_among, Take}
 use Rattle.sx_reference_laws.specs.Namings.{Naming, names_variable, namings, all_namings, case_namings, clause_namings}
 use Rattle.sx_reference_laws.specs.Noted.{Reference, Noted, only, of_references, both, named}
 use Rattle.sx_reference_laws.specs.Templates.{IsTemplate}
 use Rattle.sx_reference_laws.proofs.Coding.{QuasiTemplateHolds, template-kept, Coded, code-coded}
-use Rattle.sx_reference_laws.proofs.Filling.{IsLow}
+use Rattle.sx_reference_laws.proofs.Filling.{IsLow, forms_of, parts-are}
 use Rattle.sx_reference_laws.proofs.Settling.{IsTarget, Plans, Settles, settle-so}
 use Rattle.sx_reference_laws.proofs.SettlingItems.{settled-item-holds}
 use Rattle.sx_reference_laws.proofs.Staying as staying
@@ -132,18 +132,18 @@ module _ (libs : List LibName) (own : LibName) (core : Among libs library.Core) 
     PlanMade place level t p s c u = walking.PlanMade libs own core new rs place level t p s c u
 
     -- the expansion of a form that is a target's
-    target-kept : (place : Span) (t : Tree) (l : Label) (value : Tree) (s u : State) → T s.names.number t → Went s u → (k : IsTarget place t l value s) → Kept u (record { leaf = k.1.0; state = s; label = l; code = variable l })
+    target-kept : (place : Span) (t : Tree) (l : Label) (value : Tree) (s u : State) → T s.names.number t → Went s u → (k : IsTarget place t l value s) → Kept u (record { leaf = k.0; state = s; label = l; code = variable l })
     target-kept place t l value s u g w k = record {
-      leafy = leaf-stands k.1.0 s l k.1.1.1;
+      leafy = leaf-stands k.0 s l k.1.1;
       known = known;
       code = inl (inl refl);
-      stood = k.1.1.1;
+      stood = k.1.1;
       before = w.from.stage.up;
-      now = staying.stays libs own core new s.names.number s u (omega arith) w.later k.1.0 known ∙ k.1.1.1;
+      now = staying.stays libs own core new s.names.number s u (omega arith) w.later k.0 known ∙ k.1.1;
     }
       where
-        known : T s.names.number k.1.0
-        known = (subst (OkHolds (ShapeHolds (P s.names.number))) k.1.1.0 (shape-holds (P s.names.number) k.0 t place g)).0
+        known : T s.names.number k.0
+        known = (subst (OkHolds (ShapeHolds (P s.names.number))) k.1.0 (shape-holds (P s.names.number) core_forms.Set t place g)).0
 
     module _ (first : ℕ) (held : RecordsHold (P first) rs) (room : ℕ) (traced : walking.Traced libs own core new rs first held room) where
       abbrev F : State → Type 0
@@ -225,10 +225,10 @@ module _ (libs : List LibName) (own : LibName) (core : Among libs library.Core) 
         set-made l value s h g k q =
             gave-after (Goes (FormMade place level value s) s) (PlanMade place level t (plans.Assignment l value) s) (go.form place level depth value s) (λ c. give (assignment l c)) (form-went place level depth value s h k)
             (λ c u z.
-            let r : Reference = record { leaf = q.1.0; state = s; label = l; code = variable l } in
+            let r : Reference = record { leaf = q.0; state = s; label = l; code = variable l } in
             record {
               noted = both (only r) z.1.noted;
-              is = assigns q.0 q.1.1.0 q.1.1.1 z.1.is;
+              is = assigns q.1.0 q.1.1 z.1.is;
               all = ap (λ ns. names_variable l ∷ ns) z.1.all;
               kept = (target-kept place t l value s u g z.0 q, z.1.kept);
               expressions = z.1.expressions;
@@ -338,10 +338,10 @@ module _ (libs : List LibName) (own : LibName) (core : Among libs library.Core) 
             (λ q v z.
             let hv = from-to s v h z.0.0 in
             let ps = parts_of t depth q in
-            gave-after (λ cs w. (Went v w × Made (λ refs. Fill rs place level ps v cs w refs) (all_namings (cores cs)) v w) × AreLow ps cs w) So (parts_in_order go place level ps v) (code_of place level t q)
-            (gave-both (λ cs w. Went v w × Made (λ refs. Fill rs place level ps v cs w refs) (all_namings (cores cs)) v w) (AreLow ps) (parts_in_order go place level ps v)
-            (walking.each-went libs own core new rs first held room traced (part_core go place level) (λ n p. T n p.form) (λ m n le p x. tree-up m n le p.form x) PartMade (λ ps s cs u refs. Fill rs place level ps s cs u refs) namings (λ cs. all_namings (cores cs))
-            (λ s. no_part) (λ p ps s v u c cs refs others i j. part i j) refl (λ c cs. refl) (λ p s h k. form-went place level p.depth p.form s h k) ps v hv
+            gave-after (λ cs w. (Went v w × Made (λ refs. Expand rs place level (forms_of ps) v cs w refs) (all_namings (cores cs)) v w) × AreLow ps cs w) So (parts_in_order go place level ps v) (code_of place level t q)
+            (gave-both (λ cs w. Went v w × Made (λ refs. Expand rs place level (forms_of ps) v cs w refs) (all_namings (cores cs)) v w) (AreLow ps) (parts_in_order go place level ps v)
+            (walking.each-went libs own core new rs first held room traced (part_core go place level) (λ n p. T n p.form) (λ m n le p x. tree-up m n le p.form x) PartMade (λ ps s cs u refs. Expand rs place level (forms_of ps) s cs u refs) namings (λ cs. all_namings (cores cs))
+            (λ s. none) (λ p ps s v u c cs refs others i j. more i j) refl (λ c cs. refl) (λ p s h k. form-went place level p.depth p.form s h k) ps v hv
             (inserts.parts-of-hold own K J P lives first v.names.number t depth q (tree-up s.names.number v.names.number z.0.0.stage.up t k) z.0.1))
             (parts-low ps v))
             (λ cs w y.
@@ -351,7 +351,7 @@ module _ (libs : List LibName) (own : LibName) (core : Among libs library.Core) 
             (gave-both (Coded libs own core new place level t q cs w) (Untold w) code
             (code-coded libs own core new place level t first depth q cs w (goes v w hv y.0.0) (form-up v.names.number w.names.number y.0.0.from.stage.up q z.0.1) y.1.0 y.1.1) (code-told place level t q cs w)))
             (λ c u x.
-            let Filled : Noted → Type 0 = λ refs. Fill rs place level ps v cs w refs in
+            let Filled : Noted → Type 0 = λ refs. Expand rs place level (forms_of ps) v cs w refs in
             let Coding : Noted → Type 0 = λ refs. Codes place level t q cs w c u refs in
             let All : Noted → Type 0 = λ refs. Performs rs place level t (plans.Quasi which template) s c u refs in
             let refs = x.1.0.references in
@@ -359,16 +359,16 @@ module _ (libs : List LibName) (own : LibName) (core : Among libs library.Core) 
             let formed = told-same s v (ap (λ (y : State). y.keywords) (told (λ q v. v ≡ s) made q v (form-same place t which template s) z.1)) in
             let coded : Made Coding (named refs) w u = record { noted = of_references refs; is = x.1.0.is; all = refl; kept = x.1.0.kept; expressions = tt; told = λ l d e. inl (x.1.1 l d e) } in
             staying.made-from libs own core new All All m (namings c) s v u formed
-            (staying.made-joined libs own core new Filled Coding All (all_namings (cores cs)) (named refs) v w u x.0 y.0.1 coded (λ others more i j. fills depth z.1 i j)) (λ refs i. i) x.1.0.all)))
+            (staying.made-joined libs own core new Filled Coding All (all_namings (cores cs)) (named refs) v w u x.0 y.0.1 coded (λ others behind i j. fills z.1 (subst (λ (ts : List Tree). Expand rs place level ts v cs w others) (parts-are t depth q y.1.0) i) j)) (λ refs i. i) x.1.0.all)))
 
       -- the template of a `syntax` form
       syntax-made : (place : Span) (level : ℕ) (t operand : Tree) (x : PlainTemplate) (refs : List Reference) (s : State) → T s.names.number t → shape core_forms.Syntax t place ≡ Ok (shapes.Operand operand)
-          → template_of place level operand s ≡ Ok (x, s) → IsTemplate s level operand x refs → PlanMade place level t (plans.Done (instance x (place_of t place))) s (instance x (place_of t place)) s
+          → template_of place level operand s ≡ Ok (x, s) → IsTemplate s place level operand x refs → PlanMade place level t (plans.Done (instance x (place_of t place))) s (instance x (place_of t place)) s
       syntax-made place level t operand x refs s g shaped made is = record {
         noted = of_references refs;
         is = is_template shaped made is;
         all = is.all;
-        kept = template-kept libs own core new s s level operand x refs (operand-known place t operand s g shaped) (omega arith) refl is;
+        kept = template-kept libs own core new s s place level operand x refs (operand-known place t operand s g shaped) (omega arith) refl is;
         expressions = tt;
         told = λ l d e. inl e;
       }

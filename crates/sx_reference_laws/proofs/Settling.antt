@@ -45,6 +45,7 @@ use Rattle.sx_expand_laws.specs.Named.{RefersTo}
 use Rattle.sx_reference_laws.specs.Namings.{namings}
 use Rattle.sx_reference_laws.specs.Noted.{Reference}
 use Rattle.sx_reference_laws.specs.Templates.{IsTemplate}
+use Rattle.sx_reference_laws.proofs.Shaping.{set-only}
 use Rattle.sx_reference_laws.proofs.Templating.{TemplateNames, template-of-names}
 use Rattle.sx_expand_laws.proofs.Acts.{Gave, gave-any, gave-both, gave-after, gave-less, gave-if}
 use Rattle.sx_expand_laws.proofs.Named.{assignments-named}
@@ -107,11 +108,11 @@ pub record IsSyntax (place : Span) (level : ℕ) (t : Tree) (c : PlainCore) (u :
   pub template : PlainTemplate
   pub made : template_of place level operand u ≡ Ok (template, u)
   pub references : List Reference
-  pub is : IsTemplate u level operand template references
+  pub is : IsTemplate u place level operand template references
   pub code : c ≡ instance template (place_of t place)
 
 abbrev pub IsTarget : Span → Tree → Label → Tree → State → Type 0
-IsTarget place t l value u = (f : CoreForm) × ((id : Tree) × ((shape f t place ≡ Ok (shapes.Set id value)) × (stands u.frames id ≡ Some l)))
+IsTarget place t l value u = (id : Tree) × ((shape core_forms.Set t place ≡ Ok (shapes.Set id value)) × (stands u.frames id ≡ Some l))
 
 abbrev pub Plans : ℕ → Span → Tree → Plan → State → Type 0
 Plans level place t (plans.Done c) u = IsReference t c u ⊎ (IsConstant t c ⊎ IsSyntax place level t c u)
@@ -153,7 +154,7 @@ module _ (place : Span) (level : ℕ) (t : Tree) (compound : is_leaf t ≡ false
 
   assign-by : (f : CoreForm) (id value : Tree) → shape f t place ≡ Ok (shapes.Set id value) → (st : Standing) → Gave (Assigned id) (target_by place level t id st s) → Gave Right (assign_by place level t id value st s)
   assign-by f id value e standing.Nothing h = tt
-  assign-by f id value e (standing.Variable v) h = gave-after (Assigned id) Right (target_by place level t id (standing.Variable v) s) (assign_to value) h (λ l u k. (f, (id, (e, k))))
+  assign-by f id value e (standing.Variable v) h = gave-after (Assigned id) Right (target_by place level t id (standing.Variable v) s) (assign_to value) h (λ l u k. (id, (set-only f t place id value e, k)))
   assign-by f id value e standing.PatternVariable h = tt
   assign-by f id value e (standing.Primitive op) h = tt
   assign-by f id value e (standing.Core g) h = tt
@@ -165,8 +166,8 @@ module _ (place : Span) (level : ℕ) (t : Tree) (compound : is_leaf t ≡ false
 
   syntax-so : (operand : Tree) → shape core_forms.Syntax t place ≡ Ok (shapes.Operand operand) → Gave Right (after (template_of place level operand s) (λ x. give (plans.Done (instance x (place_of t place)))))
   syntax-so operand e =
-      gave-after (λ x u. (template_of place level operand s ≡ Ok (x, u)) × TemplateNames level operand s x u) Right (template_of place level operand s) (λ x. give (plans.Done (instance x (place_of t place))))
-      (gave-both (λ x u. template_of place level operand s ≡ Ok (x, u)) (TemplateNames level operand s) (template_of place level operand s) (gave-told (λ x u. template_of place level operand s ≡ Ok (x, u)) (template_of place level operand s) (λ x u i. i))
+      gave-after (λ x u. (template_of place level operand s ≡ Ok (x, u)) × TemplateNames place level operand s x u) Right (template_of place level operand s) (λ x. give (plans.Done (instance x (place_of t place))))
+      (gave-both (λ x u. template_of place level operand s ≡ Ok (x, u)) (TemplateNames place level operand s) (template_of place level operand s) (gave-told (λ x u. template_of place level operand s ≡ Ok (x, u)) (template_of place level operand s) (λ x u i. i))
       (template-of-names place level operand s))
       (λ x u k. subst (λ (v : State). Right (plans.Done (instance x (place_of t place))) v) (sym k.1.0) (inr (inr (record {
         operand = operand;

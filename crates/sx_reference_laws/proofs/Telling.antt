@@ -81,7 +81,7 @@ same-is-told s r h = gave-less (Same s) (Untold s) r h (λ a u e. told-same s u 
 -- Templates.
 
 template-told : (place : Span) (level : ℕ) (t : Tree) (s : State) → Gave (Untold s) (template_of place level t s)
-template-told place level t s = gave-less (TemplateNames level t s) (Untold s) (template_of place level t s) (template-of-names place level t s) (λ x u k. told-same s u (ap (λ (v : State). v.keywords) k.0))
+template-told place level t s = gave-less (TemplateNames place level t s) (Untold s) (template_of place level t s) (template-of-names place level t s) (λ x u k. told-same s u (ap (λ (v : State). v.keywords) k.0))
 
 -- Plans.
 

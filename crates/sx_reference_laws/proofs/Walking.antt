@@ -263,17 +263,17 @@ module _ (libs : List LibName) (own : LibName) (core : Among libs library.Core) 
         -- Lines of a body.
 
         abbrev pub LineMade : ℕ → Waiting → State → Line → State → Type 0
-        LineMade level w s x u = Made (λ refs. Ends rs level w s (record { line = x; noted = refs }) u) (line-said x) s u
+        LineMade level w s x u = Made (λ refs. Ends rs level w.place w.what s (record { line = x; noted = refs }) u) (line-said x) s u
 
         abbrev ValueMade : Span → ℕ → ℕ → Label → Option Tree → State → PlainCore → State → Type 0
         ValueMade place level depth l o s c u = LineMade level (record { place = place; depth = depth; what = waits.Variable l o }) s (line.Define l c) u
 
         value-made : (place : Span) (level depth : ℕ) (l : Label) (o : Option Tree) (s : State) → F s → OptionHolds (T s.names.number) o → Gave (ValueMade place level depth l o s) (value_of go place level (deeper depth) o s)
         value-made place level depth l None s h k =
-            staying.made-none libs own core new (λ refs. Ends rs level (record { place = place; depth = depth; what = waits.Variable l None }) s (record { line = line.Define l no_value; noted = refs }) s) [] s s declares refl (told-self s)
+            staying.made-none libs own core new (λ refs. Ends rs level place (waits.Variable l None) s (record { line = line.Define l no_value; noted = refs }) s) [] s s declares refl (told-self s)
         value-made place level depth l (Some t) s h k =
             gave-less (FormMade place level t s) (ValueMade place level depth l (Some t) s) (go.form place level (deeper depth) t s) (traced.form place level (deeper depth) t s h k)
-            (λ c u z. staying.made-so libs own core new (λ refs. Expands rs place level t s c u refs) (λ refs. Ends rs level (record { place = place; depth = depth; what = waits.Variable l (Some t) }) s (record { line = line.Define l c; noted = refs }) u) (namings c) (namings c) s u z (λ refs i. defines i) refl)
+            (λ c u z. staying.made-so libs own core new (λ refs. Expands rs place level t s c u refs) (λ refs. Ends rs level place (waits.Variable l (Some t)) s (record { line = line.Define l c; noted = refs }) u) (namings c) (namings c) s u z (λ refs i. defines i) refl)
 
         line-made : (level : ℕ) (place : Span) (depth : ℕ) (w : Waits) (s : State) → F s → WaitsHold (P s.names.number) w → Gave (LineMade level (record { place = place; depth = depth; what = w }) s) (finish_as go level place depth w s)
         unfolding finish_as fresh
@@ -283,11 +283,11 @@ module _ (libs : List LibName) (own : LibName) (core : Among libs library.Core) 
             (traced.procedure place level (deeper depth) t ids fs (counted s) (counted-at s h) (items.formals-up own K J P lives first s.names.number (s.names.number + 1) (one-more s) ids k.1.0) (trees-up s.names.number (s.names.number + 1) (one-more s) fs k.1.1))
             (λ c u z.
             let code = procedure (record { 0 = s.names }) (cases (c ∷ [])) true in
-            staying.made-from libs own core new (λ refs. Binds rs place level t ids fs (counted s) c u refs) (λ refs. Ends rs level (record { place = place; depth = depth; what = waits.Procedure l t ids fs }) s (record { line = line.Define l code; noted = refs }) u)
+            staying.made-from libs own core new (λ refs. Binds rs place level t ids fs (counted s) c u refs) (λ refs. Ends rs level place (waits.Procedure l t ids fs) s (record { line = line.Define l code; noted = refs }) u)
             (namings c.body) (namings code) s (counted s) u (told-self s) z (λ refs i. defines_procedure i) (append-nil (namings c.body)))
         line-made level place depth (waits.Expression t) s h k =
             gave-after (FormMade place level t s) (LineMade level (record { place = place; depth = depth; what = waits.Expression t }) s) (go.form place level depth t s) (λ c. give (line.Expr c)) (traced.form place level depth t s h k)
-            (λ c u z. staying.made-so libs own core new (λ refs. Expands rs place level t s c u refs) (λ refs. Ends rs level (record { place = place; depth = depth; what = waits.Expression t }) s (record { line = line.Expr c; noted = refs }) u) (namings c) (namings c) s u z (λ refs i. is_expression i) refl)
+            (λ c u z. staying.made-so libs own core new (λ refs. Expands rs place level t s c u refs) (λ refs. Ends rs level place (waits.Expression t) s (record { line = line.Expr c; noted = refs }) u) (namings c) (namings c) s u z (λ refs i. is_expression i) refl)
 
         pub line-went : (level : ℕ) (w : Waiting) (s : State) → F s → WaitsHold (P s.names.number) w.what → Gave (Goes (LineMade level w s) s) (finish_one go level w s)
         line-went level w s h k =

@@ -13,7 +13,6 @@ use Rattle.sx_core.specs.Template.{PlainTemplate}
 use Rattle.sx_core.specs.declared.code.Clause.{Clause}
 use Rattle.sx_core.specs.declared.code.Init.{Init}
 use Rattle.sx_core.specs.declared.code.Lambda.{Lambda}
-use Rattle.sx_core.specs.declared.core_form.CoreForm.{CoreForm}
 use Rattle.sx_core.specs.declared.core_form.CoreForm.TheVariants as core_forms
 use Rattle.sx_core.specs.declared.formals.Formals.{Formals}
 use Rattle.sx_core.specs.declared.record.LibRecord.{LibRecord}
@@ -28,7 +27,6 @@ use Rattle.sx_quasi_code.specs.Filled.{filled}
 use Rattle.sx_quasi_code.specs.Inserted.{insert_variables, match_of, bind_inserts}
 use Rattle.sx_quasi_code.specs.declared.form.QuasiForm.{QuasiForm}
 use Rattle.sx_quasi_code.specs.declared.form.QuasiForm.TheVariants as quasi_forms
-use Rattle.sx_quasi_code.specs.declared.parts.Part.{Part}
 use Rattle.sx_shapes.specs.At.{place_of}
 use Rattle.sx_shapes.specs.Forms.{shape}
 use Rattle.sx_shapes.specs.Lists.{is_leaf}
@@ -52,6 +50,7 @@ use Rattle.sx_heads.specs.declared.plan.Plan.TheVariants as plans
 use Rattle.sx_heads.specs.declared.taken.BodyAt.{BodyAt}
 use Rattle.sx_heads.specs.declared.taken.Taken.{Taken}
 use Rattle.sx_heads.specs.declared.taken.Waiting.{Waiting}
+use Rattle.sx_heads.specs.declared.taken.Waits.{Waits}
 use Rattle.sx_heads.specs.declared.taken.Waits.TheVariants as waits
 use Rattle.sx_expand.specs.Body.{no_value, sequence_of, body_core, lambda_at}
 use Rattle.sx_expand.specs.Keywords.{seen_in}
@@ -61,21 +60,22 @@ use Rattle.sx_expand.specs.declared.settle.SettledItem.{SettledItem}
 use Rattle.sx_expand_laws.specs.Named.{RefersTo}
 use Rattle.sx_reference_laws.specs.Namings.{namings}
 use Rattle.sx_reference_laws.specs.Noted.{Reference, Expression, Noted, nothing, only, of_references, of_keywords, both, Told, lines, of_body}
+use Rattle.sx_reference_laws.specs.Parts.{expressions_of}
 use Rattle.sx_reference_laws.specs.Templates.{IsTemplate}
 
 -- the state with the next name taken
 abbrev pub counted : State → State
 counted s = record s { names = record { library = s.names.library; number = s.names.number + 1 } }
 
--- The code of a quasi form, whose parts have these codes. A template with inserts stands in a frame of its own, in which the inserts are pattern variables.
+-- The code of a quasi form, whose expressions have these codes. A template with inserts stands in a frame of its own, in which the inserts are pattern variables.
 pub data Codes : Span → ℕ → Tree → QuasiForm → List PlainCore → State → PlainCore → State → Noted → Type 0 where
   quotes : {place : Span} {level : ℕ} {t : Tree} {q : PlainQuasi} {cs : List PlainCore} {s : State} → Codes place level t (quasi_forms.Quote q) cs s (filled q cs).0 s nothing
   has_no_insert : {place : Span} {level : ℕ} {t : Tree} {q : QuasiSyntax} {cs : List PlainCore} {s : State} {x : PlainTemplate} {refs : List Reference}
-      → q.inserts ≡ [] → template_of place level q.template s ≡ Ok (x, s) → IsTemplate s level q.template x refs
+      → q.inserts ≡ [] → template_of place level q.template s ≡ Ok (x, s) → IsTemplate s place level q.template x refs
       → Codes place level t (quasi_forms.Syntax q) cs s (instance x (place_of t place)) s (of_references refs)
   has_inserts : {place : Span} {level : ℕ} {t : Tree} {q : QuasiSyntax} {cs : List PlainCore} {s v w : State} {vs : List PatternVariable} {e : Unit {0}} {x : PlainTemplate} {refs : List Reference}
       → (q.inserts ≡ [] → ⊥) → insert_variables q.inserts (counted s) ≡ Ok (vs, v) → bind_inserts (record { 0 = s.names }) place level vs v ≡ Ok (e, w)
-      → template_of place level (stamp (record { 0 = s.names }) q.template) w ≡ Ok (x, w) → IsTemplate w level (stamp (record { 0 = s.names }) q.template) x refs
+      → template_of place level (stamp (record { 0 = s.names }) q.template) w ≡ Ok (x, w) → IsTemplate w place level (stamp (record { 0 = s.names }) q.template) x refs
       → Codes place level t (quasi_forms.Syntax q) cs s (match_of vs x (place_of t place) cs) (cut (length s.scope) w) (of_references refs)
 
 mutual
@@ -94,7 +94,7 @@ mutual
         → is_leaf t ≡ false → namings c ≡ [] → Performs rs place level t (plans.Done c) s c s nothing
     -- each pattern variable of a template was an identifier that stands for it
     is_template : {place : Span} {level : ℕ} {t operand : Tree} {s : State} {x : PlainTemplate} {refs : List Reference}
-        → shape core_forms.Syntax t place ≡ Ok (shapes.Operand operand) → template_of place level operand s ≡ Ok (x, s) → IsTemplate s level operand x refs
+        → shape core_forms.Syntax t place ≡ Ok (shapes.Operand operand) → template_of place level operand s ≡ Ok (x, s) → IsTemplate s place level operand x refs
         → Performs rs place level t (plans.Done (instance x (place_of t place))) s (instance x (place_of t place)) s (of_references refs)
     calls : {place : Span} {level : ℕ} {t operator : Tree} {operands : List Tree} {s v u : State} {c : PlainCore} {cs : List PlainCore} {refs more : Noted}
         → Expands rs place level operator s c v refs → Expand rs place level operands v cs u more
@@ -106,7 +106,7 @@ mutual
         → Expands rs place level test s c v refs → Expands rs place level consequent v d w more → Expands rs place level other w e u last
         → Performs rs place level t (plans.Conditional test consequent (Some other)) s (two_armed c d e) u (both refs (both more last))
     assigns : {place : Span} {level : ℕ} {t id value : Tree} {s u : State} {l : Label} {c : PlainCore} {refs : Noted}
-        → (f : CoreForm) → shape f t place ≡ Ok (shapes.Set id value) → stands s.frames id ≡ Some l → Expands rs place level value s c u refs
+        → shape core_forms.Set t place ≡ Ok (shapes.Set id value) → stands s.frames id ≡ Some l → Expands rs place level value s c u refs
         → Performs rs place level t (plans.Assignment l value) s (assignment l c) u (both (only (record { leaf = id; state = s; label = l; code = variable l })) refs)
     follows : {place : Span} {level : ℕ} {t : Tree} {forms : List Tree} {s u : State} {cs : List PlainCore} {refs : Noted}
         → Expand rs place level forms s cs u refs → Performs rs place level t (plans.Sequence forms) s (sequence_of cs) u refs
@@ -128,9 +128,9 @@ mutual
     has_keywords : {place : Span} {level : ℕ} {t : Tree} {recursive : Bool} {bs : List BindingSpec} {forms stamped : List Tree} {s v u : State} {es : List Expression} {cs : List PlainCore} {refs : Noted}
         → BindsKeywords rs place level recursive bs forms s stamped v es → Expand rs place level stamped v cs u refs
         → Performs rs place level t (plans.Keywords recursive bs forms) s (sequence_of cs) u (both (of_keywords es) refs)
-    -- all variables in the code are those of the parts, and all pattern variables behind them those of the template
+    -- all variables in the code are those of the expressions in the form, and all pattern variables behind them those of the template
     fills : {place : Span} {level : ℕ} {t template : Tree} {which : Family} {s v w u : State} {q : QuasiForm} {c : PlainCore} {cs : List PlainCore} {refs others : Noted}
-        → (depth : ℕ) → quasi.form_of place t which template s ≡ Ok (q, v) → Fill rs place level (quasi.parts_of t depth q) v cs w refs → Codes place level t q cs w c u others
+        → quasi.form_of place t which template s ≡ Ok (q, v) → Expand rs place level (expressions_of q) v cs w refs → Codes place level t q cs w c u others
         → Performs rs place level t (plans.Quasi which template) s c u (both refs others)
 
   -- forms, one after another
@@ -138,11 +138,6 @@ mutual
     none : {place : Span} {level : ℕ} {s : State} → Expand rs place level [] s [] s nothing
     more : {place : Span} {level : ℕ} {t : Tree} {ts : List Tree} {s v u : State} {c : PlainCore} {cs : List PlainCore} {refs others : Noted}
         → Expands rs place level t s c v refs → Expand rs place level ts v cs u others → Expand rs place level (t ∷ ts) s (c ∷ cs) u (both refs others)
-
-  pub data Fill (rs : List LibRecord) : Span → ℕ → List Part → State → List PlainCore → State → Noted → Type 0 where
-    no_part : {place : Span} {level : ℕ} {s : State} → Fill rs place level [] s [] s nothing
-    part : {place : Span} {level : ℕ} {p : Part} {ps : List Part} {s v u : State} {c : PlainCore} {cs : List PlainCore} {refs others : Noted}
-        → Expands rs place level p.form s c v refs → Fill rs place level ps v cs u others → Fill rs place level (p ∷ ps) s (c ∷ cs) u (both refs others)
 
   -- a case of a procedure: its formals are bound in a new frame, which is stamped on its body
   pub data Binds (rs : List LibRecord) : Span → ℕ → Tree → FormalIds → List Tree → State → Lambda → State → Noted → Type 0 where
@@ -231,15 +226,15 @@ mutual
   pub data Finish (rs : List LibRecord) : ℕ → List Waiting → State → List Told → State → Type 0 where
     no_line : {level : ℕ} {s : State} → Finish rs level [] s [] s
     next_line : {level : ℕ} {w : Waiting} {ws : List Waiting} {s v u : State} {x : Told} {xs : List Told}
-        → Ends rs level w s x v → Finish rs level ws v xs u → Finish rs level (w ∷ ws) s (x ∷ xs) u
+        → Ends rs level w.place w.what s x v → Finish rs level ws v xs u → Finish rs level (w ∷ ws) s (x ∷ xs) u
 
-  -- what waits becomes a line
-  pub data Ends (rs : List LibRecord) : ℕ → Waiting → State → Told → State → Type 0 where
-    declares : {level depth : ℕ} {place : Span} {s : State} {l : Label} → Ends rs level (record { place = place; depth = depth; what = waits.Variable l None }) s (record { line = line.Define l no_value; noted = nothing }) s
-    defines : {level depth : ℕ} {place : Span} {t : Tree} {s u : State} {l : Label} {c : PlainCore} {refs : Noted}
-        → Expands rs place level t s c u refs → Ends rs level (record { place = place; depth = depth; what = waits.Variable l (Some t) }) s (record { line = line.Define l c; noted = refs }) u
-    defines_procedure : {level depth : ℕ} {place : Span} {t : Tree} {ids : FormalIds} {forms : List Tree} {s u : State} {l : Label} {c : Lambda} {refs : Noted}
+  -- what waits, at a place, becomes a line
+  pub data Ends (rs : List LibRecord) : ℕ → Span → Waits → State → Told → State → Type 0 where
+    declares : {level : ℕ} {place : Span} {s : State} {l : Label} → Ends rs level place (waits.Variable l None) s (record { line = line.Define l no_value; noted = nothing }) s
+    defines : {level : ℕ} {place : Span} {t : Tree} {s u : State} {l : Label} {c : PlainCore} {refs : Noted}
+        → Expands rs place level t s c u refs → Ends rs level place (waits.Variable l (Some t)) s (record { line = line.Define l c; noted = refs }) u
+    defines_procedure : {level : ℕ} {place : Span} {t : Tree} {ids : FormalIds} {forms : List Tree} {s u : State} {l : Label} {c : Lambda} {refs : Noted}
         → Binds rs place level t ids forms (counted s) c u refs
-        → Ends rs level (record { place = place; depth = depth; what = waits.Procedure l t ids forms }) s (record { line = line.Define l (procedure (record { 0 = s.names }) (cases (c ∷ [])) true); noted = refs }) u
-    is_expression : {level depth : ℕ} {place : Span} {t : Tree} {s u : State} {c : PlainCore} {refs : Noted}
-        → Expands rs place level t s c u refs → Ends rs level (record { place = place; depth = depth; what = waits.Expression t }) s (record { line = line.Expr c; noted = refs }) u
+        → Ends rs level place (waits.Procedure l t ids forms) s (record { line = line.Define l (procedure (record { 0 = s.names }) (cases (c ∷ [])) true); noted = refs }) u
+    is_expression : {level : ℕ} {place : Span} {t : Tree} {s u : State} {c : PlainCore} {refs : Noted}
+        → Expands rs place level t s c u refs → Ends rs level place (waits.Expression t) s (record { line = line.Expr c; noted = refs }) u

@@ -4,6 +4,8 @@ pub mod Introduced
 pub mod Namings
 pub mod Noted
 pub mod Templates
+pub mod Parts
 pub mod Expands
 pub mod Whole
 pub mod Records
+pub mod Single

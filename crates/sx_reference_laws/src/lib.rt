@@ -12,11 +12,12 @@
 //! a form so. The expression of a keyword is a form one level up, with nothing in scope: wherever one is bound, in a body or
 //! round expressions, the relation has the expression, the code that was kept, and the references in it. A template has its
 //! pattern variables from identifiers, as code has its references (`specs/Templates`), and they stand in one list with these, by the
-//! places of what names them (`specs/Namings`). `specs/Whole` says that expansion
-//! gives what is so related to the form, that its references name what these identifiers stood for when they were taken and
-//! stand for to the end, and that the two sentences of Dybvig, Hieb and Bruggeman (1992) hold of each: a reference that a use
-//! introduces is captured by no binder but one that the same use introduced or that captured it in the transformer's template, and a
-//! binder that a use introduces captures no references but those that the same use introduced. Of a keyword's expression it says so
+//! places of what names them (`specs/Namings`). `specs/Single` says that the relation has one answer: nothing in it is left to
+//! choose. `specs/Whole` says that expansion gives what is so related to the form, that its references name what these
+//! identifiers stood for when they were taken and stand for to the end, and that the two sentences of Dybvig, Hieb and Bruggeman
+//! (1992) hold of each: a reference that a use introduces is captured by no binder but one that the same use introduced or that
+//! captured it in the transformer's template, and a binder that a use introduces captures no references but those that the same
+//! use introduced. Of a keyword's expression it says so
 //! to the end of the expression: a definition behind it may bind an identifier that it has, as in
 //!
 //! ```scheme
@@ -42,6 +43,7 @@ ghost use Rattle.sx_reference_laws.specs.Captured.{CapturesAreHygienic};
 ghost use Rattle.sx_reference_laws.specs.Introduced.{UsesIntroduceTheRest};
 ghost use Rattle.sx_reference_laws.specs.Records.{RecordsAreHygienic};
 ghost use Rattle.sx_reference_laws.specs.Reference.{ReferencesAreHygienic};
+ghost use Rattle.sx_reference_laws.specs.Single.{RelationHasOneAnswer};
 ghost use Rattle.sx_reference_laws.specs.Whole.{FormsAreHygienic};
 
 /// The binder that captures an identifier of an expansion was introduced by uses that introduced this, or captures it in the template.
@@ -67,4 +69,9 @@ pub fn forms_are_hygienic()
 /// So are those of a library's record.
 pub fn records_are_hygienic()
     ensures { RecordsAreHygienic }
+{}
+
+/// The relation gives one core code, one state and one list of references for a form in a state.
+pub fn relation_has_one_answer()
+    ensures { RelationHasOneAnswer }
 {}
