@@ -46,3 +46,4 @@ pub mod PartFits
 pub mod Unstuck
 pub mod HygienicForms
 pub mod HygienicRuns
+pub mod KeptTransformers

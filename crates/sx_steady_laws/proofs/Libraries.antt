@@ -91,10 +91,10 @@ module _ (own : LibName) (records : List LibRecord) (codes : Codes) (texts : Are
   abbrev numbers : List CodeNo
   numbers = map (λ (e : CodeNo × PlainCode). e.0) codes
 
-  texts_only : Each (λ (n : CodeNo). IsOfTexts n.0.library) numbers
+  pub texts_only : Each (λ (n : CodeNo). IsOfTexts n.0.library) numbers
   texts_only = each_of (λ (n : CodeNo). IsOfTexts n.0.library) numbers (λ n a. texts.named n (there_found codes n a))
 
-  started-safe : (imports : List (List ℕ × Label)) → Safe own numbers records (started own records imports codes)
+  pub started-safe : (imports : List (List ℕ × Label)) → Safe own numbers records (started own records imports codes)
   unfolding started
   started-safe imports = record {
     stage = record {
@@ -118,7 +118,7 @@ module _ (own : LibName) (texts : List CodeNo) (rs : List LibRecord) (x : Around
       by None = tt
       by (Some l) = light-self own texts rs s h
 
-  exports-light : (at : TopAt) (es : List (List ℕ × Tree)) (s : State) → Safe own texts rs s → Sure (L own texts rs s) (exports at es s)
+  pub exports-light : (at : TopAt) (es : List (List ℕ × Tree)) (s : State) → Safe own texts rs s → Sure (L own texts rs s) (exports at es s)
   unfolding exports
   exports-light at es s h =
       light own texts rs s (all_exports at es s) (λ ls t. after (export_labels ls t) (λ _. give ls)) (light-each own texts rs (export at) (λ e t k. export-light at e t k) es s h)
