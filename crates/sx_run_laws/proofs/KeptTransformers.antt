@@ -96,7 +96,7 @@ has-procedure cells (value.Syn x) h = (value.Syn x, refl)
 -- ---- whole states, and states that are safe
 
 module _ (own : LibName) (texts : List CodeNo) (rs : List LibRecord) where
-  as-begins : (s : State) → IsWholeState own texts rs s → Begins own (flat_map defined rs) s
+  pub as-begins : (s : State) → IsWholeState own texts rs s → Begins own (flat_map defined rs) s
   as-begins s h = record {
     sound = h.sound;
     level = h.tops;
@@ -107,10 +107,10 @@ module _ (own : LibName) (texts : List CodeNo) (rs : List LibRecord) where
     };
   }
 
-  as-safe : (s : State) → IsWholeState own texts rs s → Safe own texts rs s
+  pub as-safe : (s : State) → IsWholeState own texts rs s → Safe own texts rs s
   as-safe s h = record { stage = h.stage.steady; imported = h.imported; made = h.made }
 
-  is-whole : (s : State) → Around own texts rs → Begins own (flat_map defined rs) s → Safe own texts rs s → IsWholeState own texts rs s
+  pub is-whole : (s : State) → Around own texts rs → Begins own (flat_map defined rs) s → Safe own texts rs s → IsWholeState own texts rs s
   is-whole s x b h = record {
     stage = record { around = x; steady = h.stage };
     sound = b.sound;
@@ -125,7 +125,7 @@ module _ (own : LibName) (texts : List CodeNo) (rs : List LibRecord) where
   goes-whole : (s u : State) → Around own texts rs → Goes own texts rs s u → IsWholeState own texts rs u
   goes-whole s u x g = is-whole u x g.onward.0 g.safe
 
-  stays : {A : Type 0} (s : State) (r : Result (A × State) Fault) → Around own texts rs → Sure (G own texts rs s) r → StaysWhole own texts rs r
+  pub stays : {A : Type 0} (s : State) (r : Result (A × State) Fault) → Around own texts rs → Sure (G own texts rs s) r → StaysWhole own texts rs r
   stays s (Ok p) x g = goes-whole s p.1 x g
   stays s (Err f) x g = g
 
@@ -181,7 +181,7 @@ module _ (own : LibName) (texts : List CodeNo) (rs : List LibRecord) (x : Around
       (λ ls t k. lines-go at d s t ls
       (record { onward = exports-same own (flat_map defined rs) inner holds.spares s t k.1.0 b; safe = k.0.safe; fresh = fresh-same own texts rs s t k.0.keywords }))
 
-  top-goes : (at : TopAt) (es : List (List ℕ × Tree)) (forms : List Tree) (s : State) → B own texts rs s → Safe own texts rs s → Sure (G own texts rs s) (top inner at es forms s)
+  pub top-goes : (at : TopAt) (es : List (List ℕ × Tree)) (forms : List Tree) (s : State) → B own texts rs s → Safe own texts rs s → Sure (G own texts rs s) (top inner at es forms s)
   unfolding top first_pass
   top-goes at es forms s b h =
       sure-after (Takes own texts rs x inner holds s) (G own texts rs s) (splice inner (body_at at s.library) 0 begun (map (stamp at.frame) forms) s) (finished inner at es)

@@ -47,3 +47,4 @@ pub mod Unstuck
 pub mod HygienicForms
 pub mod HygienicRuns
 pub mod KeptTransformers
+pub mod NestedForms

@@ -13,3 +13,4 @@ pub mod Following
 pub mod Stuck
 pub mod Hygienic
 pub mod Transformers
+pub mod Nested

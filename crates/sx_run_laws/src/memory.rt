@@ -27,6 +27,7 @@ ghost use Rattle.sx_run_laws.specs.Expansion.{OwnFramesAreBound, NewLabelsAreUnb
 ghost use Rattle.sx_run_laws.specs.Fitting.{RecordsFit, ExpansionsBegin};
 ghost use Rattle.sx_run_laws.specs.Parts.{PartsFit, PartsBegin, ProgramsBegin, DerivedBegins};
 ghost use Rattle.sx_run_laws.specs.Transformers.{WholeStatesHaveProcedures, UsesFindProcedures, MissingIsStuck, FormsStayWhole, BodiesStayWhole, StartsAreWhole, PartsStartWhole, ProgramsStartWhole, DerivedStartsWhole};
+ghost use Rattle.sx_run_laws.specs.Nested.{FormsBeginWhole, ProceduresBeginWhole, BodiesBeginWhole, ItemsBeginWhole};
 
 /// Expansion binds in frames of its own library alone, and a bind that goes through is no second binder. So the rows of
 /// a record are bound again without a second binder, and it binds no label twice.
@@ -75,4 +76,13 @@ pub fn expansions_begin_whole()
     ensures next { PartsStartWhole }
     ensures programs { ProgramsStartWhole }
     ensures derived { DerivedStartsWhole }
+{}
+
+/// So does what is begun inside a form, a procedure, a body or a form of a body: directly in it, each form begins in a whole state, also before a
+/// fault. There the next name is of no label that is bound, and of the library.
+pub fn nested_forms_begin_whole()
+    ensures forms { FormsBeginWhole }
+    ensures procedures { ProceduresBeginWhole }
+    ensures bodies { BodiesBeginWhole }
+    ensures items { ItemsBeginWhole }
 {}
