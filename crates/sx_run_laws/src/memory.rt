@@ -18,8 +18,14 @@
 //! A run may be at fault in a file that isn't found, or in a form of its third library. What was made before is put down
 //! in the same way, so the same is told of each part of a run, as far as it came.
 //!
-//! A use answers so, too, where the transformer that is kept of its keyword is a variable transformer whose cell isn't there. From a whole
-//! state each form leads to a whole state, in which each kept transformer has its procedure; every expansion of a run begins in one.
+//! A use of a keyword answers so, too, where the kept transformer is a variable transformer whose cell isn't there:
+//!
+//! ```text
+//! (define-syntax v (make-variable-transformer f))    `f` lies in a cell; each use of `v` drops the cells of its own call alone
+//! ```
+//!
+//! From a whole state each form leads to a whole state, in which each transformer that is kept has its procedure, and every expansion of a run
+//! begins in one.
 //!
 //! What is not told here stands in `docs/PROVED.md`.
 
