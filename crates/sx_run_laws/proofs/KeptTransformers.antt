@@ -181,17 +181,17 @@ module _ (own : LibName) (texts : List CodeNo) (rs : List LibRecord) (x : Around
       (λ ls t k. lines-go at d s t ls
       (record { onward = exports-same own (flat_map defined rs) inner holds.spares s t k.1.0 b; safe = k.0.safe; fresh = fresh-same own texts rs s t k.0.keywords }))
 
-  pub top-goes : (at : TopAt) (es : List (List ℕ × Tree)) (forms : List Tree) (s : State) → B own texts rs s → Safe own texts rs s → Sure (G own texts rs s) (top inner at es forms s)
+  pub top-goes : (at : TopAt) (es : List (List ℕ × Tree)) (forms : List Tree) (s : State) → at.frame.0.library ≡ own → B own texts rs s → Safe own texts rs s → Sure (G own texts rs s) (top inner at es forms s)
   unfolding top first_pass
-  top-goes at es forms s b h =
+  top-goes at es forms s mine b h =
       sure-after (Takes own texts rs x inner holds s) (G own texts rs s) (splice inner (body_at at s.library) 0 begun (map (stamp at.frame) forms) s) (finished inner at es)
-      (splice-goes own texts rs x inner holds (body_at at s.library) 0 begun (map (stamp at.frame) forms) s (λ e. refl) b h tt)
+      (splice-goes own texts rs x inner holds (body_at at s.library) 0 begun (map (stamp at.frame) forms) s ((λ e. refl), mine) b h tt)
       (λ d t g. sure-less (G own texts rs t) (G own texts rs s) (finished inner at es d t) (finished-goes at es d t g.0.onward.0 g.0.safe) (λ r u k. goes-then own texts rs s t u g.0 k))
 
 pub bodies-stay-whole : BodiesStayWhole
-bodies-stay-whole own texts rs room at es forms s h =
+bodies-stay-whole own texts rs room at es forms s mine h =
     stays own texts rs s (top (inside rs room) at es forms s) h.stage.around
-    (top-goes own texts rs h.stage.around (inside rs room) (inside-holds own texts rs h.stage.around room) at es forms s (as-begins own texts rs s h) (as-safe own texts rs s h))
+    (top-goes own texts rs h.stage.around (inside rs room) (inside-holds own texts rs h.stage.around room) at es forms s mine (as-begins own texts rs s h) (as-safe own texts rs s h))
 
 -- ---- where an expansion begins
 

@@ -1,5 +1,6 @@
 -- Where a form is begun inside another, the state is whole, also where the other is at fault later.
-use Rattle.std.specs.Prelude.{◌≡◌, ◌<◌, ℕ, Bool, true, List, [], ◌∷◌, Err, if◌then◌else◌}
+use Rattle.std.specs.Prelude.{◌≡◌, ◌<◌, ℕ, Bool, true, List, [], ◌∷◌, ◌&&◌, Err, if◌then◌else◌}
+use Rattle.sx_base.specs.Same.{same_library}
 use Rattle.sx_base.specs.declared.library.LibName.{LibName}
 use Rattle.sx_base.specs.declared.name.CodeNo.{CodeNo}
 use Rattle.sx_base.specs.declared.name.Label.{Label}
@@ -29,13 +30,13 @@ use Rattle.sx_run_laws.specs.Transformers.{HasName, IsKeptWith, IsWholeState, St
 abbrev pub tested : {A : Type 0} → (State → Bool) → Span → Does A → Does A
 tested test place m s = if test s then m s else Err (stuck place)
 
--- what is done inside forms, where each state is tested in which it begins
-abbrev pub checked : (State → Bool) → Inside → Inside
-checked test go = record {
+-- What is done inside forms, where each state is tested in which it begins, and of a form of a body also, whether its frame is of the library.
+abbrev pub checked : LibName → (State → Bool) → Inside → Inside
+checked own test go = record {
   earlier = go.earlier;
   form = λ place level depth t. tested test place (go.form place level depth t);
   procedure = λ place level depth t ids forms. tested test place (go.procedure place level depth t ids forms);
-  item = λ at depth done t. tested test at.place (go.item at depth done t);
+  item = λ at depth done t. tested (λ s. test s && same_library at.frame.0.library own) at.place (go.item at depth done t);
 }
 
 module _ (own : LibName) (texts : List CodeNo) (records : List LibRecord) where
@@ -44,10 +45,10 @@ module _ (own : LibName) (texts : List CodeNo) (records : List LibRecord) where
 
   -- what is done with such a test of all that is begun inside it, from a whole state on
   abbrev pub TestsWhole : {A : Type 0} → (Inside → Does A) → Type 0
-  TestsWhole m = (test : State → Bool) (room : ℕ) (s : State) → PassesWhole test → IsWholeState own texts records s → StaysWhole own texts records (m (checked test (inside records room)) s)
+  TestsWhole m = (test : State → Bool) (room : ℕ) (s : State) → PassesWhole test → IsWholeState own texts records s → StaysWhole own texts records (m (checked own test (inside records room)) s)
 
 -- Whatever form is expanded in a whole state, or procedure that a definition binds: each form, procedure and form of a body that is begun directly
--- inside it, begins in a state that passes any test that whole states pass.
+-- inside it, begins in a state that passes any test that whole states pass, and a form of a body binds in a frame of the library.
 abbrev pub FormsBeginWhole : Type 0
 FormsBeginWhole = (own : LibName) (texts : List CodeNo) (records : List LibRecord) (place : Span) (level depth : ℕ) (t : Tree) → TestsWhole own texts records (λ go. form_at go place level depth t)
 
@@ -57,7 +58,8 @@ ProceduresBeginWhole = (own : LibName) (texts : List CodeNo) (records : List Lib
 
 -- so it is inside the body of a library or program
 abbrev pub BodiesBeginWhole : Type 0
-BodiesBeginWhole = (own : LibName) (texts : List CodeNo) (records : List LibRecord) (at : TopAt) (exports : List (List ℕ × Tree)) (forms : List Tree) → TestsWhole own texts records (λ go. top go at exports forms)
+BodiesBeginWhole = (own : LibName) (texts : List CodeNo) (records : List LibRecord) (at : TopAt) (exports : List (List ℕ × Tree)) (forms : List Tree)
+    → at.frame.0.library ≡ own → TestsWhole own texts records (λ go. top go at exports forms)
 
 -- the labels of the variables of a body that wait for their values
 abbrev pub with_waiting : Waits → List Label → List Label
@@ -77,5 +79,5 @@ pub record IsSpared (own : LibName) (s : State) (l : Label) : Type 0 where
 -- And so it is inside a form of a body, of which so much was taken before.
 abbrev pub ItemsBeginWhole : Type 0
 ItemsBeginWhole = (own : LibName) (texts : List CodeNo) (records : List LibRecord) (at : BodyAt) (depth : ℕ) (done : Taken) (t : Tree) (test : State → Bool) (room : ℕ) (s : State)
-    → (is_top at.kind ≡ true → at.level ≡ 0) → Each (IsSpared own s) (waiting_labels done.waiting) → PassesWhole own texts records test → IsWholeState own texts records s
-    → StaysWhole own texts records (item (checked test (inside records room)) at depth done t s)
+    → at.frame.0.library ≡ own → (is_top at.kind ≡ true → at.level ≡ 0) → Each (IsSpared own s) (waiting_labels done.waiting) → PassesWhole own texts records test → IsWholeState own texts records s
+    → StaysWhole own texts records (item (checked own test (inside records room)) at depth done t s)

@@ -121,10 +121,10 @@ abbrev pub FormsStayWhole : Type 0
 FormsStayWhole = (own : LibName) (texts : List CodeNo) (records : List LibRecord) (room : ℕ) (place : Span) (level depth : ℕ) (t : Tree) (s : State)
     → IsWholeState own texts records s → StaysWhole own texts records ((inside records room).form place level depth t s)
 
--- and whatever the exports and forms of a library or program are
+-- and whatever the exports and forms of a library or program are, whose frame is of the library
 abbrev pub BodiesStayWhole : Type 0
 BodiesStayWhole = (own : LibName) (texts : List CodeNo) (records : List LibRecord) (room : ℕ) (at : TopAt) (exports : List (List ℕ × Tree)) (forms : List Tree) (s : State)
-    → IsWholeState own texts records s → StaysWhole own texts records (top (inside records room) at exports forms s)
+    → at.frame.0.library ≡ own → IsWholeState own texts records s → StaysWhole own texts records (top (inside records room) at exports forms s)
 
 -- ---- where an expansion begins
 

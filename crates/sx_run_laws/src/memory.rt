@@ -84,8 +84,8 @@ pub fn expansions_begin_whole()
     ensures derived { DerivedStartsWhole }
 {}
 
-/// So does what is begun inside a form, a procedure, a body or a form of a body: directly in it, each form begins in a whole state, also before a
-/// fault. There the next name is of no label that is bound, and of the library.
+/// So does what is begun inside a form, a procedure, a body or a form of a body: directly in it, each form begins in a whole state, and a form of
+/// a body with a frame of the library, also before a fault. There the next name is of the library, and of no label that is bound.
 pub fn nested_forms_begin_whole()
     ensures forms { FormsBeginWhole }
     ensures procedures { ProceduresBeginWhole }
