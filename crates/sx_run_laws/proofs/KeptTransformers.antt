@@ -77,12 +77,12 @@ use Rattle.sx_run_laws.specs.Parts.{IsPart}
 
 -- ---- a value that fits has its procedure
 
-found : {A : Type 0} (o : Option A) → IsTrue (is_found o) → (x : A) × (o ≡ Some x)
-found None h = absurd (cc)
-found (Some x) h = (x, refl)
+is-there : {A : Type 0} (o : Option A) → IsTrue (is_found o) → (x : A) × (o ≡ Some x)
+is-there None h = absurd (cc)
+is-there (Some x) h = (x, refl)
 
 has-procedure : (cells : List Cell) (v : Value) → FitsIn cells v → HasProcedure cells v
-has-procedure cells (value.Transformer place) h = found (transformer_in (slice_get cells place.0)) h
+has-procedure cells (value.Transformer place) h = is-there (transformer_in (slice_get cells place.0)) h
 has-procedure cells value.Unspecified h = (value.Unspecified, refl)
 has-procedure cells (value.Atom x) h = (value.Atom x, refl)
 has-procedure cells (value.Symbol x) h = (value.Symbol x, refl)

@@ -57,30 +57,30 @@ both-true true false h k = absurd (cc)
 both-true false b h k = absurd (cc)
 
 module _ (own : LibName) (test : State → Bool) (go : Inside) where
-  abbrev Tried : Inside
-  Tried = checked own test go
+  abbrev tried : Inside
+  tried = checked own test go
 
   -- of a form of a body
-  abbrev placed : BodyAt → State → Bool
-  placed at s = test s && same_library at.frame.0.library own
+  abbrev test-at : BodyAt → State → Bool
+  test-at at s = test s && same_library at.frame.0.library own
 
-  moves-checked : Moves own go → Moves own Tried
+  moves-checked : Moves own go → Moves own tried
   moves-checked k = record {
     form = λ place level depth t s n. gave-tested (λ c u. Later own s u) test place (go.form place level depth t) s (k.form place level depth t s n);
     procedure = λ place level depth t ids forms s n. gave-tested (λ c u. Later own s u) test place (go.procedure place level depth t ids forms) s (k.procedure place level depth t ids forms s n);
-    item = λ at depth d t start s n low w. gave-tested (Takes own at.frame (is_top at.kind) start s) (placed at) at.place (go.item at depth d t) s (k.item at depth d t start s n low w);
+    item = λ at depth d t start s n low w. gave-tested (Takes own at.frame (is_top at.kind) start s) (test-at at) at.place (go.item at depth d t) s (k.item at depth d t start s n low w);
   }
 
-  nests-checked : Nests own go → Nests own Tried
+  nests-checked : Nests own go → Nests own tried
   nests-checked k = record {
     moves = moves-checked k.moves;
     form = λ place level depth t s h. gave-tested (λ c u. Within u.bindings level depth 2404 c) test place (go.form place level depth t) s (k.form place level depth t s h);
     procedure = λ place level depth t ids forms s le h. gave-tested (λ c u. WithinCase u.bindings level depth 2406 c) test place (go.procedure place level depth t ids forms) s (k.procedure place level depth t ids forms s le h);
-    item = λ at base depth d t start s le h low w a. gave-tested (λ e u. AreWaiting at base e u.bindings) (placed at) at.place (go.item at depth d t) s (k.item at base depth d t start s le h low w a);
+    item = λ at base depth d t start s le h low w a. gave-tested (λ e u. AreWaiting at base e u.bindings) (test-at at) at.place (go.item at depth d t) s (k.item at base depth d t start s le h low w a);
   }
 
   module _ (given : List Label) where
-    sounds-checked : Sounds own given go → Sounds own given Tried
+    sounds-checked : Sounds own given go → Sounds own given tried
     sounds-checked k = record {
       moves = moves-checked k.moves;
       nests = nests-checked k.nests;
@@ -88,26 +88,26 @@ module _ (own : LibName) (test : State → Bool) (go : Inside) where
       procedure = λ place level depth t ids forms s vs ls h r. gave-tested (GivesCase own vs ls s) test place (go.procedure place level depth t ids forms) s (k.procedure place level depth t ids forms s vs ls h r);
     }
 
-    spares-checked : Spares own given go → Spares own given Tried
+    spares-checked : Spares own given go → Spares own given tried
     spares-checked k = record {
       safe = sounds-checked k.safe;
       form = λ place level depth t s b. gave-tested (λ c u. Onward own given s u × AwayCore own u c) test place (go.form place level depth t) s (k.form place level depth t s b);
       procedure = λ place level depth t ids forms s b. gave-tested (λ c u. Onward own given s u × AwayCase own u c) test place (go.procedure place level depth t ids forms) s (k.procedure place level depth t ids forms s b);
-      item = λ at depth d t s low b a. gave-tested (λ e u. Onward own given s u × AreUnspent own u (taken_labels e)) (placed at) at.place (go.item at depth d t) s (k.item at depth d t s low b a);
+      item = λ at depth d t s low b a. gave-tested (λ e u. Onward own given s u × AreUnspent own u (taken_labels e)) (test-at at) at.place (go.item at depth d t) s (k.item at depth d t s low b a);
     }
 
   module _ (texts : List CodeNo) (rs : List LibRecord) (passes : (s : State) → B own texts rs s → Safe own texts rs s → test s ≡ true) where
-    places : (at : BodyAt) (s : State) → Placed own at → B own texts rs s → Safe own texts rs s → placed at s ≡ true
-    places at s low b h = both-true (test s) (same_library at.frame.0.library own) (passes s b h) ((same_library_decides at.frame.0.library own).1 low.1)
+    passes-at : (at : BodyAt) (s : State) → Placed own at → B own texts rs s → Safe own texts rs s → test-at at s ≡ true
+    passes-at at s low b h = both-true (test s) (same_library at.frame.0.library own) (passes s b h) ((same_library_decides at.frame.0.library own).1 low.1)
 
-    holds-checked : Holds own texts rs go → Holds own texts rs Tried
+    holds-checked : Holds own texts rs go → Holds own texts rs tried
     holds-checked k = record {
       spares = spares-checked (flat_map defined rs) k.spares;
       earlier = k.earlier;
       form = λ place level depth t s b h. sure-tested (G own texts rs s) test place (go.form place level depth t) s (passes s b h) (k.form place level depth t s b h);
       procedure = λ place level depth t ids forms s b h. sure-tested (G own texts rs s) test place (go.procedure place level depth t ids forms) s (passes s b h) (k.procedure place level depth t ids forms s b h);
       item = λ at depth d t s low b h a.
-          sure-tested (λ e u. Goes own texts rs s u × AreUnspent own u (taken_labels e)) (placed at) at.place (go.item at depth d t) s (places at s low b h) (k.item at depth d t s low b h a);
+          sure-tested (λ e u. Goes own texts rs s u × AreUnspent own u (taken_labels e)) (test-at at) at.place (go.item at depth d t) s (passes-at at s low b h) (k.item at depth d t s low b h a);
     }
 
 -- ---- what waits
