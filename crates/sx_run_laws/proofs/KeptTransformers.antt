@@ -23,13 +23,11 @@ use Rattle.sx_expand.specs.Expression.{inside}
 use Rattle.sx_expand.specs.Inside.{Inside}
 use Rattle.sx_expand.specs.Top.{exports, give_record, body_at, finished, first_pass, top}
 use Rattle.sx_expand.specs.declared.top.TopAt.{TopAt}
-use Rattle.sx_expand_laws.specs.Ready.{IsReady}
 use Rattle.sx_expand_laws.proofs.GoodKeywords.{exports-same, started-begins}
 use Rattle.sx_expand_laws.proofs.Spent.{Begins}
 use Rattle.sx_expand_laws.proofs.Top.{SameScope, AreShown, same-exports}
 use Rattle.sx_heads.specs.Items.{begun}
 use Rattle.sx_heads.specs.declared.taken.Taken.{Taken}
-use Rattle.sx_import.specs.Names.{Labelled}
 use Rattle.sx_library.specs.Loaded.{all_records}
 use Rattle.sx_library.specs.Records.{needed_records}
 use Rattle.sx_load.specs.Load.{load}
@@ -41,7 +39,6 @@ use Rattle.sx_load_laws.proofs.ReferLemmas.{IsSound}
 use Rattle.sx_outside.specs.Contents.{Paths}
 use Rattle.sx_prelude.specs.Prelude.{prelude_table}
 use Rattle.sx_stage.specs.Stage.{PlainStage, fresh_mark, name_after, stuck}
-use Rattle.sx_stage.specs.Transformers.{keyword_value}
 use Rattle.sx_stage.specs.Uses.{procedure_in, call_procedure, read_answer, transform, cut, transform_and_cut, transform_marked, used}
 use Rattle.sx_standing.specs.Start.{started}
 use Rattle.sx_standing.specs.State.{State, stage_of}

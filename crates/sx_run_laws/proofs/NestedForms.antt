@@ -24,7 +24,7 @@ use Rattle.sx_expand_laws.proofs.Nesting.{Within, WithinCase}
 use Rattle.sx_expand_laws.proofs.NestingBodies.{Nests}
 use Rattle.sx_expand_laws.proofs.NestingItems.{AreWaiting}
 use Rattle.sx_expand_laws.proofs.Spares.{Spares, taken_labels}
-use Rattle.sx_expand_laws.proofs.Spent.{Onward, AwayCore, AwayCase, Unspent, AreUnspent}
+use Rattle.sx_expand_laws.proofs.Spent.{Onward, AwayCore, AwayCase, AreUnspent}
 use Rattle.sx_heads.specs.Items.{is_top}
 use Rattle.sx_heads.specs.declared.taken.BodyAt.{BodyAt}
 use Rattle.sx_heads.specs.declared.taken.Waiting.{Waiting}
@@ -40,7 +40,6 @@ use Rattle.sx_steady_laws.proofs.Safe.{Safe, B, Goes, G}
 use Rattle.sx_steady_laws.proofs.Sure.{Sure, sure-less, sure-if}
 use Rattle.sx_stuck_laws.specs.Uses.{Around}
 use Rattle.sx_run_laws.specs.Nested.{tested, checked, PassesWhole, FormsBeginWhole, ProceduresBeginWhole, BodiesBeginWhole, with_waiting, waiting_labels, IsSpared, ItemsBeginWhole}
-use Rattle.sx_run_laws.specs.Transformers.{IsWholeState}
 use Rattle.sx_run_laws.proofs.KeptTransformers.{as-begins, as-safe, is-whole, stays, top-goes}
 
 -- ---- with tests the same is known
