@@ -48,7 +48,7 @@ gave-tested : {A : Type 0} (P : A → State → Type 0) (test : State → Bool) 
 gave-tested P test place m s h = gave-if P (test s) (m s) (Err (stuck place)) (λ e. h) (λ e. tt)
 
 sure-tested : {A : Type 0} (P : A → State → Type 0) (test : State → Bool) (place : Span) (m : Does A) (s : State) → test s ≡ true → Sure P (m s) → Sure P (tested test place m s)
-sure-tested P test place m s yes h = sure-if P (test s) (m s) (Err (stuck place)) (λ e. h) (λ e. let bad : true ≡ false = sym yes ∙ e in absurd (cc))
+sure-tested P test place m s passed h = sure-if P (test s) (m s) (Err (stuck place)) (λ e. h) (λ e. let bad : true ≡ false = sym passed ∙ e in absurd (cc))
 
 both-true : (a b : Bool) → a ≡ true → b ≡ true → (a && b) ≡ true
 both-true true true h k = refl
