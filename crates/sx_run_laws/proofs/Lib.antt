@@ -46,3 +46,5 @@ pub mod PartFits
 pub mod Unstuck
 pub mod HygienicForms
 pub mod HygienicRuns
+pub mod KeptTransformers
+pub mod NestedForms

@@ -48,7 +48,7 @@ before-end [] p x h = absurd (cc)
 before-end (a ∷ xs) zero x h = omega arith
 before-end (a ∷ xs) (suc p) x h = let l = before-end xs p x h in omega (arith, l)
 
-at-next : {A : Type 0} (xs ys : List A) (y : A) → slice_get (xs ++ y ∷ ys) (length xs) ≡ Some y
+pub at-next : {A : Type 0} (xs ys : List A) (y : A) → slice_get (xs ++ y ∷ ys) (length xs) ≡ Some y
 at-next [] ys y = refl
 at-next (x ∷ xs) ys y = at-next xs ys y
 
@@ -153,7 +153,7 @@ module _ (s : Loading) (sound : IsSound s) (users : AllUsers s.done) (d : LibRec
   pub record AreSo (count : ℕ) (records : List LibRecord) : Type 0 where
     pub others : List LibRecord
     pub parts : records ≡ d ∷ others
-    many : length others ≡ count
+    pub many : length others ≡ count
     pub made : AllMadeBehind s d others
     fine : Each IsFine (d ∷ others)
     fit : AllFit [] (d ∷ others)

@@ -101,7 +101,7 @@ module _ (prelude : Result Codes Fault) (read : AreRead prelude) where
         by (Err e) h = stops e.0 e.1 h
 
 -- the texts of the prelude come to the codes that are written out
-texts-read : AreRead prelude_table
+pub texts-read : AreRead prelude_table
 texts-read = subst AreRead (sym table-is-written) written-texts
 
 pub runs-never-stuck : RunsNeverStuck

@@ -12,3 +12,5 @@ pub mod Known
 pub mod Following
 pub mod Stuck
 pub mod Hygienic
+pub mod Transformers
+pub mod Nested

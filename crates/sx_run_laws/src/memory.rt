@@ -18,11 +18,22 @@
 //! A run may be at fault in a file that isn't found, or in a form of its third library. What was made before is put down
 //! in the same way, so the same is told of each part of a run, as far as it came.
 //!
+//! A use of a keyword answers so, too, where the kept transformer is a variable transformer whose cell isn't there:
+//!
+//! ```text
+//! (define-syntax v (make-variable-transformer f))    `f` lies in a cell; each use of `v` drops the cells of its own call alone
+//! ```
+//!
+//! From a whole state each form leads to a whole state, in which each transformer that is kept has its procedure, and every expansion of a run
+//! begins in one.
+//!
 //! What is not told here stands in `docs/PROVED.md`.
 
 ghost use Rattle.sx_run_laws.specs.Expansion.{OwnFramesAreBound, NewLabelsAreUnbound, StartsAreNumbered, RecordsAreOnceOver};
 ghost use Rattle.sx_run_laws.specs.Fitting.{RecordsFit, ExpansionsBegin};
 ghost use Rattle.sx_run_laws.specs.Parts.{PartsFit, PartsBegin, ProgramsBegin, DerivedBegins};
+ghost use Rattle.sx_run_laws.specs.Transformers.{WholeStatesHaveProcedures, UsesFindProcedures, MissingIsStuck, FormsStayWhole, BodiesStayWhole, StartsAreWhole, PartsStartWhole, ProgramsStartWhole, DerivedStartsWhole};
+ghost use Rattle.sx_run_laws.specs.Nested.{FormsBeginWhole, ProceduresBeginWhole, BodiesBeginWhole, ItemsBeginWhole};
 
 /// Expansion binds in frames of its own library alone, and a bind that goes through is no second binder. So the rows of
 /// a record are bound again without a second binder, and it binds no label twice.
@@ -51,4 +62,33 @@ pub fn parts_fit()
     ensures next { PartsBegin }
     ensures programs { ProgramsBegin }
     ensures derived { DerivedBegins }
+{}
+
+/// In a whole state each transformer that is kept has its procedure, a variable transformer in its cell, and so has the one that a use
+/// asks for. A use whose transformer had none would be at fault as one that got stuck. Whatever form, or body of a library or program, is
+/// expanded in such a state, leaves one, or is at fault in another way. So no use that leads there finds no cell.
+pub fn kept_transformers_have_cells()
+    ensures states { WholeStatesHaveProcedures }
+    ensures uses { UsesFindProcedures }
+    ensures missing { MissingIsStuck }
+    ensures forms { FormsStayWhole }
+    ensures bodies { BodiesStayWhole }
+{}
+
+/// Every expansion of a run begins in a whole state: that of the derived library, of each library, and of the program, as far as a run came,
+/// also where it is at fault.
+pub fn expansions_begin_whole()
+    ensures starts { StartsAreWhole }
+    ensures next { PartsStartWhole }
+    ensures programs { ProgramsStartWhole }
+    ensures derived { DerivedStartsWhole }
+{}
+
+/// So does what is begun inside a form, a procedure, a body or a form of a body: directly in it, each form begins in a whole state, and a form of
+/// a body with a frame of the library, also before a fault. There the next name is of the library, and of no label that is bound.
+pub fn nested_forms_begin_whole()
+    ensures forms { FormsBeginWhole }
+    ensures procedures { ProceduresBeginWhole }
+    ensures bodies { BodiesBeginWhole }
+    ensures items { ItemsBeginWhole }
 {}

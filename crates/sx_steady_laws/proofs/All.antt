@@ -109,7 +109,7 @@ module _ (own : LibName) (texts : List CodeNo) (rs : List LibRecord) (x : Around
     performs place level depth t (plans.Use k) = λ s b h. tt
     performs place level depth t (plans.SetUse l id) = λ s b h. tt
 
-    form-goes : (place : Span) (level depth : ℕ) (t : Tree) (s : State) → Bs s → S s → Sure (R s) (form_at inner place level depth t s)
+    pub form-goes : (place : Span) (level depth : ℕ) (t : Tree) (s : State) → Bs s → S s → Sure (R s) (form_at inner place level depth t s)
     unfolding form_at
     form-goes place level depth t s b h =
         sure-if (R s) (nat_lt 600 depth) _ (after (settle inner.earlier place level t s) (perform_settled inner level depth)) (λ e. tt)

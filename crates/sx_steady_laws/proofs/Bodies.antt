@@ -27,7 +27,7 @@ use Rattle.sx_standing.specs.Patterns.{pattern_of, check_literals, bind_pattern}
 use Rattle.sx_standing.specs.State.{State, Does, fresh, fresh_frame}
 use Rattle.sx_standing.specs.declared.binders.BoundSpec.{BoundSpec}
 use Rattle.sx_heads.specs.Depth.{deeper}
-use Rattle.sx_heads.specs.Items.{begun, is_top}
+use Rattle.sx_heads.specs.Items.{begun}
 use Rattle.sx_heads.specs.declared.taken.BodyAt.{BodyAt}
 use Rattle.sx_heads.specs.declared.taken.Taken.{Taken}
 use Rattle.sx_heads.specs.declared.taken.Waiting.{Waiting}
@@ -46,7 +46,7 @@ use Rattle.sx_expand_laws.proofs.Spares.{taken_labels}
 use Rattle.sx_expand_laws.proofs.Uses.{Patterned, pattern-later, literals-later}
 use Rattle.sx_stuck_laws.specs.Uses.{Around}
 use Rattle.sx_steady_laws.proofs.Binders.{formals-light, specs-light, pattern-light, literals-light, bind-pattern-light}
-use Rattle.sx_steady_laws.proofs.Keywords.{Holds, keywords-go}
+use Rattle.sx_steady_laws.proofs.Keywords.{Placed, Holds, keywords-go}
 use Rattle.sx_steady_laws.proofs.Sure.{Sure, sure-after, sure-less, sure-with, sure-if, sure-within, sure-gather}
 use Rattle.sx_steady_laws.proofs.Safe.{Safe, Light, light-then, B, Goes, goes-self, goes-then, goes-light, goes-but, goes-counted, goes-cut, go}
 
@@ -78,11 +78,11 @@ module _ (own : LibName) (texts : List CodeNo) (rs : List LibRecord) (x : Around
       (runs (step z) (λ a t. after (each step [] zs t) (λ ys. give (a ∷ ys))) (one z) (λ a. runs (each step [] zs) (λ ys. give (a ∷ ys)) (each-runs step one zs) (λ ys. gives (a ∷ ys))) s b y)
 
   -- in a new frame
-  framed : {A : Type 0} (k : FrameNo → Does A) → ((f : FrameNo) → Runs (k f)) → (s : State) → Bs s → S s → Sure (R s) (after (fresh_frame s) k)
+  framed : {A : Type 0} (k : FrameNo → Does A) → ((f : FrameNo) → f.0.library ≡ own → Runs (k f)) → (s : State) → Bs s → S s → Sure (R s) (after (fresh_frame s) k)
   unfolding fresh_frame
   framed k h s b y =
       let start = goes-counted own texts rs s b y in
-      sure-less (R (counted s)) (R s) (k (as_frame s.names) (counted s)) (h (as_frame s.names) (counted s) start.onward.0 start.safe) (λ a u g. goes-then own texts rs s (counted s) u start g)
+      sure-less (R (counted s)) (R s) (k (as_frame s.names) (counted s)) (h (as_frame s.names) b.sound.next (counted s) start.onward.0 start.safe) (λ a u g. goes-then own texts rs s (counted s) u start g)
 
   pub within-runs : {A : Type 0} (m : Does A) → Runs m → Runs (within m)
   within-runs m h s b y =
@@ -125,7 +125,7 @@ module _ (own : LibName) (texts : List CodeNo) (rs : List LibRecord) (x : Around
   abbrev pub Takes : State → Taken → State → Type 0
   Takes s e u = Goes own texts rs s u × AreUnspent own u (taken_labels e)
 
-  pub splice-goes : (at : BodyAt) (depth : ℕ) (d : Taken) (forms : List Tree) (s : State) → (is_top at.kind ≡ true → at.level ≡ 0) → Bs s → S s → AreUnspent own s (taken_labels d) → Sure (Takes s) (splice inner at depth d forms s)
+  pub splice-goes : (at : BodyAt) (depth : ℕ) (d : Taken) (forms : List Tree) (s : State) → Placed own at → Bs s → S s → AreUnspent own s (taken_labels d) → Sure (Takes s) (splice inner at depth d forms s)
   splice-goes at depth d forms s low b y k =
       sure-gather (inner.item at depth) (λ e t. Takes s e t)
       (λ e z t h. sure-less (Takes t) (Takes s) (inner.item at depth e z t) (holds.item at depth e z t low h.0.onward.0 h.0.safe h.1) (λ w u j. (goes-then own texts rs s t u h.0 j.0, j.1)))
@@ -167,10 +167,10 @@ module _ (own : LibName) (texts : List CodeNo) (rs : List LibRecord) (x : Around
     unfolding body
     body-runs forms = within-runs (λ s. after (fresh_frame s) (body_in inner place level depth t forms)) (framed (body_in inner place level depth t forms) inside)
       where
-        inside : (f : FrameNo) → Runs (body_in inner place level depth t forms f)
-        inside f s b y =
+        inside : (f : FrameNo) → f.0.library ≡ own → Runs (body_in inner place level depth t forms f)
+        inside f mine s b y =
             sure-after (Takes s) (R s) (splice inner (lambda_at f place level) depth begun (map (stamp f) forms) s) (finish inner place level t)
-            (splice-goes (lambda_at f place level) depth begun (map (stamp f) forms) s (λ e. absurd (cc)) b y tt)
+            (splice-goes (lambda_at f place level) depth begun (map (stamp f) forms) s ((λ e. absurd (cc)), mine) b y tt)
             (λ d u g. sure-less (R u) (R s) (finish inner place level t d u) (finish-runs d u g.0.onward.0 g.0.safe) (λ c v j. goes-then own texts rs s u v g.0 j))
 
     -- Procedures.
@@ -179,8 +179,8 @@ module _ (own : LibName) (texts : List CodeNo) (rs : List LibRecord) (x : Around
     unfolding lambda_case
     case-runs ids forms = within-runs (λ s. after (fresh_frame s) (case_in inner place level depth t ids forms)) (framed (case_in inner place level depth t ids forms) inside)
       where
-        inside : (f : FrameNo) → Runs (case_in inner place level depth t ids forms f)
-        inside f s b y =
+        inside : (f : FrameNo) → f.0.library ≡ own → Runs (case_in inner place level depth t ids forms f)
+        inside f mine s b y =
             go own texts rs s (bind_formals f place level ids s) (λ fs u. after (body inner place level depth t (map (stamp f) forms) u) (λ c. give (record { formals = fs; body = c })))
             (sure-less (λ fs u. Light own texts rs s u × BindsAll own f s (formals_labels fs) u) (R s) (bind_formals f place level ids s)
             (sure-with (λ fs u. Light own texts rs s u) (λ fs u. BindsAll own f s (formals_labels fs) u) (bind_formals f place level ids s) (formals-light own texts rs f place level ids s y) (binds-formals own f place level ids s b.sound.next))
@@ -215,8 +215,8 @@ module _ (own : LibName) (texts : List CodeNo) (rs : List LibRecord) (x : Around
     unfolding letrec_form
     letrec-runs star bs forms = within-runs (λ s. after (fresh_frame s) (letrec_in inner place level depth t star bs forms)) (framed (letrec_in inner place level depth t star bs forms) inside)
       where
-        inside : (f : FrameNo) → Runs (letrec_in inner place level depth t star bs forms f)
-        inside f s b y =
+        inside : (f : FrameNo) → f.0.library ≡ own → Runs (letrec_in inner place level depth t star bs forms f)
+        inside f mine s b y =
             go own texts rs s (bind_specs f place level bs s) (λ ls s'. after (all_inits inner place level depth f ls s') (λ is s''. after (body inner place level depth t (map (stamp f) forms) s'') (λ c. give (letrec star (inits is) c))))
             (sure-less (λ zs u. Light own texts rs s u × BindsAll own f s (map spec_label zs) u) (R s) (bind_specs f place level bs s)
             (sure-with (λ zs u. Light own texts rs s u) (λ zs u. BindsAll own f s (map spec_label zs) u) (bind_specs f place level bs s) (specs-light own texts rs f place level bs s y) (binds-specs own f place level bs s b.sound.next))

@@ -38,7 +38,7 @@ use Rattle.sx_expand_laws.proofs.Spares.{taken_labels}
 use Rattle.sx_expand_laws.proofs.SparesItems.{defined-told, spares-plan, step-spares}
 use Rattle.sx_stuck_laws.specs.Uses.{Around}
 use Rattle.sx_steady_laws.proofs.Bodies.{splice-goes}
-use Rattle.sx_steady_laws.proofs.Keywords.{Holds, keyword-go, keywords-go, one-pended}
+use Rattle.sx_steady_laws.proofs.Keywords.{Placed, Holds, keyword-go, keywords-go, one-pended}
 use Rattle.sx_steady_laws.proofs.OnStage.{Pending, keyword-pends, asks-go, next-go, FreshBut}
 use Rattle.sx_steady_laws.proofs.Plans.{item-light}
 use Rattle.sx_steady_laws.proofs.Sure.{Sure, sure-after, sure-less, sure-with, sure-if}
@@ -55,7 +55,7 @@ module _ (own : LibName) (texts : List CodeNo) (rs : List LibRecord) (x : Around
   W u e = AreUnspent own u (taken_labels e)
 
   abbrev Low : BodyAt → Type 0
-  Low at = is_top at.kind ≡ true → at.level ≡ 0
+  Low at = Placed own at
 
   -- A keyword that a form of a body defines.
 
@@ -80,7 +80,7 @@ module _ (own : LibName) (texts : List CodeNo) (rs : List LibRecord) (x : Around
     defines-go at depth d t b s low h k =
         sure-after (λ y u. Pending own texts rs x s (y ∷ []) u × (BindsKeywords own at.frame s (y ∷ []) u × Tells s.keywords u.keywords)) (G own texts rs s) (define_keyword at d t b s) (keyword inner at.place at.level depth)
         (sure-with (λ y u. Pending own texts rs x s (y ∷ []) u) (λ y u. BindsKeywords own at.frame s (y ∷ []) u × Tells s.keywords u.keywords) (define_keyword at d t b s) (defines at d t b s h k)
-        (gave-both (λ y u. BindsKeywords own at.frame s (y ∷ []) u) (λ y u. Tells s.keywords u.keywords) (define_keyword at d t b s) (defines-keyword own s at s h.sound.next low d t b) (defined-told own (given own texts rs) at low d t b s)))
+        (gave-both (λ y u. BindsKeywords own at.frame s (y ∷ []) u) (λ y u. Tells s.keywords u.keywords) (define_keyword at d t b s) (defines-keyword own s at s h.sound.next low.0 d t b) (defined-told own (given own texts rs) at low.0 d t b s)))
         (λ y u j.
         let o = onward-but own (given own texts rs) at.frame (is_top at.kind) [] [] s u j.1.0.later (j.1.0.adds (is_top at.kind)) j.1.1 h in
         let first = j.0.labels.0 in
@@ -133,7 +133,7 @@ module _ (own : LibName) (texts : List CodeNo) (rs : List LibRecord) (x : Around
     unfolding item_step
     step-left at d t s low b h k =
         sure-after (λ p u. Light own texts rs s u × (Onward own (given own texts rs) s u × W u p.0)) (Left s) (item_plan at depth d t s) (λ p. item_step_of rs at depth t p.0 p.1)
-        (sure-with (λ p u. Light own texts rs s u) (λ p u. Onward own (given own texts rs) s u × W u p.0) (item_plan at depth d t s) (item-light own texts rs at depth d t s h) (spares-plan own (given own texts rs) at low depth d t s b k))
+        (sure-with (λ p u. Light own texts rs s u) (λ p u. Onward own (given own texts rs) s u × W u p.0) (item_plan at depth d t s) (item-light own texts rs at depth d t s h) (spares-plan own (given own texts rs) at low.0 depth d t s b k))
         (λ p u j. sure-less (Left u) (Left s) (item_step_of rs at depth t p.0 p.1 u) (step-of at t p.0 p.1 u j.1.0.0 j.0.safe) (λ q v i. (i.0, then-fresh s u v j.0.keywords j.1.0.1.up i.1)))
       where
         then-fresh : (s u v : State) → u.keywords ≡ s.keywords → s.names.number ≤ u.names.number → Fresh own texts rs u v → Fresh own texts rs s v
@@ -146,7 +146,7 @@ module _ (own : LibName) (texts : List CodeNo) (rs : List LibRecord) (x : Around
     step-goes : (at : BodyAt) (d : Taken) (t : Tree) (s : State) → Low at → Bs s → S s → W s d → Sure (Step s) (item_step rs at depth d t s)
     step-goes at d t s low b h k =
         sure-less (λ p u. (S u × Fresh own texts rs s u) × (Onward own (given own texts rs) s u × W u p.0)) (Step s) (item_step rs at depth d t s)
-        (sure-with (Left s) (λ p u. Onward own (given own texts rs) s u × W u p.0) (item_step rs at depth d t s) (step-left at d t s low b h k) (step-spares own (given own texts rs) rs depth at d t s low b k))
+        (sure-with (Left s) (λ p u. Onward own (given own texts rs) s u × W u p.0) (item_step rs at depth d t s) (step-left at d t s low b h k) (step-spares own (given own texts rs) rs depth at d t s low.0 b k))
         (λ p u j. (record { onward = j.1.0; safe = j.0.0; fresh = j.0.1 }, j.1.1))
 
     -- where the form stands is the same body

@@ -53,13 +53,17 @@ use Rattle.sx_steady_laws.proofs.OnStage.{Pending, keywords-pend, still-free, Fr
 use Rattle.sx_steady_laws.proofs.Sure.{Sure, sure-after, sure-less, sure-with}
 use Rattle.sx_steady_laws.proofs.Safe.{KeptAt, Safe, safe-rest, Fresh, B, given, Goes, goes-self, goes-then, goes-counted, G, go}
 
+-- Where the forms of a body stand: in a frame of the library, and at level 0 where the body is its top.
+abbrev pub Placed : LibName → BodyAt → Type 0
+Placed own at = (is_top at.kind ≡ true → at.level ≡ 0) × (at.frame.0.library ≡ own)
+
 -- What is done inside forms is safe, and spares the names of keywords.
 pub record Holds (own : LibName) (texts : List CodeNo) (rs : List LibRecord) (inner : Inside) : Type 0 where
   pub spares : Spares own (flat_map defined rs) inner
   pub earlier : inner.earlier ≡ rs
   pub form : (place : Span) (level depth : ℕ) (t : Tree) (s : State) → B own texts rs s → Safe own texts rs s → Sure (G own texts rs s) (inner.form place level depth t s)
   pub procedure : (place : Span) (level depth : ℕ) (t : Tree) (ids : FormalIds) (forms : List Tree) (s : State) → B own texts rs s → Safe own texts rs s → Sure (G own texts rs s) (inner.procedure place level depth t ids forms s)
-  pub item : (at : BodyAt) (depth : ℕ) (d : Taken) (t : Tree) (s : State) → (is_top at.kind ≡ true → at.level ≡ 0) → B own texts rs s → Safe own texts rs s → AreUnspent own s (taken_labels d)
+  pub item : (at : BodyAt) (depth : ℕ) (d : Taken) (t : Tree) (s : State) → Placed own at → B own texts rs s → Safe own texts rs s → AreUnspent own s (taken_labels d)
       → Sure (λ e u. Goes own texts rs s u × AreUnspent own u (taken_labels e)) (inner.item at depth d t s)
 
 module _ (own : LibName) (texts : List CodeNo) (rs : List LibRecord) (x : Around own texts rs) (inner : Inside) (holds : Holds own texts rs inner) where

@@ -91,10 +91,10 @@ module _ (own : LibName) (records : List LibRecord) (codes : Codes) (texts : Are
   abbrev numbers : List CodeNo
   numbers = map (λ (e : CodeNo × PlainCode). e.0) codes
 
-  texts_only : Each (λ (n : CodeNo). IsOfTexts n.0.library) numbers
+  pub texts_only : Each (λ (n : CodeNo). IsOfTexts n.0.library) numbers
   texts_only = each_of (λ (n : CodeNo). IsOfTexts n.0.library) numbers (λ n a. texts.named n (there_found codes n a))
 
-  started-safe : (imports : List (List ℕ × Label)) → Safe own numbers records (started own records imports codes)
+  pub started-safe : (imports : List (List ℕ × Label)) → Safe own numbers records (started own records imports codes)
   unfolding started
   started-safe imports = record {
     stage = record {
@@ -118,7 +118,7 @@ module _ (own : LibName) (texts : List CodeNo) (rs : List LibRecord) (x : Around
       by None = tt
       by (Some l) = light-self own texts rs s h
 
-  exports-light : (at : TopAt) (es : List (List ℕ × Tree)) (s : State) → Safe own texts rs s → Sure (L own texts rs s) (exports at es s)
+  pub exports-light : (at : TopAt) (es : List (List ℕ × Tree)) (s : State) → Safe own texts rs s → Sure (L own texts rs s) (exports at es s)
   unfolding exports
   exports-light at es s h =
       light own texts rs s (all_exports at es s) (λ ls t. after (export_labels ls t) (λ _. give ls)) (light-each own texts rs (export at) (λ e t k. export-light at e t k) es s h)
@@ -137,11 +137,11 @@ module _ (own : LibName) (texts : List CodeNo) (rs : List LibRecord) (x : Around
       (λ ls t k. let o = exports-same own (flat_map defined rs) inner holds.spares s t k.1.0 b in
       sure-after (G own texts rs t) Any (finish_all inner 0 d.waiting t) (λ lines. give_record at ls lines) (lines-run own texts rs x inner holds 0 d.waiting t o.0 k.0.safe) (λ lines u g. tt))
 
-  top-fine : (at : TopAt) (es : List (List ℕ × Tree)) (forms : List Tree) (s : State) → B own texts rs s → Safe own texts rs s → Sure Any (top inner at es forms s)
+  top-fine : (at : TopAt) (es : List (List ℕ × Tree)) (forms : List Tree) (s : State) → at.frame.0.library ≡ own → B own texts rs s → Safe own texts rs s → Sure Any (top inner at es forms s)
   unfolding top first_pass
-  top-fine at es forms s b h =
+  top-fine at es forms s mine b h =
       sure-after (Takes own texts rs x inner holds s) Any (splice inner (body_at at s.library) 0 begun (map (stamp at.frame) forms) s) (finished inner at es)
-      (splice-goes own texts rs x inner holds (body_at at s.library) 0 begun (map (stamp at.frame) forms) s (λ e. refl) b h tt)
+      (splice-goes own texts rs x inner holds (body_at at s.library) 0 begun (map (stamp at.frame) forms) s ((λ e. refl), mine) b h tt)
       (λ d t g. ends at es d t g.0.onward.0 g.0.safe)
 
 pub expansions_never_stuck : ExpansionsNeverStuck
@@ -151,7 +151,7 @@ expansions_never_stuck own path records imports version place exports forms code
     let at = body_of (ready own path records imports codes) version place in
     let s = started own records imports codes in
     by (top (inside records 602) at exports forms s)
-    (top-fine own numbers records around (inside records 602) (inside-holds own numbers records around 602) at exports forms s (started-begins own records imports codes ready_for) (started-safe own records codes texts imports))
+    (top-fine own numbers records around (inside records 602) (inside-holds own numbers records around 602) at exports forms s refl (started-begins own records imports codes ready_for) (started-safe own records codes texts imports))
   where
     by : (r : Result (LibRecord × State) Fault) → Sure (λ a u. Unit {0}) r → IsNotStuck (record_in r)
     by (Ok p) h = tt

@@ -108,7 +108,7 @@ module _ (own : LibName) (texts : List CodeNo) (rs : List LibRecord) (x : Around
       only l e v o (inr p) = absurd (foreign l o p)
 
   -- what a binding tells of an imported keyword
-  imported-by : (s : State) → S s → (l : Label) → IsImported rs l (macro_expression (bound_to s.bindings l))
+  pub imported-by : (s : State) → S s → (l : Label) → IsImported rs l (macro_expression (bound_to s.bindings l))
   imported-by s h l = by (bound_to s.bindings l) refl
     where
       by : (o : Option Binding) → bound_to s.bindings l ≡ o → IsImported rs l (macro_expression o)
