@@ -89,7 +89,7 @@ module _ (records : List LibRecord) (place : Span) (level : ℕ) (s : State) whe
       at-room (length (r ∷ rs) + room) (suc (length rs + room)) depth (put_in (r ∷ rs) t) (omega arith)
       ∙ in-round place level (put_in rs t) s (not-leaf rs t no) records (length rs + room) depth r is.0 (omega (arith, h))
       ∙ faulted place level (put_in rs t) s (not-leaf rs t no) (inside records (length rs + room)) depth (put_in (r ∷ rs) t) r (fault_at kind.TooDeep t place [])
-        (at-depth (length rs + room) depth (put_in rs t) (omega (arith, h)) ∙ all-refused t no rs room (suc depth) is.1 (omega (arith, h)))
+      (at-depth (length rs + room) depth (put_in rs t) (omega (arith, h)) ∙ all-refused t no rs room (suc depth) is.1 (omega (arith, h)))
 
   atom-is : (room depth : ℕ) (o : Option Span) (a : Atom) → depth ≤ 600 → is_nil_atom a ≡ false → (inside records (suc room)).form place level depth (atom o a) s ≡ Ok (quoted (strip (atom o a)), s)
   atom-is room depth o a few some = form-is records room place level depth (atom o a) s ∙ constant-is (inside records room) place level depth o a s few some
@@ -101,8 +101,8 @@ module _ (records : List LibRecord) (place : Span) (level : ℕ) (s : State) whe
       at-room (length (r ∷ rs) + suc room) (suc (length rs + suc room)) depth (put_in (r ∷ rs) (atom o a)) (omega arith)
       ∙ in-round place level (put_in rs (atom o a)) s (not-leaf rs (atom o a) refl) records (length rs + suc room) depth r is.0 (omega (arith, h))
       ∙ made place level (put_in rs (atom o a)) s (not-leaf rs (atom o a) refl) (inside records (length rs + suc room)) depth (put_in (r ∷ rs) (atom o a)) r (code_in rs (quoted (strip (atom o a))))
-        (at-depth (length rs + suc room) depth (put_in rs (atom o a)) (omega (arith, h)) ∙ all-taken o a some rs room (suc depth) is.1 (omega (arith, h)))
-        (at-depth (length rs + suc room) depth truth (omega (arith, h)) ∙ at-room (length rs + suc room) (suc (length rs + room)) (suc depth) truth (omega arith) ∙ atom-is (length rs + room) (suc depth) None (atoms.Bool true) (omega (arith, h)) refl)
+      (at-depth (length rs + suc room) depth (put_in rs (atom o a)) (omega (arith, h)) ∙ all-taken o a some rs room (suc depth) is.1 (omega (arith, h)))
+      (at-depth (length rs + suc room) depth truth (omega (arith, h)) ∙ at-room (length rs + suc room) (suc (length rs + room)) (suc depth) truth (omega arith) ∙ atom-is (length rs + room) (suc depth) None (atoms.Bool true) (omega (arith, h)) refl)
 
 pub forms-count-once : FormsCountOnce
 forms-count-once = record {
