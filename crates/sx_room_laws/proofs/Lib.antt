@@ -4,3 +4,4 @@ mod Items
 mod Agreeing
 mod Rooms
 mod Limits
+mod Counting

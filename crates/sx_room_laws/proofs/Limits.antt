@@ -30,7 +30,7 @@ use Rattle.sx_room_laws.specs.Limit.{begun, IsBegin, LimitOfNesting}
 use Rattle.sx_room_laws.proofs.Items.{shallow-inside}
 use Rattle.sx_room_laws.proofs.Rooms.{form-is, too-deep-form, forms-need-no-more}
 
-over : (depth : ℕ) → 600 < depth → nat_lt 600 depth ≡ true
+pub over : (depth : ℕ) → 600 < depth → nat_lt 600 depth ≡ true
 over depth h = grind (arith, nat_tests)
 
 within-limit : (depth : ℕ) → depth ≤ 600 → nat_lt 600 depth ≡ false
@@ -47,7 +47,7 @@ module _ (go : Inside) (place : Span) (level depth : ℕ) (t : Tree) (s : State)
       ap (λ r. after (after r (step_of go.earlier place t)) (settled_by (λ m s'. after (next_form go.earlier left place t m None s') (settle_to go.earlier left (place_of t place) level)) place t)) e
       ∙ ap (λ r. after r (settled_by (λ m s'. after (next_form go.earlier left place t m None s') (settle_to go.earlier left (place_of t place) level)) place t)) (k go.earlier)
 
-  done-at : plan_of place level t s ≡ Ok (p, s) → ((rs : List LibRecord) → step_of rs place t p s ≡ Ok (steps.Plan p, s)) → form_at go place level depth t s ≡ perform go place level depth t p s
+  pub done-at : plan_of place level t s ≡ Ok (p, s) → ((rs : List LibRecord) → step_of rs place t p s ≡ Ok (steps.Plan p, s)) → form_at go place level depth t s ≡ perform go place level depth t p s
   unfolding form_at
   done-at e k =
       ap (λ b. if b then fault_form kind.TooDeep t place s else after (settle go.earlier place level t s) (perform_settled go level depth)) (within-limit depth few)
@@ -72,7 +72,7 @@ begin-performed : (go : Inside) (place : Span) (level depth : ℕ) (t form : Tre
 unfolding perform in_sequence each
 begin-performed go place level depth t form s = only (go.form place level (deeper depth) form s)
 
-one-deeper : (depth : ℕ) → depth ≤ 600 → deeper depth ≡ suc depth
+pub one-deeper : (depth : ℕ) → depth ≤ 600 → deeper depth ≡ suc depth
 one-deeper depth few = ap (λ b. if b then depth else depth + 1) (within-limit depth few) ∙ (omega arith)
 
 module _ (rs : List LibRecord) (place : Span) (level : ℕ) (word t : Tree) (s : State) (is : IsBegin s word) where
@@ -101,7 +101,7 @@ begins-are rs place level ss word t s is few =
     forms-need-no-more rs 602 (length ss + 602) place level 0 (begun ss word t) s (omega arith) (omega arith) ∙ all-begins rs place level word t s is ss 602 0 (omega (arith, few))
     ∙ depth-is rs place level word t s is 602 (0 + length ss) (length ss) (omega arith)
 
-constant-is : (go : Inside) (place : Span) (level depth : ℕ) (o : Option Span) (a : Atom) (s : State) → depth ≤ 600 → is_nil_atom a ≡ false → form_at go place level depth (atom o a) s ≡ Ok (quoted (strip (atom o a)), s)
+pub constant-is : (go : Inside) (place : Span) (level depth : ℕ) (o : Option Span) (a : Atom) (s : State) → depth ≤ 600 → is_nil_atom a ≡ false → form_at go place level depth (atom o a) s ≡ Ok (quoted (strip (atom o a)), s)
 unfolding perform
 constant-is go place level depth o a s few some =
     done-at go place level depth (atom o a) s (plans.Done (quoted (strip (atom o a)))) few (ap (λ b. constant place (atom o a) b s) some) (λ rs. refl)

@@ -1,5 +1,6 @@
 //! The laws. Each function here computes nothing: what it promises is the law.
 
+ghost use Rattle.sx_room_laws.specs.Counted.{FormsCountOnce};
 ghost use Rattle.sx_room_laws.specs.Limit.{LimitOfNesting};
 ghost use Rattle.sx_room_laws.specs.Room.{FormsNeedNoMore, ItemsNeedNoMore, CasesNeedNoMore, BodiesNeedNoMore, TopsNeedNoMore};
 
@@ -17,4 +18,10 @@ pub fn room_changes_nothing()
 /// whatever form it is; 600 `begin`s in one another expand to what is in them, and 601 don't.
 pub fn limit_of_nesting()
     ensures { LimitOfNesting }
+{}
+
+/// Sequences, applications and forms of `if` make what lies in them one deeper, and no more: a constant in 600 of
+/// them expands, and any other form but an identifier in 601 of them is TooDeep, at its place.
+pub fn forms_count_once()
+    ensures { FormsCountOnce }
 {}
