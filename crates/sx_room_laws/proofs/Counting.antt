@@ -1,26 +1,25 @@
 -- Sequences, applications and forms of `if` make what lies in them one deeper.
-use Rattle.std.proofs.Common.{◌≡◌, ◌≤◌, ℕ, zero, suc, ◌+◌, true, false, List, [], ◌∷◌, length, Option, None, Result, Ok, Err, refl, sym, ◌∙◌, ap, if◌then◌else◌, arith}
+use Rattle.std.proofs.Common.{◌≡◌, ◌≤◌, ℕ, suc, ◌+◌, true, false, List, [], ◌∷◌, length, Option, None, Ok, Err, refl, ◌∙◌, ap, if◌then◌else◌, arith}
 use Rattle.sx_base.specs.Act.{after, give, each}
 use Rattle.sx_base.specs.declared.atom.Atom.{Atom}
 use Rattle.sx_base.specs.declared.atom.Atom.TheVariants as atoms
 use Rattle.sx_base.specs.declared.fault.Fault.{Fault}
 use Rattle.sx_base.specs.declared.fault.FaultKind.TheVariants as kind
 use Rattle.sx_base.specs.declared.span.Span.{Span}
-use Rattle.sx_tree.specs.Tree.{Tree, atom, leaf, pair, vector, nil}
+use Rattle.sx_tree.specs.Tree.{Tree, atom, pair, nil}
 use Rattle.sx_tree.specs.Leaves.{strip}
-use Rattle.sx_core.specs.Core.{PlainCore, quoted, one_armed, call, cores}
+use Rattle.sx_core.specs.Core.{PlainCore, quoted, call, cores}
 use Rattle.sx_core.specs.declared.record.LibRecord.{LibRecord}
 use Rattle.sx_shapes.specs.At.{fault_at}
 use Rattle.sx_shapes.specs.Forms.{if_shape, shaped, shape_of, shape}
 use Rattle.sx_shapes.specs.Lists.{is_leaf, is_nil_atom}
 use Rattle.sx_standing.specs.Standing.{standing_of, role_of}
-use Rattle.sx_standing.specs.State.{State, fault_form}
+use Rattle.sx_standing.specs.State.{State}
 use Rattle.sx_heads.specs.Depth.{deeper}
 use Rattle.sx_heads.specs.Plan.{application, by_head, keyword_plan, list_plan, plan_of, shape_plan}
 use Rattle.sx_heads.specs.declared.plan.Plan.{Plan}
 use Rattle.sx_heads.specs.declared.plan.Plan.TheVariants as plans
 use Rattle.sx_expand.specs.Body.{sequence_of}
-use Rattle.sx_expand.specs.Expanding.{expression}
 use Rattle.sx_expand.specs.Expression.{alternate, application as call_form, conditional, in_order, in_sequence, perform, inside}
 use Rattle.sx_expand.specs.Inside.{Inside}
 use Rattle.sx_expand.specs.Settle.{step_of}
@@ -84,12 +83,12 @@ module _ (records : List LibRecord) (place : Span) (level : ℕ) (s : State) whe
 
   all-refused : (t : Tree) → is_leaf t ≡ false → (rs : List Round) (room depth : ℕ) → AreRound s rs → depth + length rs ≡ 601
       → (inside records (length rs + room)).form place level depth (put_in rs t) s ≡ Err (fault_at kind.TooDeep t place [])
-  all-refused t no [] room depth is h = too-deep-form records (length {A = Round} [] + room) place level depth t s (over depth (omega (arith, h)))
-  all-refused t no (r ∷ rs) room depth is h =
+  all-refused t inner [] room depth is h = too-deep-form records (length {A = Round} [] + room) place level depth t s (over depth (omega (arith, h)))
+  all-refused t inner (r ∷ rs) room depth is h =
       at-room (length (r ∷ rs) + room) (suc (length rs + room)) depth (put_in (r ∷ rs) t) (omega arith)
-      ∙ in-round place level (put_in rs t) s (not-leaf rs t no) records (length rs + room) depth r is.0 (omega (arith, h))
-      ∙ faulted place level (put_in rs t) s (not-leaf rs t no) (inside records (length rs + room)) depth (put_in (r ∷ rs) t) r (fault_at kind.TooDeep t place [])
-      (at-depth (length rs + room) depth (put_in rs t) (omega (arith, h)) ∙ all-refused t no rs room (suc depth) is.1 (omega (arith, h)))
+      ∙ in-round place level (put_in rs t) s (not-leaf rs t inner) records (length rs + room) depth r is.0 (omega (arith, h))
+      ∙ faulted place level (put_in rs t) s (not-leaf rs t inner) (inside records (length rs + room)) depth (put_in (r ∷ rs) t) r (fault_at kind.TooDeep t place [])
+      (at-depth (length rs + room) depth (put_in rs t) (omega (arith, h)) ∙ all-refused t inner rs room (suc depth) is.1 (omega (arith, h)))
 
   atom-is : (room depth : ℕ) (o : Option Span) (a : Atom) → depth ≤ 600 → is_nil_atom a ≡ false → (inside records (suc room)).form place level depth (atom o a) s ≡ Ok (quoted (strip (atom o a)), s)
   atom-is room depth o a few some = form-is records room place level depth (atom o a) s ∙ constant-is (inside records room) place level depth o a s few some
@@ -108,6 +107,6 @@ pub forms-count-once : FormsCountOnce
 forms-count-once = record {
   taken = λ records place level rs o a s is few some.
       forms-need-no-more records 602 (length rs + suc 601) place level 0 (put_in rs (atom o a)) s (omega arith) (omega arith) ∙ all-taken records place level s o a some rs 601 0 is (omega (arith, few));
-  refused = λ records place level rs t s is all no.
-      forms-need-no-more records 602 (length rs + 602) place level 0 (put_in rs t) s (omega arith) (omega arith) ∙ all-refused records place level s t no rs 602 0 is (omega (arith, all));
+  refused = λ records place level rs t s is all inner.
+      forms-need-no-more records 602 (length rs + 602) place level 0 (put_in rs t) s (omega arith) (omega arith) ∙ all-refused records place level s t inner rs 602 0 is (omega (arith, all));
 }
