@@ -159,6 +159,14 @@ impl Records {
     }
 }
 
+/// The records of a run that a library needs: those that are marked.
+#[derive(Drop)]
+pub struct Needed<'a> {
+    pub records: &'a Records,
+    /// A mark for each place. Those beyond the marks are not needed.
+    pub marks: &'a [bool],
+}
+
 fn is_marked(marks: &[bool], place: usize) -> bool
     ensures { result ≡ is_marked (slice_get marks.now place) }
 {
