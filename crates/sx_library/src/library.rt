@@ -94,20 +94,20 @@ pub fn expand_body<N: Ledger, L: Ledger>(
     alloc: Global,
     implementation: &Implementation,
     needed: &Needed,
-    one: &Unexpanded,
+    unexpanded: &Unexpanded,
     counts: &mut Counts<N, L>,
 ) -> Result<LibRecord, Stop>
-    ensures { Gives (λ r. r) result (expand_body (kept implementation.now.prelude) (needed_records needed.now.records.now needed.now.marks.now) one.now.path.now one.now.form.now one.now.body.now) }
+    ensures { Gives (λ r. r) result (expand_body (kept implementation.now.prelude) (needed_records needed.now.records.now needed.now.marks.now) unexpanded.now.path.now unexpanded.now.form.now unexpanded.now.body.now) }
 {
-    let exports = export_trees(alloc, &one.form.exports)?;
-    let version = share_version(alloc, one.form.version.as_slice())?;
+    let exports = export_trees(alloc, &unexpanded.form.exports)?;
+    let version = share_version(alloc, unexpanded.form.version.as_slice())?;
     let text = Text {
-        place: &one.form.name_span,
+        place: &unexpanded.form.name_span,
         version,
         exports: exports.as_slice(),
-        forms: one.body.forms.as_slice(),
+        forms: unexpanded.body.forms.as_slice(),
     };
-    let begun = expander_of(alloc, &implementation.prelude, needed, one)?;
+    let begun = expander_of(alloc, &implementation.prelude, needed, unexpanded)?;
     record_behind(begun, needed, text, implementation.primitives, counts)
 }
 
@@ -116,16 +116,22 @@ fn expander_of(
     alloc: Global,
     prelude: &Prelude,
     needed: &Needed,
-    one: &Unexpanded,
+    unexpanded: &Unexpanded,
 ) -> Result<Expander, Stop>
-    ensures given { Gives (λ e. e) result (expander_of (kept prelude.now) one.now.form.now.name one.now.path.now (needed_records needed.now.records.now needed.now.marks.now) one.now.body.now.names) }
+    ensures given { Gives (λ e. e) result (expander_of (kept prelude.now) unexpanded.now.form.now.name unexpanded.now.path.now (needed_records needed.now.records.now needed.now.marks.now) unexpanded.now.body.now.names) }
     ensures ok { IfOk result (λ e. e.failed ≡ false) }
 {
-    let name = share_library(alloc, &one.form.name)?;
-    let path = one.path.share()?;
+    let name = share_library(alloc, &unexpanded.form.name)?;
+    let path = unexpanded.path.share()?;
     let codes = prelude.codes(alloc)?;
     let origin = Origin { name, path };
-    expander_behind(alloc, origin, needed, one.body.names.as_slice(), codes)
+    expander_behind(
+        alloc,
+        origin,
+        needed,
+        unexpanded.body.names.as_slice(),
+        codes,
+    )
 }
 
 // The record of a library behind those that it needs.

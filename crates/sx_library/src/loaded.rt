@@ -80,12 +80,12 @@ fn expand_one<N: Ledger, L: Ledger>(
     };
     let data = library_body(opened.data.as_slice());
     let body = body_of(alloc, &needed, &opened.form, data)?;
-    let one = Unexpanded {
+    let unexpanded = Unexpanded {
         path: &opened.path,
         form: &opened.form,
         body: &body,
     };
-    expand_body(alloc, implementation, &needed, &one, counts)
+    expand_body(alloc, implementation, &needed, &unexpanded, counts)
 }
 
 // The record of a program behind those that it needs. Its data go once they are syntax objects.
@@ -106,12 +106,12 @@ fn expand_program<N: Ledger, L: Ledger>(
     let data = program_body(found.opened.data.as_slice());
     let body = body_of(alloc, &needed, &found.opened.form, data)?;
     let (path, form) = without_data(found);
-    let one = Unexpanded {
+    let unexpanded = Unexpanded {
         path: &path,
         form: &form,
         body: &body,
     };
-    expand_body(alloc, implementation, &needed, &one, counts)
+    expand_body(alloc, implementation, &needed, &unexpanded, counts)
 }
 
 // Records, and behind them those of libraries in the order of loading.
