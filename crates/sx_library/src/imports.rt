@@ -58,7 +58,7 @@ fn referred(alloc: Global, needed: &Needed, set: &ImportSet) -> Result<(), Stop>
     if is_builtin(&set.library) {
         check_version(alloc, &VERSION, set)
     } else {
-        record_referred(alloc, set, needed.records.named(needed.marks, &set.library))
+        record_referred(alloc, set, needed.named(&set.library))
     }
 }
 
@@ -133,12 +133,8 @@ fn exported(
     ensures { IfOk result (λ names. names ≡ exported (needed_records needed.now.records.now needed.now.marks.now) library.now) }
 {
     match exports(alloc, library)? {
-        Some(names) => given_names(
-            alloc,
-            needed.records.named(needed.marks, &LibName::Derived),
-            names,
-        ),
-        None => record_exports(alloc, needed.records.named(needed.marks, library)),
+        Some(names) => given_names(alloc, needed.named(&LibName::Derived), names),
+        None => record_exports(alloc, needed.named(library)),
     }
 }
 

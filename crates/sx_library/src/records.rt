@@ -167,6 +167,15 @@ pub struct Needed<'a> {
     pub marks: &'a [bool],
 }
 
+impl Needed<'_> {
+    /// The record of a library, among these.
+    pub fn named(&self, name: &LibName) -> Option<&LibRecord>
+        ensures { option_copied result ≡ named name.now (needed_records self.now.records.now self.now.marks.now) }
+    {
+        self.records.named(self.marks, name)
+    }
+}
+
 fn is_marked(marks: &[bool], place: usize) -> bool
     ensures { result ≡ is_marked (slice_get marks.now place) }
 {
