@@ -101,13 +101,13 @@ pub fn expand_body<N: Ledger, L: Ledger>(
 {
     let exports = export_trees(alloc, &unexpanded.form.exports)?;
     let version = share_version(alloc, unexpanded.form.version.as_slice())?;
+    let begun = expander_of(alloc, &implementation.prelude, needed, unexpanded)?;
     let text = Text {
         place: &unexpanded.form.name_span,
         version,
         exports: exports.as_slice(),
         forms: unexpanded.body.forms.as_slice(),
     };
-    let begun = expander_of(alloc, &implementation.prelude, needed, unexpanded)?;
     record_behind(begun, needed, text, implementation.primitives, counts)
 }
 
@@ -143,7 +143,7 @@ fn record_behind<N: Ledger, L: Ledger>(
     counts: &mut Counts<N, L>,
 ) -> Result<LibRecord, Stop>
     requires { begun.failed ≡ false }
-    ensures { Gives (λ r. r) result (library_record begun (needed_records needed.now.records.now needed.now.marks.now) text.version text.place.now text.exports.now text.forms.now) }
+    ensures { Gives (λ r. r) result (library_record begun (needed_records needed.now.records.now needed.now.marks.now) text.entry.version text.entry.place.now text.entry.exports.now text.entry.forms.now) }
 {
     let Text {
         place,

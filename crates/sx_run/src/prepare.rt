@@ -227,8 +227,9 @@ pub fn prepare<F: Files, N: Ledger, L: Ledger>(
     ensures gives { IfSome (F.told files.old) (λ fs. Prepares result (of_job fs job.now)) }
     ensures read { result ≡ Err Unfinished.Read → Rose (F.faults files.old) (F.faults files.new) }
 {
+    let prelude = prelude(alloc, primitives, counts)?;
     let implementation = Implementation {
-        prelude: prelude(alloc, primitives, counts)?,
+        prelude,
         primitives,
     };
     of_job(alloc, &implementation, job, files, counts)
