@@ -21,6 +21,7 @@ use sx_outside::{HostFiles, HostSink};
 use sx_prims::table::{PrimRow, PrimTable};
 use sx_run::status::Status;
 use sx_run::top;
+use sx_run::top::Outside;
 use sx_standing::means::Counts;
 
 // The rows with one more.
@@ -39,19 +40,13 @@ fn run_both<'a, N: Ledger, L: Ledger>(
     steps: &'a mut Steps<L>,
 ) -> Result<Status, Memory> {
     let alloc = rt.alloc();
-    let mut files = HostFiles::new(alloc, rt.clone()?);
-    let mut out = HostSink::new(rt.stdout());
-    let mut err = HostSink::new(rt.stderr());
+    let mut outside = Outside {
+        files: HostFiles::new(alloc, rt.clone()?),
+        out: HostSink::new(rt.stdout()),
+        err: HostSink::new(rt.stderr()),
+    };
     let mut counts = Counts { nodes, steps };
-    Ok(top::run(
-        alloc,
-        words,
-        &mut files,
-        &mut out,
-        &mut err,
-        prims,
-        &mut counts,
-    ))
+    Ok(top::run(alloc, words, &mut outside, prims, &mut counts))
 }
 
 fn run_counted<N: Ledger, L: Ledger>(

@@ -11,9 +11,9 @@ pub returns-in_err-expand_next : goal.returns-in_err-expand_next
 returns-in_err-expand_next g c =
     let p = err_from_is_err_and c.from_residual.result c.from_residual.ensures.1 in
     let row : List ℕ × Found = (c.in-Some.field-0-0.now, c.in-Some.found.now) in
-    rw (p.1, p.2) (got_stop (expand_next (kept c.args.prelude.now)) c.args.libraries.now c.loop-place.place row c.loop-place.records (turns (expand_next (kept c.args.prelude.now)) c.args.records c.args.libraries.now) c.in_err-expand_next.field-0.0 (sym c.in-Some.ensures) c.in_err-expand_next.ensures c.loop-place.invariant)
+    rw (p.1, p.2) (got_stop (expand_next (kept c.args.implementation.now.prelude)) c.args.libraries.now c.loop-place.place row c.loop-place.records (turns (expand_next (kept c.args.implementation.now.prelude)) c.args.records c.args.libraries.now) c.in_err-expand_next.field-0.0 (sym c.in-Some.ensures) c.in_err-expand_next.ensures c.loop-place.invariant)
 
 pub loop-place-preserved : goal.loop-place-preserved
 loop-place-preserved g c =
     let row : List ℕ × Found = (c.in-Some.field-0-0.now, c.in-Some.found.now) in
-    got_on (expand_next (kept c.args.prelude.now)) c.args.libraries.now c.loop-place.place row c.loop-place.records (turns (expand_next (kept c.args.prelude.now)) c.args.records c.args.libraries.now) c.expand_next.new.records (sym c.in-Some.ensures) c.in_ok-expand_next.ensures c.loop-place.invariant
+    got_on (expand_next (kept c.args.implementation.now.prelude)) c.args.libraries.now c.loop-place.place row c.loop-place.records (turns (expand_next (kept c.args.implementation.now.prelude)) c.args.records c.args.libraries.now) c.expand_next.new.records (sym c.in-Some.ensures) c.in_ok-expand_next.ensures c.loop-place.invariant

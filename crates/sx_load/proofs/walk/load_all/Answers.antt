@@ -7,5 +7,5 @@ use Rattle.sx_load.proofs.walk.load_all.Goals as goal
 pub returns-clause-given : goal.returns-clause-given
 returns-clause-given g c = λ fs h.
     subst (λ y. LoadsAfter c.walk.result c.walk.new.loading y)
-    (ap (λ o. meaning fs c.args.roots.now o [] c.args.loading.now) c.in_ok-first.ensures ∙ first_alone fs c.args.roots.now 1024 c.args.opened c.args.loading.now)
+    (ap (λ o. meaning fs c.args.search.now.roots.now o [] c.args.loading.now) c.in_ok-first.ensures ∙ first_alone fs c.args.search.now.roots.now 1024 c.args.opened c.args.loading.now)
     (c.walk.ensures.given fs h)
