@@ -1,15 +1,10 @@
 use Rattle.std.proofs.Common.{◌≡◌, ◌∷◌, arith}
 use Rattle.sx_syntax.specs.Opens.{Opens}
 use Rattle.sx_syntax.specs.declared.syn.Opened.TheVariants as opened
+use Rattle.sx_pattern.specs.Compile.{seen}
 use Rattle.sx_pattern.proofs.Levels.{pattern_pair, pattern_vector}
 use Rattle.sx_pattern.proofs.Sizes.{elements_within, tail_smaller, first_smaller}
 use Rattle.sx_pattern.proofs.compile.+pattern.Goals as goal
-
-pub elements-step-requires : goal.elements-step-requires
-elements-step-requires t c =
-    let e : c.loop-form.left.now ≡ c.in-Some.form.now ∷ c.in-Some.behind.now = c.in-Some.ensures.cases.0 in
-    let below = first_smaller c.loop-form.left.now c.in-Some.form.now c.in-Some.behind.now e in
-    omega (arith, below, c.loop-form.invariant.smaller)
 
 pub list_pattern-elements-requires : goal.list_pattern-elements-requires
 list_pattern-elements-requires t c = rw (c.as_slice.ensures, c.in_ok-parts.ensures.0) (grind (arith, elements_within))
@@ -20,9 +15,9 @@ list_pattern-pattern-requires t c = rw c.in_ok-parts.ensures.1 (grind (arith, ta
 pub pattern-returns-in-Pair : goal.pattern-returns-in-Pair
 pattern-returns-in-Pair t c =
     let o : Opens (opened.Pair c.in-Pair.field-0 c.in-Pair.field-1) c.args.form.now = rw c.in-Pair.is at c.in_ok-atom.ensures in
-    rw (pattern_pair c.args.frames.now c.args.literals.now c.args.place.now c.args.depth (c.args.variables.now, c.args.names.now) c.in-Pair.field-0 c.in-Pair.field-1 c.args.form.now o) c.list_pattern.ensures
+    rw (pattern_pair (seen c.args.context.now) c.args.depth (c.args.variables.now, c.args.names.now) c.in-Pair.field-0 c.in-Pair.field-1 c.args.form.now o) c.list_pattern.ensures
 
 pub pattern-returns : goal.pattern-returns
 pattern-returns t c =
     let o : Opens (opened.Vector c.in-Vector.forms) c.args.form.now = rw c.in-Vector.is at c.in_ok-atom.ensures in
-    rw (pattern_vector c.args.frames.now c.args.literals.now c.args.place.now c.args.depth (c.args.variables.now, c.args.names.now) c.in-Vector.forms c.args.form.now o, ← c.deref.ensures.value) c.vector_pattern.ensures
+    rw (pattern_vector (seen c.args.context.now) c.args.depth (c.args.variables.now, c.args.names.now) c.in-Vector.forms c.args.form.now o, ← c.deref.ensures.value) c.vector_pattern.ensures
