@@ -330,13 +330,7 @@ fn list_at(
         let part = unchanged(form)?;
         return Ok(part);
     }
-    if splits(
-        context.alloc,
-        Family::Syntax,
-        forms,
-        ends,
-        context.frames,
-    )? {
+    if splits(context.alloc, Family::Syntax, forms, ends, context.frames)? {
         let before = forms.len() - 2;
         let (front, last) = forms.split_at(before);
         let rest = rest_at(context.alloc, form, before)?;

@@ -81,12 +81,7 @@ fn definitions_for(
 
 /// The names, which stand before the clauses, are looked at first.
 #[tactic(auto, unfolding(crate::specs::Forms::named_form))]
-fn named_form(
-    context: &RecordContext,
-    form: &Syn,
-    spec: &Syn,
-    clauses: &[Syn],
-) -> Result<Syn, Stop>
+fn named_form(context: &RecordContext, form: &Syn, spec: &Syn, clauses: &[Syn]) -> Result<Syn, Stop>
     ensures { Gives (λ t. t) result (named_form context.now.frames.now form.now context.now.place.now context.now.uid.now spec.now clauses.now) }
 {
     let Some(names) = names_of(context.alloc, spec)? else {

@@ -440,11 +440,7 @@ fn fixed_list(
     Ok(Made::Fixed(false, form))
 }
 
-fn fixed_vector(
-    context: &TemplateContext,
-    form: &Syn,
-    items: Items<MadeItem>,
-) -> Result<Made, Stop>
+fn fixed_vector(context: &TemplateContext, form: &Syn, items: Items<MadeItem>) -> Result<Made, Stop>
     ensures { Gives (λ m. m) result (fixed_vector context.now.place.now form.now items) }
 {
     if any_changed(items.as_slice()) {
