@@ -18,7 +18,7 @@ use sx_core::template::{Item, Template, TemplateNode};
 use sx_pattern::compile::{Compiled, PatternVariable};
 use sx_shapes::lists::parts_of;
 use sx_syntax::syn::{Opened, Syn};
-use sx_template::compile::compile_template;
+use sx_template::compile::{TemplateContext, compile_template};
 
 /// Whether all pattern variables of a template are in scope.
 #[cycle(has)]
@@ -179,14 +179,14 @@ impl Expansion {
     pub fn template(&mut self, form: &Syn, place: &Span, level: u32) -> Result<Template, Stop>
         ensures { GivesAfter (λ t. t) result self.new (template_of place.now level form.now self.old) }
     {
-        let template = compile_template(
-            self.alloc,
-            form,
-            place,
-            self.stage.frames(),
-            &self.bindings,
+        let context = TemplateContext {
+            alloc: self.alloc,
+            frames: self.stage.frames(),
+            bindings: &self.bindings,
             level,
-        )?;
+            place,
+        };
+        let template = compile_template(&context, form)?;
         if has_variables(&self.scope, &template) {
             return Ok(template);
         }
