@@ -30,11 +30,12 @@ impl Stage {
     pub fn check_literals(&self, literals: &[Syn], place: &Span) -> Result<(), Stop>
         ensures { GivesAfter (λ _. tt) result self.now (check_literals place.now literals.now self.now) }
     {
-        patterns::check_literals(&PatternContext {
+        let context = PatternContext {
             alloc: self.alloc,
             frames: &self.world.frames,
             literals,
             place,
-        })
+        };
+        patterns::check_literals(&context)
     }
 }
