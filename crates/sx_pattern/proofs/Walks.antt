@@ -42,20 +42,20 @@ module _ (c : Context) (depth : ℕ) (parts : PatternParts) (t : Tree) where
       go (Ok q) = also (with_repeated c.place e parts.repeated parts q.0) q.1
       go (Err f) = refl
 
-  module _ (left ts : List Tree) (e : Option Tree) (s : Taken) (total : Result (PatternParts × Taken) Fault) (is : left ≡ t ∷ ts) (next : e ≡ first_ellipsis c.frames ts)
+  module _ (left ts : List Tree) (e : Option Tree) (inner : ℕ) (s : Taken) (total : Result (PatternParts × Taken) Fault) (is : left ≡ t ∷ ts) (next : e ≡ first_ellipsis c.frames ts) (deep : inner ≡ inner_depth depth e)
       (so_far : walked c depth false parts (map (with_pattern c) left) s ≡ total) where
-    here : total ≡ after (pattern c t (inner_depth depth e) s) (on_pattern e ts)
+    here : total ≡ after (pattern c t inner s) (on_pattern e ts)
     here =
         sym so_far ∙ ap (λ us. walked c depth false parts (map (with_pattern c) us) s) is
         ∙ ap (λ o. after (step c.place depth false (with_pattern c t) o parts s) (λ w. walked c depth w.0 w.1 (map (with_pattern c) ts))) (next_is_first c ts ∙ sym next)
-        ∙ stepped e ts s next
+        ∙ stepped e ts s next ∙ ap (λ n. after (pattern c t n s) (on_pattern e ts)) (sym deep)
 
     -- an element is at fault: so is the whole
-    pub pattern_stop : (stop : Stop) → Stops stop (pattern c t (inner_depth depth e) s) → Stops stop total
+    pub pattern_stop : (stop : Stop) → Stops stop (pattern c t inner s) → Stops stop total
     pattern_stop stops.Memory given = tt
     pattern_stop (stops.Fault f) given = here ∙ ap (λ r. after r (on_pattern e ts)) given
 
-    module _ (p : PlainPattern) (new : Taken) (given : pattern c t (inner_depth depth e) s ≡ Ok (p, new)) where
+    module _ (p : PlainPattern) (new : Taken) (given : pattern c t inner s ≡ Ok (p, new)) where
       then_part : total ≡ on_pattern e ts p new
       then_part = here ∙ ap (λ r. after r (on_pattern e ts)) given
 
