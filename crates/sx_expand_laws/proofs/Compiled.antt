@@ -6,10 +6,8 @@ use Rattle.sx_base.specs.Named.{Named}
 use Rattle.sx_base.specs.declared.fault.Fault.{Fault}
 use Rattle.sx_base.specs.declared.library.LibName.{LibName}
 use Rattle.sx_base.specs.declared.name.Label.{Label}
-use Rattle.sx_base.specs.declared.span.Span.{Span}
 use Rattle.sx_tree.specs.Tree as tree
 use Rattle.sx_tree.specs.Tree.{Tree}
-use Rattle.sx_frames.specs.Scope.{Scope}
 use Rattle.sx_scope.specs.Stands.{stands}
 use Rattle.sx_core.specs.Pattern.{PlainPattern, list, vector, PlainPatterns, none, more, dots, patterns, patterns_on}
 use Rattle.sx_core.specs.References.{variables, all_variables}

@@ -4,11 +4,9 @@ use Rattle.std.specs.Prelude.{Result, true, false}
 use Rattle.std.specs.declared.alloc.Global.{Global}
 use Rattle.sx_base.specs.declared.atom.Atom.{Atom}
 use Rattle.sx_base.specs.declared.fault.Fault.{Fault}
-use Rattle.sx_base.specs.declared.span.Span.{Span}
 use Rattle.sx_tree.specs.Tree.{Tree, atom, leaf, pair, vector, chain, nil, is_pair}
 use Rattle.sx_syntax.specs.Opens.{Opens}
 use Rattle.sx_syntax.specs.declared.syn.Opened.TheVariants as opened
-use Rattle.sx_frames.specs.Scope.{Scope}
 use Rattle.sx_core.specs.Pattern.{PlainPattern}
 use Rattle.sx_core.specs.Pattern as patterns
 use Rattle.sx_shapes.specs.Lists.{elements, tail_of}
