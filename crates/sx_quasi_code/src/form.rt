@@ -19,7 +19,7 @@ use sx_base::steps::Steps;
 use sx_core::code::Core;
 use sx_quasi::plan::Quasi;
 use sx_quasi::quasi::quasi;
-use sx_quasi::quasi_syntax::{QuasiSyntax, quasi_syntax};
+use sx_quasi::quasi_syntax::{QuasiContext, QuasiSyntax, quasi_syntax};
 use sx_quasi::word::Family;
 use sx_standing::expansion::Expansion;
 use sx_syntax::syn::Syn;
@@ -54,7 +54,12 @@ fn syntax_form(
     ensures { GivesAfter (λ q. q) result state.now (form_of place.now form.now family.Syntax template.now state.now) }
 {
     let dots = dots(state.alloc())?;
-    let quasi = quasi_syntax(state.alloc(), template, &dots, form, place, state.frames())?;
+    let context = QuasiContext {
+        alloc: state.alloc(),
+        frames: state.frames(),
+        dots: &dots,
+    };
+    let quasi = quasi_syntax(&context, template, form, place)?;
     Ok(QuasiForm::Syntax(quasi))
 }
 

@@ -2,10 +2,12 @@
 
 ghost use Rattle.std.specs.Prelude.{◌≡◌, true, IfOk};
 ghost use Rattle.sx_base.specs.Act.{GivesAfter};
+ghost use Rattle.sx_base.specs.Gives.{Gives};
 ghost use Rattle.sx_standing.specs.Patterns.{pattern_of, check_literals, put_pattern_variable, bind_pattern_variable, bind_pattern, has_variables, has_item_variables, is_outside, if_outside, first_outside, all_outside, template_of};
 ghost use Rattle.sx_core.specs.TemplateView.{items};
 ghost use Rattle.sx_scope.specs.Stands.{stands};
 ghost use Rattle.sx_tree.specs.Tree.{is_pair};
+ghost use Rattle.sx_template.specs.Compile.{compiled};
 
 use crate::expansion::Expansion;
 use crate::in_scope::InScope;
@@ -18,7 +20,7 @@ use sx_core::template::{Item, Template, TemplateNode};
 use sx_pattern::compile::{Compiled, PatternVariable};
 use sx_shapes::lists::parts_of;
 use sx_syntax::syn::{Opened, Syn};
-use sx_template::compile::compile_template;
+use sx_template::compile::{TemplateContext, compile_template};
 
 /// Whether all pattern variables of a template are in scope.
 #[cycle(has)]
@@ -173,20 +175,27 @@ impl Expansion {
         Ok(None)
     }
 
+    /// The template of a form at a level, in scope or not.
+    fn compiled_template(&self, form: &Syn, place: &Span, level: u32) -> Result<Template, Stop>
+        ensures { Gives (λ t. t) result (compiled (record { frames = self.now.frames; bindings = self.now.bindings; level = level; place = place.now }) form.now) }
+    {
+        let context = TemplateContext {
+            alloc: self.alloc,
+            frames: self.stage.frames(),
+            bindings: &self.bindings,
+            level,
+            place,
+        };
+        compile_template(&context, form)
+    }
+
     /// The template of a form at a level (libraries report 12.4). Where it has no other fault, it is
     /// `OutOfContext` at the first pattern variable that isn't in scope.
     #[tactic(auto, unfolding(crate::specs::Patterns::template_of))]
     pub fn template(&mut self, form: &Syn, place: &Span, level: u32) -> Result<Template, Stop>
         ensures { GivesAfter (λ t. t) result self.new (template_of place.now level form.now self.old) }
     {
-        let template = compile_template(
-            self.alloc,
-            form,
-            place,
-            self.stage.frames(),
-            &self.bindings,
-            level,
-        )?;
+        let template = self.compiled_template(form, place, level)?;
         if has_variables(&self.scope, &template) {
             return Ok(template);
         }

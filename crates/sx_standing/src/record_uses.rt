@@ -11,6 +11,7 @@ use sx_base::name::{FrameNo, Mark};
 use sx_base::span::Span;
 use sx_base::steps::Steps;
 use sx_core::core_form::CoreForm;
+use sx_records::context::RecordContext;
 use sx_records::forms::record_forms;
 use sx_records::names::record_uid;
 use sx_syntax::syn::Syn;
@@ -50,7 +51,13 @@ impl Expansion {
         ensures { GivesAfter (λ t. t) result self.now (record_tree place.now form.now which before self.now) }
     {
         let uid = record_uid(self.alloc, self.library(), form, before)?;
-        record_forms(self.alloc, form, which, place, &uid, self.frames())
+        let context = RecordContext {
+            alloc: self.alloc,
+            frames: self.frames(),
+            place,
+            uid: &uid,
+        };
+        record_forms(&context, form, which)
     }
 
     #[tactic(auto, unfolding(crate::specs::RecordUses::record_marked))]
