@@ -20,7 +20,7 @@ use sx_base::items::Items;
 use sx_base::library::LibName;
 use sx_base::memory::Memory;
 use sx_base::name::{CodeNo, FrameNo, Label, Name};
-use sx_base::op::{NAME_COUNT, Op, op_text};
+use sx_base::op::{NAME_COUNT, Op, names, op_text};
 use sx_base::span::Span;
 use sx_base::symbol::Symbol;
 use sx_builtin::exports::exports;
@@ -35,16 +35,16 @@ use sx_syntax::syn::Syn;
 
 // In this order: `map for-each for-all exists filter remp find memp fold-left fold-right`.
 const PROCEDURES: [Op; 10] = [
-    Op(133),
-    Op(110),
-    Op(192),
-    Op(193),
-    Op(194),
-    Op(198),
-    Op(191),
-    Op(202),
-    Op(196),
-    Op(197),
+    Op(names::MAP),
+    Op(names::FOR_EACH),
+    Op(names::FOR_ALL),
+    Op(names::EXISTS),
+    Op(names::FILTER),
+    Op(names::REMP),
+    Op(names::FIND),
+    Op(names::MEMP),
+    Op(names::FOLD_LEFT),
+    Op(names::FOLD_RIGHT),
 ];
 
 /// The names of `(rnrs)`, but those that the derived library defines.

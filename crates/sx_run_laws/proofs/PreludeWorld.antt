@@ -32,8 +32,8 @@ use Rattle.sx_steady_laws.specs.Libraries.{AreTexts}
 -- the texts, each as the procedure whose body it is
 abbrev texts : List PlainCore
 texts =
-    text_code 133 map_text ∷ text_code 110 for_each_text ∷ text_code 192 for_all_text ∷ text_code 193 exists_text ∷ text_code 194 filter_text ∷
-    text_code 198 remp_text ∷ text_code 191 find_text ∷ text_code 202 memp_text ∷ text_code 196 fold_left_text ∷ text_code 197 fold_right_text ∷ []
+    text_code names.MAP map_text ∷ text_code names.FOR_EACH for_each_text ∷ text_code names.FOR_ALL for_all_text ∷ text_code names.EXISTS exists_text ∷ text_code names.FILTER filter_text ∷
+    text_code names.REMP remp_text ∷ text_code names.FIND find_text ∷ text_code names.MEMP memp_text ∷ text_code names.FOLD_LEFT fold_left_text ∷ text_code names.FOLD_RIGHT fold_right_text ∷ []
 
 -- ---- the op of a text is one of ten
 
