@@ -178,12 +178,12 @@ module _ (w : PlainSetting) where
   }
     where
       op : Value
-      op = value.Prim (record { 0 = 90 })
+      op = value.Prim (record { 0 = names.CONS })
 
       after_op : Gives (operands w (eval_of w) (more c (more d none)) scope (op ∷ []) s) v t
       after_op =
-          known-first (eval_of w (prim 90) scope s) (λ a. operands w (eval_of w) (more c (more d none)) scope (a ∷ [])) v op t s (steady (prim 90) scope s)
-          (primitive-is w (record { 0 = 90 }) scope s) (expressed-gives (call (prim 90) (more c (more d none))) scope s v t g)
+          known-first (eval_of w (prim names.CONS) scope s) (λ a. operands w (eval_of w) (more c (more d none)) scope (a ∷ [])) v op t s (steady (prim names.CONS) scope s)
+          (primitive-is w (record { 0 = names.CONS }) scope s) (expressed-gives (call (prim names.CONS) (more c (more d none))) scope s v t g)
 
       first : Parted (eval_of w c scope s) (λ a. operands w (eval_of w) (more d none) scope ((op ∷ []) ++ a ∷ [])) v t
       first = parted (eval_of w c scope s) (λ a. operands w (eval_of w) (more d none) scope ((op ∷ []) ++ a ∷ [])) v t (steady c scope s) after_op
