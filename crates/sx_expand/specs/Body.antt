@@ -15,6 +15,7 @@ use Rattle.sx_core.specs.declared.record.Line.{Line}
 use Rattle.sx_core.specs.declared.record.Line.TheVariants as line
 use Rattle.sx_standing.specs.State.{Does, fresh, fresh_frame, fault_form}
 use Rattle.sx_standing.specs.InScope.{within}
+use Rattle.sx_heads.specs.declared.depth.TheConstants.{MOST_ROUND}
 use Rattle.sx_heads.specs.Items.{begun}
 use Rattle.sx_heads.specs.declared.item.Item.{Item}
 use Rattle.sx_heads.specs.declared.item.Item.TheVariants as items
@@ -51,7 +52,7 @@ perform_settled go depth p = perform_item go p.1.at depth p.0 p.1.form p.1.item
 
 -- takes a form of a body
 unfoldable pub item : Inside → BodyAt → ℕ → Taken → Tree → Does Taken
-item go at depth done t s = if nat_lt 600 depth then fault_form kind.TooDeep t at.place s else after (settle_item go.earlier at depth done t s) (perform_settled go depth)
+item go at depth done t s = if nat_lt MOST_ROUND depth then fault_form kind.TooDeep t at.place s else after (settle_item go.earlier at depth done t s) (perform_settled go depth)
 
 -- The second pass.
 
