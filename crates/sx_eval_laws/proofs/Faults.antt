@@ -7,6 +7,7 @@ use Rattle.sx_base.specs.declared.fault.Bare.{Bare}
 use Rattle.sx_base.specs.declared.fault.FaultKind.{FaultKind}
 use Rattle.sx_base.specs.declared.fault.FaultKind.TheVariants as kind
 use Rattle.sx_base.specs.declared.op.names.TheConstants as names
+use Rattle.sx_tree.specs.declared.limits.TheConstants.{MAX_HEIGHT}
 use Rattle.sx_core.specs.Template as template
 use Rattle.sx_core.specs.Template.{PlainTemplate, PlainItems}
 use Rattle.sx_frames.specs.Scope.{Scope}
@@ -123,7 +124,7 @@ others-tree (Err f) h = h
 others-tree_by : (op : ℕ) (cells : List Cell) (x : Value) (o : Option Tree) → Others (tree_by op cells x o)
 others-tree_by op cells x None = tt
 others-tree_by op cells x (Some id) =
-    others-if (is_datum cells x) (tree_made (grown_to 1000 id cells x)) (Err (refused op)) (others-tree (grown_to 1000 id cells x) (others-grown 1000 id cells x)) tt
+    others-if (is_datum cells x) (tree_made (grown_to MAX_HEIGHT id cells x)) (Err (refused op)) (others-tree (grown_to MAX_HEIGHT id cells x) (others-grown MAX_HEIGHT id cells x)) tt
 
 others-syntax : (op : ℕ) (args : List Value) (cells : List Cell) → Others (syntax_answer op args cells)
 unfolding syntax_answer

@@ -4,6 +4,7 @@ use Rattle.sx_base.specs.Gives.{◌>>=◌}
 use Rattle.sx_base.specs.declared.atom.Atom.TheVariants as a
 use Rattle.sx_base.specs.declared.fault.Bare.{Bare}
 use Rattle.sx_base.specs.declared.op.names.TheConstants as names
+use Rattle.sx_tree.specs.declared.limits.TheConstants.{MAX_HEIGHT}
 use Rattle.sx_tree.specs.Context.{LeafContext}
 use Rattle.sx_tree.specs.Leaves.{context_of}
 use Rattle.sx_tree.specs.Measures.{within}
@@ -323,7 +324,7 @@ module _ (P : LeafContext → Type 0) where
 
     tree_ok : (op : ℕ) (x : Value) (o : Option Tree) → OptionHolds (λ (t : Tree). P (context_of t)) o → AnswerOr (data_of.tree_by op cells x o)
     tree_ok op x None h = tt
-    tree_ok op x (Some id) h = answer_if (is_datum cells x) (data_of.tree_made (data_of.grown_to 1000 id cells x)) (Err (refused op)) (by_tree (data_of.grown_to 1000 id cells x) (grown_holds 1000 id h x)) tt
+    tree_ok op x (Some id) h = answer_if (is_datum cells x) (data_of.tree_made (data_of.grown_to MAX_HEIGHT id cells x)) (Err (refused op)) (by_tree (data_of.grown_to MAX_HEIGHT id cells x) (grown_holds MAX_HEIGHT id h x)) tt
       where
         by_tree : (r : Result Tree Bare) → OkHolds (TreeHolds P) r → AnswerOr (data_of.tree_made r)
         by_tree (Ok t) k = k

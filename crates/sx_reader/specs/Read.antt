@@ -7,10 +7,11 @@ use Rattle.sx_lexer.specs.declared.token.Lexeme.{Lexeme}
 use Rattle.sx_machine.specs.declared.partial.State.{State}
 use Rattle.sx_machine.specs.Step.{state, step, finish}
 use Rattle.sx_reader.specs.Lexemes.{Lexed, lexed}
+use Rattle.sx_reader.specs.declared.read.TheConstants.{NESTING}
 
 -- how many forms may be nested in a program or library
 abbrev pub file_nesting : ℕ
-file_nesting = 500
+file_nesting = NESTING
 
 -- how many forms may be nested in any source that is read
 abbrev pub most_nesting : ℕ

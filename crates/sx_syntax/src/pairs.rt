@@ -19,10 +19,7 @@ use sx_base::fault::{Bare, BareStop, FaultKind};
 use sx_base::items::Items;
 use sx_base::memory::Memory;
 use sx_base::span::Span;
-
-const MAX_HEIGHT: u32 = 1000;
-
-const MAX_SIZE: u32 = 16_777_216;
+use sx_tree::limits::{MAX_HEIGHT, MAX_SIZE};
 
 /// The fault of a tree that passes a limit.
 pub(crate) fn too_deep(alloc: Global) -> BareStop
@@ -36,7 +33,7 @@ pub(crate) fn too_deep(alloc: Global) -> BareStop
 
 /// The extent of a list with one more element before the others, within the limits.
 fn grown(element: Extent, rest: Extent, joint: u32) -> Option<Extent>
-    requires rest { (rest.height ≤ 1000) × (rest.size ≤ 16777216) }
+    requires rest { (rest.height ≤ MAX_HEIGHT) × (rest.size ≤ MAX_SIZE) }
     requires joint { joint ≤ 1 }
     ensures { Grows result (grown_height element rest joint) (grown_size element rest joint) }
 {

@@ -3,6 +3,7 @@ use Rattle.std.specs.Prelude.{ℕ, ◌+◌, ◌≤◌, max, Bool, ◌&&◌, nat_
 use Rattle.sx_base.specs.declared.atom.Atom.TheVariants.{Nil}
 use Rattle.sx_base.specs.declared.fault.Bare.{Bare}
 use Rattle.sx_base.specs.declared.fault.FaultKind.TheVariants as kind
+use Rattle.sx_tree.specs.declared.limits.TheConstants.{MAX_HEIGHT, MAX_SIZE}
 use Rattle.sx_tree.specs.Tree.{Tree, atom, leaf, pair, vector, is_list}
 
 -- 1 at a tail that is no list, and 0 at the rest of a list
@@ -32,10 +33,10 @@ greatest (n ∷ ns) = max n (greatest ns)
 
 -- within the limits of a tree
 abbrev pub Fits : Tree → Type 0
-Fits t = (height t ≤ 1000) × (size t ≤ 16777216)
+Fits t = (height t ≤ MAX_HEIGHT) × (size t ≤ MAX_SIZE)
 
 abbrev pub fits : Tree → Bool
-fits t = nat_le (height t) 1000 && nat_le (size t) 16777216
+fits t = nat_le (height t) MAX_HEIGHT && nat_le (size t) MAX_SIZE
 
 abbrev pub too_deep : Bare
 too_deep = record { kind = kind.TooDeep; words = [] }
