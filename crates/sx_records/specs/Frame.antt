@@ -18,7 +18,11 @@ rows_for ns = map core_row ns
 -- `record-type-descriptor record-constructor-descriptor mutable immutable`
 abbrev pub introduced_numbers : List ℕ
 introduced_numbers =
-    names.QUOTE ∷ names.LAMBDA ∷ names.BEGIN ∷ names.DEFINE ∷ names.DEFINE_SYNTAX ∷ names.UNDERSCORE ∷ names.SYNTAX_CASE ∷ names.SYNTAX ∷ names.MAKE_RECORD_TYPE_DESCRIPTOR ∷ names.MAKE_RECORD_CONSTRUCTOR_DESCRIPTOR ∷ names.RECORD_CONSTRUCTOR ∷ names.RECORD_PREDICATE ∷ names.RECORD_ACCESSOR ∷ names.RECORD_MUTATOR ∷ names.RECORD_TYPE_DESCRIPTOR ∷ names.RECORD_CONSTRUCTOR_DESCRIPTOR ∷ names.MUTABLE ∷ names.IMMUTABLE ∷ []
+    names.QUOTE ∷ names.LAMBDA ∷ names.BEGIN ∷ names.DEFINE ∷
+    names.DEFINE_SYNTAX ∷ names.UNDERSCORE ∷ names.SYNTAX_CASE ∷ names.SYNTAX ∷
+    names.MAKE_RECORD_TYPE_DESCRIPTOR ∷ names.MAKE_RECORD_CONSTRUCTOR_DESCRIPTOR ∷ names.RECORD_CONSTRUCTOR ∷ names.RECORD_PREDICATE ∷
+    names.RECORD_ACCESSOR ∷ names.RECORD_MUTATOR ∷ names.RECORD_TYPE_DESCRIPTOR ∷ names.RECORD_CONSTRUCTOR_DESCRIPTOR ∷
+    names.MUTABLE ∷ names.IMMUTABLE ∷ []
 
 -- their rows, in this order
 unfoldable pub record_frame : List FrameRow
