@@ -8,9 +8,8 @@ use Rattle.sx_base.specs.declared.op.names.TheConstants as names
 use Rattle.sx_builtin.specs.declared.library.Library.{Library}
 use Rattle.sx_builtin.specs.Libraries.{library_named, library_numbers}
 
--- the definitions of the derived library, in order, each with the number of its name where it is exported:
--- `syntax-rules let let* and or cond`, `case-clauses` for itself alone, `case when unless with-syntax do
--- let*-values`, `lv-formals` and `lv-clauses` for itself alone, `let-values assert identifier-syntax`
+-- the definitions of the derived library, in order, each with the number of its name where it is exported; those of `case-clauses`,
+-- `lv-formals` and `lv-clauses` it has for itself alone
 abbrev pub derived : List (Option ℕ)
 derived =
     Some names.SYNTAX_RULES ∷ Some names.LET ∷ Some names.LET_STAR ∷ Some names.AND ∷ Some names.OR ∷ Some names.COND ∷

@@ -33,7 +33,7 @@ use sx_standing::means::{Counts, Means};
 use sx_standing::ready::ReadyRecords;
 use sx_syntax::syn::Syn;
 
-// In this order: `map for-each for-all exists filter remp find memp fold-left fold-right`.
+// The procedures that have a text, in the order of their codes.
 const PROCEDURES: [Op; 10] = [
     Op(names::MAP),
     Op(names::FOR_EACH),

@@ -13,9 +13,7 @@ core_row n = record { frame = core_frame; symbol = op_text n; marks = []; label 
 unfoldable pub rows_for : List ℕ → List FrameRow
 rows_for ns = map core_row ns
 
--- the names that record forms introduce, by number: `quote lambda begin define define-syntax _ syntax-case syntax`,
--- `make-record-type-descriptor make-record-constructor-descriptor record-constructor record-predicate record-accessor record-mutator`,
--- `record-type-descriptor record-constructor-descriptor mutable immutable`
+-- the names that record forms introduce, by number
 abbrev pub introduced_numbers : List ℕ
 introduced_numbers =
     names.QUOTE ∷ names.LAMBDA ∷ names.BEGIN ∷ names.DEFINE ∷

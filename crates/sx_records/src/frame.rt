@@ -15,9 +15,7 @@ use sx_base::symbol::Symbol;
 use sx_tree::frame_row::FrameRow;
 use sx_tree::marks::Marks;
 
-/// The numbers of the names that record forms introduce: `quote`, `lambda`, `begin`, `define`, `define-syntax`, `_`,
-/// `syntax-case`, `syntax`, the procedures that make descriptors, constructors, predicates, accessors and
-/// mutators, `record-type-descriptor`, `record-constructor-descriptor`, `mutable` and `immutable`.
+/// The numbers of the names that record forms introduce.
 pub const INTRODUCED: [u16; 18] = [
     names::QUOTE,
     names::LAMBDA,
