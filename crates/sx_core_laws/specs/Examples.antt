@@ -1,5 +1,6 @@
 -- Small examples, of what each test takes and of what it refuses.
 use Rattle.std.specs.Prelude.{◌≡◌, ℕ, Bool, true, false, List, [], ◌∷◌, Option, None, Some, codes, pos}
+use Rattle.sx_base.specs.Op.{name_count}
 use Rattle.sx_base.specs.Datum as datum
 use Rattle.sx_base.specs.declared.atom.Atom.TheVariants as a
 use Rattle.sx_base.specs.declared.library.LibName.{LibName}

@@ -7,11 +7,10 @@ use Rattle.sx_base.specs.declared.fault.Bare.{Bare}
 use Rattle.sx_base.specs.declared.fault.FaultKind.{FaultKind}
 use Rattle.sx_base.specs.declared.fault.FaultKind.TheVariants as kind
 use Rattle.sx_base.specs.declared.op.names.TheConstants as names
-use Rattle.sx_tree.specs.declared.limits.TheConstants.{MAX_HEIGHT}
 use Rattle.sx_core.specs.Template as template
 use Rattle.sx_core.specs.Template.{PlainTemplate, PlainItems}
 use Rattle.sx_frames.specs.Scope.{Scope}
-use Rattle.sx_tree.specs.Measures.{within, fits}
+use Rattle.sx_tree.specs.Measures.{within, fits, max_height}
 use Rattle.sx_tree.specs.Tree.{Tree, vector_of, list_of}
 use Rattle.sx_value.specs.Cells.{vector_at, string_at}
 use Rattle.sx_value.specs.FromDatum.{pairs_stored, vector_stored}
@@ -124,7 +123,7 @@ others-tree (Err f) h = h
 others-tree_by : (op : ℕ) (cells : List Cell) (x : Value) (o : Option Tree) → Others (tree_by op cells x o)
 others-tree_by op cells x None = tt
 others-tree_by op cells x (Some id) =
-    others-if (is_datum cells x) (tree_made (grown_to MAX_HEIGHT id cells x)) (Err (refused op)) (others-tree (grown_to MAX_HEIGHT id cells x) (others-grown MAX_HEIGHT id cells x)) tt
+    others-if (is_datum cells x) (tree_made (grown_to max_height id cells x)) (Err (refused op)) (others-tree (grown_to max_height id cells x) (others-grown max_height id cells x)) tt
 
 others-syntax : (op : ℕ) (args : List Value) (cells : List Cell) → Others (syntax_answer op args cells)
 unfolding syntax_answer

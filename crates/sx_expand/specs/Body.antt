@@ -15,7 +15,6 @@ use Rattle.sx_core.specs.declared.record.Line.{Line}
 use Rattle.sx_core.specs.declared.record.Line.TheVariants as line
 use Rattle.sx_standing.specs.State.{Does, fresh, fresh_frame, fault_form}
 use Rattle.sx_standing.specs.InScope.{within}
-use Rattle.sx_heads.specs.declared.depth.TheConstants.{MOST_ROUND}
 use Rattle.sx_heads.specs.Items.{begun}
 use Rattle.sx_heads.specs.declared.item.Item.{Item}
 use Rattle.sx_heads.specs.declared.item.Item.TheVariants as items
@@ -25,7 +24,7 @@ use Rattle.sx_heads.specs.declared.taken.Taken.{Taken}
 use Rattle.sx_heads.specs.declared.taken.Waiting.{Waiting}
 use Rattle.sx_heads.specs.declared.taken.Waits.{Waits}
 use Rattle.sx_heads.specs.declared.taken.Waits.TheVariants as waits
-use Rattle.sx_heads.specs.Depth.{deeper}
+use Rattle.sx_heads.specs.Depth.{deeper, most_round}
 use Rattle.sx_expand.specs.Inside.{Inside}
 use Rattle.sx_expand.specs.Keywords.{define_syntax, with_keywords}
 use Rattle.sx_expand.specs.Settle.{settle_item}
@@ -52,7 +51,7 @@ perform_settled go depth p = perform_item go p.1.at depth p.0 p.1.form p.1.item
 
 -- takes a form of a body
 unfoldable pub item : Inside → BodyAt → ℕ → Taken → Tree → Does Taken
-item go at depth done t s = if nat_lt MOST_ROUND depth then fault_form kind.TooDeep t at.place s else after (settle_item go.earlier at depth done t s) (perform_settled go depth)
+item go at depth done t s = if nat_lt most_round depth then fault_form kind.TooDeep t at.place s else after (settle_item go.earlier at depth done t s) (perform_settled go depth)
 
 -- The second pass.
 

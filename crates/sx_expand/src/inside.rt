@@ -3,4 +3,4 @@
 use sx_heads::depth::MOST_ROUND;
 
 /// So many forms inside one another are enough: those deeper are refused for their depth.
-pub const ROOM: u16 = MOST_ROUND + 2;
+pub(crate) const ROOM: u16 = MOST_ROUND + 2;

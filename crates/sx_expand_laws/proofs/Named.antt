@@ -35,7 +35,7 @@ use Rattle.sx_standing.specs.Standing.{label_standing, numbered_as, given_as, bo
 use Rattle.sx_standing.specs.State.{State, Does, fresh, fault_form}
 use Rattle.sx_standing.specs.declared.standing.Standing.TheVariants as standing
 use Rattle.sx_standing.specs.declared.standing.Standing.{Standing}
-use Rattle.sx_heads.specs.declared.depth.TheConstants.{MOST_ROUND}
+use Rattle.sx_heads.specs.Depth.{most_round}
 use Rattle.sx_heads.specs.Plan.{reference, target_by, plan_of}
 use Rattle.sx_heads.specs.declared.plan.KeywordUse.{KeywordUse}
 use Rattle.sx_heads.specs.declared.plan.KeywordUse.TheVariants as keyword_use
@@ -172,7 +172,7 @@ unfolding inside form_at
 form-named rs zero place level depth t s h = tt
 form-named rs (suc room) place level depth (leaf r x c) s h =
     let earlier = (inside rs room).earlier in
-    gave-if (Answers earlier place level (leaf r x c) s) (nat_lt MOST_ROUND depth) _ _ (λ e. tt)
+    gave-if (Answers earlier place level (leaf r x c) s) (nat_lt most_round depth) _ _ (λ e. tt)
     (λ e. gave-after (IsSettled earlier place level (leaf r x c) s) (Answers earlier place level (leaf r x c) s) (settle earlier place level (leaf r x c) s) (perform_settled (inside rs room) level depth)
     (settle-named earlier place level (leaf r x c) s s.uses_left (reference-named place level (leaf r x c) s)) (performs-named earlier place level (leaf r x c) s (inside rs room) depth))
 form-named rs (suc room) place level depth (atom r a) s h = absurd (cc)

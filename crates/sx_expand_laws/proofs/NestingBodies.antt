@@ -16,8 +16,7 @@ use Rattle.sx_core_laws.specs.Records.{line_core}
 use Rattle.sx_core_laws.specs.Words.{Each}
 use Rattle.sx_shapes.specs.declared.shape.FormalIds.{FormalIds}
 use Rattle.sx_standing.specs.State.{State, fresh, fresh_frame}
-use Rattle.sx_heads.specs.declared.depth.TheConstants.{MOST_ROUND}
-use Rattle.sx_heads.specs.Depth.{deeper}
+use Rattle.sx_heads.specs.Depth.{deeper, most_round}
 use Rattle.sx_heads.specs.Items.{begun, is_top}
 use Rattle.sx_heads.specs.declared.taken.BodyAt.{BodyAt}
 use Rattle.sx_heads.specs.declared.taken.Taken.{Taken}
@@ -45,7 +44,7 @@ use Rattle.sx_expand_laws.proofs.NestingItems.{IsDeep, AreWaiting, waiting-grown
 pub record Nests (own : LibName) (go : Inside) : Type 0 where
   pub moves : Moves own go
   pub form : (place : Span) (level depth : ℕ) (t : Tree) (s : State) → Here own s → Gave (λ c u. Within u.bindings level depth deepest c) (go.form place level depth t s)
-  pub procedure : (place : Span) (level depth : ℕ) (t : Tree) (ids : FormalIds) (forms : List Tree) (s : State) → depth ≤ MOST_ROUND + 1 → Here own s → Gave (λ c u. WithinCase u.bindings level depth (deepest + 2) c) (go.procedure place level depth t ids forms s)
+  pub procedure : (place : Span) (level depth : ℕ) (t : Tree) (ids : FormalIds) (forms : List Tree) (s : State) → depth ≤ most_round + 1 → Here own s → Gave (λ c u. WithinCase u.bindings level depth (deepest + 2) c) (go.procedure place level depth t ids forms s)
   pub item : (at : BodyAt) (base depth : ℕ) (d : Taken) (t : Tree) (start s : State) → base ≤ depth → Here own s → (is_top at.kind ≡ true → at.level ≡ 0) → Took own (is_top at.kind) start d s → AreWaiting at base d s.bindings
       → Gave (λ e u. AreWaiting at base e u.bindings) (go.item at depth d t s)
 
@@ -63,7 +62,7 @@ lines-kinds bs level base [] (x ∷ xs) h = elim h [ ]
 lines-kinds bs level base (w ∷ ws) [] h = elim h [ ]
 lines-kinds bs level base (w ∷ ws) (x ∷ xs) h = let k = lines-kinds bs level base ws xs h.1 in λ i. h.0.1 i ∷ k i
 
-module _ (bs : Bindings) (level base : ℕ) (room : base ≤ MOST_ROUND + 1) where
+module _ (bs : Bindings) (level base : ℕ) (room : base ≤ most_round + 1) where
   inits-within : (xs : List Line) → Each (λ x. Within bs level base deepest (line_core x)) xs → Each (IsLeveled bs level) (kind_labels (kinds xs)) → Each (WithinInit bs level base (deepest + 1)) (inits_in xs)
   inits-within [] h k = tt
   inits-within (line.Define l c ∷ xs) h k = (record { label = k.0; value = within-at bs level base deepest base (deepest + 1) c (omega arith) h.0 }, inits-within xs h.1 k.1)
@@ -84,23 +83,23 @@ module _ (bs : Bindings) (level base : ℕ) (room : base ≤ MOST_ROUND + 1) whe
 module _ (own : LibName) (go : Inside) (nests : Nests own go) where
   -- The second pass.
 
-  no-value-within : (bs : Bindings) (level depth : ℕ) → depth ≤ MOST_ROUND + 1 → Within bs level depth (deepest + 2) no_value
+  no-value-within : (bs : Bindings) (level depth : ℕ) → depth ≤ most_round + 1 → Within bs level depth (deepest + 2) no_value
   no-value-within bs level depth le =
       let f = datum.atom None (atoms.Bool false) in
       one_armed-within bs level depth (deepest + 1) (deepest + 2) (omega arith) (quoted f) (quoted f) (quoted-within bs level depth (deepest + 1) f (omega (arith, le))) (quoted-within bs level depth (deepest + 1) f (omega (arith, le)))
 
-  value-nests : (place : Span) (level depth : ℕ) (o : Option Tree) (s : State) → depth ≤ MOST_ROUND + 1 → Here own s → Gave (λ c u. Within u.bindings level depth (deepest + 2) c) (value_of go place level depth o s)
+  value-nests : (place : Span) (level depth : ℕ) (o : Option Tree) (s : State) → depth ≤ most_round + 1 → Here own s → Gave (λ c u. Within u.bindings level depth (deepest + 2) c) (value_of go place level depth o s)
   value-nests place level depth None s le h = no-value-within s.bindings level depth le
   value-nests place level depth (Some t) s le h =
       gave-less (λ c u. Within u.bindings level depth deepest c) (λ c u. Within u.bindings level depth (deepest + 2) c) (go.form place level depth t s) (nests.form place level depth t s h) (λ c u k. within-at u.bindings level depth deepest depth (deepest + 2) c (omega arith) k)
 
   -- what stands one deeper, nearer
-  nearer : (bs : Bindings) (level base depth n : ℕ) (c : PlainCore) → base ≤ depth → depth ≤ MOST_ROUND → n ≤ (deepest + 4) → Within bs level (deeper depth) n c → Within bs level base deepest c
+  nearer : (bs : Bindings) (level base depth n : ℕ) (c : PlainCore) → base ≤ depth → depth ≤ most_round → n ≤ (deepest + 4) → Within bs level (deeper depth) n c → Within bs level base deepest c
   nearer bs level base depth n c le room most h =
       let next = deeper-next depth room in
       within-at bs level (depth + 1) n base deepest c (omega (arith, le, most)) (subst (λ d. Within bs level d n c) next h)
 
-  line-nests : (level base depth : ℕ) (place : Span) (w : Waits) (s : State) → base ≤ depth → depth ≤ MOST_ROUND → Here own s
+  line-nests : (level base depth : ℕ) (place : Span) (w : Waits) (s : State) → base ≤ depth → depth ≤ most_round → Here own s
       → Gave (λ x u. Within u.bindings level base deepest (line_core x) × (line_kind x ≡ wait_kind w)) (finish_as go level place depth w s)
   unfolding finish_as fresh
   line-nests level base depth place (waits.Variable l value) s le room h =
@@ -109,7 +108,7 @@ module _ (own : LibName) (go : Inside) (nests : Nests own go) where
       (λ c u k. (nearer u.bindings level base depth (deepest + 2) c le room (omega arith) k, refl))
   line-nests level base depth place (waits.Procedure l x ids forms) s le room h =
       let n = s.names in
-      let up : deeper depth ≤ MOST_ROUND + 1 = let e = deeper-next depth room in omega (arith, e, room) in
+      let up : deeper depth ≤ most_round + 1 = let e = deeper-next depth room in omega (arith, e, room) in
       gave-after (λ c u. WithinCase u.bindings level (deeper depth) (deepest + 2) c) (λ y u. Within u.bindings level base deepest (line_core y) × (line_kind y ≡ wait_kind (waits.Procedure l x ids forms))) (go.procedure place level (deeper depth) x ids forms (counted s))
       (λ c. give (line.Define l (procedure (record { 0 = n }) (cases (c ∷ [])) true)))
       (nests.procedure place level (deeper depth) x ids forms (counted s) up (here-counted own s h))
@@ -126,7 +125,7 @@ module _ (own : LibName) (go : Inside) (nests : Nests own go) where
   lines-nest level base ws s deep h =
       gave-pairs own (finish_one go level) (IsDeep base) (λ bs w x. LineWithin bs level base w x) (λ bs cs ext w x k. line-grown level base w x bs cs ext k) (λ w t d k. one-nests level base w t d k) ws s deep h
 
-  finish-nests : (at : BodyAt) (place : Span) (depth : ℕ) (t : Tree) (d : Taken) (s : State) → depth ≤ MOST_ROUND + 1 → Here own s → AreWaiting at depth d s.bindings → Gave (λ c u. Within u.bindings at.level depth (deepest + 2) c) (finish go place at.level t d s)
+  finish-nests : (at : BodyAt) (place : Span) (depth : ℕ) (t : Tree) (d : Taken) (s : State) → depth ≤ most_round + 1 → Here own s → AreWaiting at depth d s.bindings → Gave (λ c u. Within u.bindings at.level depth (deepest + 2) c) (finish go place at.level t d s)
   unfolding finish
   finish-nests at place depth t d s room h w =
       gave-if (λ c u. Within u.bindings at.level depth (deepest + 2) c) d.has_expression (after (finish_all go at.level d.waiting s) (λ xs. give (body_core xs))) _
@@ -167,7 +166,7 @@ module _ (own : LibName) (go : Inside) (nests : Nests own go) where
   pub first-nests : (at : BodyAt) (depth : ℕ) (forms : List Tree) (s : State) → Here own s → (is_top at.kind ≡ true → at.level ≡ 0) → Gave (λ e t. Splices at depth s s e t) (splice go at depth begun forms s)
   first-nests at depth forms s h low = splice-nests at depth depth s begun forms s (omega arith) h low (took-none own (is_top at.kind) s) (record { deep = tt; labels = tt })
 
-  pub body-nests : (place : Span) (level depth : ℕ) (t : Tree) (forms : List Tree) (s : State) → depth ≤ MOST_ROUND + 1 → Here own s → Gave (λ c u. Within u.bindings level depth (deepest + 2) c) (body go place level depth t forms s)
+  pub body-nests : (place : Span) (level depth : ℕ) (t : Tree) (forms : List Tree) (s : State) → depth ≤ most_round + 1 → Here own s → Gave (λ c u. Within u.bindings level depth (deepest + 2) c) (body go place level depth t forms s)
   unfolding body fresh_frame
   body-nests place level depth t forms s room h =
       let at = lambda_at (as_frame s.names) place level in

@@ -31,8 +31,7 @@ use Rattle.sx_standing.specs.declared.standing.Standing.{Standing}
 use Rattle.sx_standing.specs.declared.standing.Standing.TheVariants as standing
 use Rattle.sx_standing.specs.declared.standing.Variable.{Variable}
 use Rattle.sx_standing.specs.InScope.{is_in_scope}
-use Rattle.sx_heads.specs.declared.depth.TheConstants.{MOST_ROUND}
-use Rattle.sx_heads.specs.Depth.{deeper}
+use Rattle.sx_heads.specs.Depth.{deeper, most_round}
 use Rattle.sx_heads.specs.Items.{is_top}
 use Rattle.sx_heads.specs.Plan.{variable_at, refer, reference, target_by, assign_to, assign_by, assign, done, plan_of}
 use Rattle.sx_heads.specs.declared.item.Item.{Item}
@@ -216,7 +215,7 @@ module _ (own : LibName) (go : Inside) (nests : Nests own go) where
         (gave-pairs own (go.form place level depth) (λ x. Unit {0}) (λ bs x c. Within bs level depth deepest c) (λ bs cs ext x c k. within-grown bs cs ext level depth deepest c k) (λ x t q k. form-both x t k) forms s (nothing-asked forms) h)
         (λ cs u k. (k.0, pairs-each (λ (x : Tree). Within u.bindings level depth deepest) (Within u.bindings level depth deepest) (λ x c j. j) forms cs k.1))
 
-    module _ (room : depth ≤ MOST_ROUND + 1) where
+    module _ (room : depth ≤ most_round + 1) where
       application-nests : (operator : Tree) (operands : List Tree) (s : State) → Here own s → Gave (C (deepest + 3)) (application go place level depth operator operands s)
       unfolding application
       application-nests operator operands s h =
@@ -362,8 +361,8 @@ module _ (own : LibName) (go : Inside) (nests : Nests own go) where
 
   -- A form.
 
-  module _ (place : Span) (level depth : ℕ) (t : Tree) (room : depth ≤ MOST_ROUND) where
-    inner : deeper depth ≤ MOST_ROUND + 1
+  module _ (place : Span) (level depth : ℕ) (t : Tree) (room : depth ≤ most_round) where
+    inner : deeper depth ≤ most_round + 1
     inner = let e = deeper-next depth room in omega (arith, e, room)
 
     -- what was made one deeper
@@ -394,7 +393,7 @@ module _ (own : LibName) (go : Inside) (nests : Nests own go) where
   form-nests : (place : Span) (level depth : ℕ) (t : Tree) (s : State) → Here own s → Gave (λ c u. Within u.bindings level depth deepest c) (form_at go place level depth t s)
   unfolding form_at
   form-nests place level depth t s h =
-      gave-if (λ c u. Within u.bindings level depth deepest c) (nat_lt MOST_ROUND depth) _ (after (settle go.earlier place level t s) (perform_settled go level depth)) (λ e. tt)
+      gave-if (λ c u. Within u.bindings level depth deepest c) (nat_lt most_round depth) _ (after (settle go.earlier place level t s) (perform_settled go level depth)) (λ e. tt)
       (λ e. gave-after (λ d u. Later own s u × IsShort d.plan) (λ c u. Within u.bindings level depth deepest c) (settle go.earlier place level t s) (perform_settled go level depth)
       (gave-both (λ d u. Later own s u) (λ d u. IsShort d.plan) (settle go.earlier place level t s) (settle-later own go.earlier s.uses_left place level t s h.0) (settle-short go.earlier s.uses_left place level t s))
       (λ d u k. performs d.place level depth d.form (not-deep depth e) d.plan u k.1 (here-later own s u h k.0)))
@@ -431,7 +430,7 @@ module _ (own : LibName) (go : Inside) (nests : Nests own go) where
       → Gave (λ e u. AreWaiting at base e u.bindings) (item go at depth d t s)
   unfolding item
   item-nests at base depth d t start s deep h low k w =
-      gave-if (λ e u. AreWaiting at base e u.bindings) (nat_lt MOST_ROUND depth) _ (after (settle_item go.earlier at depth d t s) (expand_body.perform_settled go depth)) (λ e. tt)
+      gave-if (λ e u. AreWaiting at base e u.bindings) (nat_lt most_round depth) _ (after (settle_item go.earlier at depth d t s) (expand_body.perform_settled go depth)) (λ e. tt)
       (λ e. gave-after (λ p u. Settles own go.earlier start depth at s p u × AreWaiting at base p.0 u.bindings) (λ x u. AreWaiting at base x u.bindings) (settle_item go.earlier at depth d t s) (expand_body.perform_settled go depth)
       (gave-both (Settles own go.earlier start depth at s) (λ p u. AreWaiting at base p.0 u.bindings) (settle_item go.earlier at depth d t s) (settle-takes own go.earlier start depth s.uses_left at d t s h.0 low k)
       (settle-waits own go.earlier start base depth deep (not-deep depth e) s.uses_left at d t s h low k w))

@@ -17,7 +17,6 @@ use Rattle.sx_quasi.specs.Plan as quasi
 use Rattle.sx_quasi.specs.declared.quasi_syntax.Insert.{Insert}
 use Rattle.sx_quasi.specs.declared.quasi_syntax.QuasiSyntax.{QuasiSyntax}
 use Rattle.sx_quasi.specs.declared.word.Family.{Family}
-use Rattle.sx_heads.specs.declared.depth.TheConstants.{MOST_ROUND}
 use Rattle.sx_quasi_code.specs.Filled.{op_of, call_of, next_code, filled, all_filled}
 use Rattle.sx_quasi_code.specs.Form.{form_of, parts_of, code_of}
 use Rattle.sx_quasi_code.specs.Inserted.{insert_variables, inserts_pattern, list_op, only_clause, match_of, bind_inserts, inserted_in, inserted, plain_instance, syntax_code}
@@ -28,7 +27,7 @@ use Rattle.sx_quasi_code.specs.declared.parts.Part.{Part}
 use Rattle.sx_shapes.specs.At.{place_of}
 use Rattle.sx_standing.specs.Patterns.{template_of}
 use Rattle.sx_standing.specs.State.{State, fresh_frame}
-use Rattle.sx_heads.specs.Depth.{deeper}
+use Rattle.sx_heads.specs.Depth.{deeper, most_round}
 use Rattle.sx_expand.specs.Inside.{Inside}
 use Rattle.sx_expand.specs.Quasi.{part_core, parts_in_order, quasi_made, quasi_form}
 use Rattle.sx_expand_laws.specs.States.{Later}
@@ -57,21 +56,21 @@ Codes bs level (p ∷ ps) [] = ⊥
 Codes bs level (p ∷ ps) (c ∷ cs) = PartWithin bs level p c × Codes bs level ps cs
 
 -- a part that has a code isn't too deep
-part-room : (bs : Bindings) (level depth : ℕ) (c : PlainCore) → Within bs level depth deepest c → depth ≤ MOST_ROUND
+part-room : (bs : Bindings) (level depth : ℕ) (c : PlainCore) → Within bs level depth deepest c → depth ≤ most_round
 part-room bs level depth c h = let low = h.low in let some = some-height c in omega (arith, low, some)
 
 -- what is made is a part where it is too deep
 made-parts : (t : Tree) (depth : ℕ) (done : List Part) → with_made t depth done ≡ done ++ with_made t depth []
-made-parts t depth done = by (nat_lt MOST_ROUND depth)
+made-parts t depth done = by (nat_lt most_round depth)
   where
     by : (b : Bool) → (if b then done ++ part t depth ∷ [] else done) ≡ done ++ (if b then [] ++ part t depth ∷ [] else [])
     by true = refl
     by false = sym (append-nil done)
 
-made-room : (bs : Bindings) (level : ℕ) (t : Tree) (depth : ℕ) (rest : List Part) (cs : List PlainCore) → Codes bs level (with_made t depth [] ++ rest) cs → (depth ≤ MOST_ROUND) × Codes bs level rest cs
-made-room bs level t depth rest cs h = by (nat_lt MOST_ROUND depth) refl cs h
+made-room : (bs : Bindings) (level : ℕ) (t : Tree) (depth : ℕ) (rest : List Part) (cs : List PlainCore) → Codes bs level (with_made t depth [] ++ rest) cs → (depth ≤ most_round) × Codes bs level rest cs
+made-room bs level t depth rest cs h = by (nat_lt most_round depth) refl cs h
   where
-    by : (b : Bool) → nat_lt MOST_ROUND depth ≡ b → (ds : List PlainCore) → Codes bs level ((if b then [] ++ part t depth ∷ [] else []) ++ rest) ds → (depth ≤ MOST_ROUND) × Codes bs level rest ds
+    by : (b : Bool) → nat_lt most_round depth ≡ b → (ds : List PlainCore) → Codes bs level ((if b then [] ++ part t depth ∷ [] else []) ++ rest) ds → (depth ≤ most_round) × Codes bs level rest ds
     by true e [] k = elim k [ ]
     by true e (d ∷ ds) k = absurd (too-deep depth e (part-room bs level depth d k.0))
     by false e ds k = (not-deep depth e, k)
@@ -108,7 +107,7 @@ module _ (bs : Bindings) (level : ℕ) (t : Tree) where
   next-nests x depth rest [] h = elim h [ ]
   next-nests x depth rest (c ∷ cs) h = h
 
-  calls : (o : Op) (depth : ℕ) (cs : List PlainCore) → deeper depth ≤ MOST_ROUND → Each (Within bs level (deeper depth) deepest) cs → Within bs level depth deepest (call_of o cs)
+  calls : (o : Op) (depth : ℕ) (cs : List PlainCore) → deeper depth ≤ most_round → Each (Within bs level (deeper depth) deepest) cs → Within bs level depth deepest (call_of o cs)
   calls o depth cs room h =
       let up = deeper-up depth in
       let next = deeper-next depth (omega (arith, up, room)) in
@@ -160,14 +159,14 @@ module _ (own : LibName) (go : Inside) (nests : Nests own go) (place : Span) (le
       ps s (nothing-asked ps) h
 
   -- the code of the match
-  match-within : (bs : Bindings) (depth : ℕ) (vs : List PatternVariable) (x : PlainTemplate) (span : Span) (cs : List PlainCore) → depth + 2 ≤ MOST_ROUND → Each (Within bs level (depth + 2) deepest) cs → Within bs level depth deepest (match_of vs x span cs)
+  match-within : (bs : Bindings) (depth : ℕ) (vs : List PatternVariable) (x : PlainTemplate) (span : Span) (cs : List PlainCore) → depth + 2 ≤ most_round → Each (Within bs level (depth + 2) deepest) cs → Within bs level depth deepest (match_of vs x span cs)
   match-within bs depth vs x span cs room h =
       within-at bs level (depth + 2) (deepest + 2) depth deepest (match_of vs x span cs) (omega arith)
       (matching-within bs level (depth + 2) (deepest + 1) (deepest + 2) (omega arith) (omega (arith, room)) (call_of list_op cs) (only_clause (inserts_pattern vs) x span ∷ []) span
       (call-within bs level (depth + 2) deepest (deepest + 1) (omega arith) (omega (arith, room)) (primitive list_op) cs (alone-within bs level (depth + 2) deepest (primitive list_op) tt (omega (arith, room))) h)
       (record { fender = tt; output = alone-within bs level (depth + 2) (deepest + 1) (instance x span) tt (omega (arith, room)) }, tt))
 
-  inserted-nests : (q : QuasiSyntax) (depth : ℕ) (cs : List PlainCore) (s : State) → Here own s → depth + 2 ≤ MOST_ROUND → Each (Within s.bindings level (depth + 2) deepest) cs → Gave (λ c u. Within u.bindings level depth deepest c) (inserted place level t q cs s)
+  inserted-nests : (q : QuasiSyntax) (depth : ℕ) (cs : List PlainCore) (s : State) → Here own s → depth + 2 ≤ most_round → Each (Within s.bindings level (depth + 2) deepest) cs → Gave (λ c u. Within u.bindings level depth deepest c) (inserted place level t q cs s)
   unfolding inserted fresh_frame
   inserted-nests q depth cs s h room k =
       let f = as_frame s.names in
@@ -179,7 +178,7 @@ module _ (own : LibName) (go : Inside) (nests : Nests own go) (place : Span) (le
       (λ y w i. subst (λ (z : State). Within z.bindings level depth deepest (match_of vs y (place_of t place) cs)) (sym i.same)
       (match-within v.bindings depth vs y (place_of t place) cs room (all-grown s.bindings v.bindings adds.0.grows.bound level (depth + 2) deepest cs k))))))
 
-  plain-nests : (q : QuasiSyntax) (depth : ℕ) (s : State) → depth ≤ MOST_ROUND → Gave (λ c u. Within u.bindings level depth deepest c) (plain_instance place level t q s)
+  plain-nests : (q : QuasiSyntax) (depth : ℕ) (s : State) → depth ≤ most_round → Gave (λ c u. Within u.bindings level depth deepest c) (plain_instance place level t q s)
   plain-nests q depth s room =
       gave-after (λ x u. Unit {0}) (λ c u. Within u.bindings level depth deepest c) (template_of place level q.template s) (λ y. give (instance y (place_of t place))) (gave-any (λ x u. Unit {0}) (template_of place level q.template s) (λ x u. tt))
       (λ y u k. alone-within u.bindings level depth deepest (instance y (place_of t place)) tt (omega (arith, room)))
@@ -190,13 +189,13 @@ module _ (own : LibName) (go : Inside) (nests : Nests own go) (place : Span) (le
       let two = deeper (deeper depth) in
       let some = map (insert_part two) (i ∷ is) in
       let room = (made-room s.bindings level t two some cs (pairs-codes s.bindings level (with_made t two [] ++ some) cs k)).0 in
-      let one : deeper depth ≤ MOST_ROUND = let up = deeper-up (deeper depth) in omega (arith, up, room) in
+      let one : deeper depth ≤ most_round = let up = deeper-up (deeper depth) in omega (arith, up, room) in
       let first = deeper-next (deeper depth) one in
       let second = deeper-next depth (let up = deeper-up depth in omega (arith, up, one)) in
       let is_two : two ≡ depth + 2 = omega (arith, first, second) in
-      inserted-nests q depth cs s h (omega (arith, room, is_two)) (subst (λ d. Each (Within s.bindings level d deepest) cs) is_two (inserts-each s.bindings level two (i ∷ is) cs (unmade two some (nat_lt MOST_ROUND two) refl room k)))
+      inserted-nests q depth cs s h (omega (arith, room, is_two)) (subst (λ d. Each (Within s.bindings level d deepest) cs) is_two (inserts-each s.bindings level two (i ∷ is) cs (unmade two some (nat_lt most_round two) refl room k)))
     where
-      unmade : (two : ℕ) (some : List Part) (b : Bool) → nat_lt MOST_ROUND two ≡ b → two ≤ MOST_ROUND → Had ((if b then [] ++ part t two ∷ [] else []) ++ some) s cs → Had some s cs
+      unmade : (two : ℕ) (some : List Part) (b : Bool) → nat_lt most_round two ≡ b → two ≤ most_round → Had ((if b then [] ++ part t two ∷ [] else []) ++ some) s cs → Had some s cs
       unmade two some true e room h = absurd (too-deep two e room)
       unmade two some false e room h = h
 

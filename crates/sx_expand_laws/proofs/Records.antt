@@ -29,10 +29,9 @@ use Rattle.sx_standing.specs.Start.{started}
 use Rattle.sx_standing.specs.State.{State}
 use Rattle.sx_heads.specs.Items.{begun, is_top}
 use Rattle.sx_heads.specs.declared.taken.Taken.{Taken}
-use Rattle.sx_expand.specs.declared.inside.TheConstants.{ROOM}
 use Rattle.sx_expand.specs.Body.{splice, finish_all}
 use Rattle.sx_expand.specs.Expanding.{ready, body_of, library_record}
-use Rattle.sx_expand.specs.Expression.{inside}
+use Rattle.sx_expand.specs.Expression.{inside, full_room}
 use Rattle.sx_expand.specs.Inside.{Inside}
 use Rattle.sx_expand.specs.Top.{exports, refs_of, give_record, record_in, body_at, kind_of, finished, first_pass, top}
 use Rattle.sx_expand.specs.declared.top.TopAt.{TopAt}
@@ -226,8 +225,8 @@ record-runs own path records imports version place exports forms codes r h e =
     let given = flat_map defined records in
     let start = started own records imports codes in
     let at = body_of (ready own path records imports codes) version place in
-    in-record (Runs own given start) (top (inside records ROOM) at exports forms start) r
-    (gives-top own given (inside records ROOM) (inside-safe own given records ROOM) start (started-sound own records imports codes h) (started-scope own records imports codes) (started-foreign own records imports codes h) at exports forms) e
+    in-record (Runs own given start) (top (inside records full_room) at exports forms start) r
+    (gives-top own given (inside records full_room) (inside-safe own given records full_room) start (started-sound own records imports codes h) (started-scope own records imports codes) (started-foreign own records imports codes h) at exports forms) e
 
 pub records-good : RecordsAreGood
 records-good own path records imports version place exports forms codes r h e =

@@ -10,14 +10,14 @@ use Rattle.sx_core.specs.declared.record.LibRecord.{LibRecord}
 use Rattle.sx_core_laws.specs.Follows.{all_cores}
 use Rattle.sx_core_laws.specs.Words.{Each}
 use Rattle.sx_eval.specs.Codes.{Codes}
-use Rattle.sx_heads.specs.declared.depth.TheConstants.{MOST_ROUND}
+use Rattle.sx_heads.specs.Depth.{most_round}
 use Rattle.sx_expand.specs.Expanding.{ready, library_record}
 use Rattle.sx_expand_laws.specs.Ready.{IsReady}
 
 -- At most 600 forms stand round one, so at most 601 stand in one another, and each of them comes to at most four levels of core code. That
 -- is far less than the 8,192 levels to which core text may nest.
 abbrev pub deepest : ℕ
-deepest = 4 * (MOST_ROUND + 1)
+deepest = 4 * (most_round + 1)
 
 abbrev pub IsShallow : PlainCore → Type 0
 IsShallow c = height c ≤ deepest

@@ -14,7 +14,7 @@ use Rattle.sx_standing.specs.State.{State}
 use Rattle.sx_standing.specs.declared.standing.Role.{Role}
 use Rattle.sx_standing.specs.declared.standing.Role.TheVariants as role
 use Rattle.sx_standing.specs.declared.standing.Standing.TheVariants as standing
-use Rattle.sx_heads.specs.declared.depth.TheConstants.{MOST_ROUND}
+use Rattle.sx_heads.specs.Depth.{most_round}
 use Rattle.sx_heads.specs.Items.{kept_head}
 use Rattle.sx_heads.specs.Kept.{with_head}
 use Rattle.sx_heads.specs.declared.plan.KeywordUse.TheVariants as keyword_use
@@ -32,7 +32,7 @@ IsUseOf s l (vector r d) = ⊥
 
 -- It expands to what that form expands to, which has the place of the use where it has none itself. One use less is left then.
 abbrev pub UsesAreReplaced : Type 0
-UsesAreReplaced = (records : List LibRecord) (room left : ℕ) (place : Span) (level depth : ℕ) (t : Tree) (l : Label) (s : State) → IsUseOf s l t → s.uses_left ≡ suc left → depth ≤ MOST_ROUND
+UsesAreReplaced = (records : List LibRecord) (room left : ℕ) (place : Span) (level depth : ℕ) (t : Tree) (l : Label) (s : State) → IsUseOf s l t → s.uses_left ≡ suc left → depth ≤ most_round
     → (inside records (suc room)).form place level depth t s ≡ after (next_form records left place t (keyword_use.Macro l) None s) ((inside records (suc room)).form (place_of t place) level depth)
 
 -- the identifier of the keyword
@@ -47,7 +47,7 @@ with_head_of s done t = record done { kept = with_head done.kept (kept_head s (h
 
 -- So it is in a body. There the form that comes has the body's frame, and what the keyword stood for is kept.
 abbrev pub BodyUsesAreReplaced : Type 0
-BodyUsesAreReplaced = (records : List LibRecord) (room left : ℕ) (at : BodyAt) (depth : ℕ) (done : Taken) (t : Tree) (l : Label) (s : State) → IsUseOf s l t → s.uses_left ≡ suc left → depth ≤ MOST_ROUND
+BodyUsesAreReplaced = (records : List LibRecord) (room left : ℕ) (at : BodyAt) (depth : ℕ) (done : Taken) (t : Tree) (l : Label) (s : State) → IsUseOf s l t → s.uses_left ≡ suc left → depth ≤ most_round
     → (inside records (suc room)).item at depth done t s ≡ after (next_form records left at.place t (keyword_use.Macro l) (Some at.frame) s) ((inside records (suc room)).item (at_use at t) depth (with_head_of s done t))
 
 -- a form is a use of a core form: a list that begins with an identifier that stands for it
@@ -59,7 +59,7 @@ IsFormOf s f (vector r d) = ⊥
 
 -- A record form that is an expression expands to what the form expands to that it gives.
 abbrev pub RecordFormsAreReplaced : Type 0
-RecordFormsAreReplaced = (records : List LibRecord) (room left : ℕ) (place : Span) (level depth : ℕ) (t : Tree) (f : CoreForm) (s : State) → IsFormOf s f t → role_of f ≡ role.RecordValue → s.uses_left ≡ suc left → depth ≤ MOST_ROUND
+RecordFormsAreReplaced = (records : List LibRecord) (room left : ℕ) (place : Span) (level depth : ℕ) (t : Tree) (f : CoreForm) (s : State) → IsFormOf s f t → role_of f ≡ role.RecordValue → s.uses_left ≡ suc left → depth ≤ most_round
     → (inside records (suc room)).form place level depth t s ≡ after (next_form records left place t (keyword_use.Record f) None s) ((inside records (suc room)).form (place_of t place) level depth)
 
 abbrev pub IsOfRecords : Role → Type 0
@@ -69,5 +69,5 @@ IsOfRecords _ = ⊥
 
 -- So it is in a body, where a definition of a record type may stand, too.
 abbrev pub BodyRecordFormsAreReplaced : Type 0
-BodyRecordFormsAreReplaced = (records : List LibRecord) (room left : ℕ) (at : BodyAt) (depth : ℕ) (done : Taken) (t : Tree) (f : CoreForm) (s : State) → IsFormOf s f t → IsOfRecords (role_of f) → s.uses_left ≡ suc left → depth ≤ MOST_ROUND
+BodyRecordFormsAreReplaced = (records : List LibRecord) (room left : ℕ) (at : BodyAt) (depth : ℕ) (done : Taken) (t : Tree) (f : CoreForm) (s : State) → IsFormOf s f t → IsOfRecords (role_of f) → s.uses_left ≡ suc left → depth ≤ most_round
     → (inside records (suc room)).item at depth done t s ≡ after (next_form records left at.place t (keyword_use.Record f) (Some at.frame) s) ((inside records (suc room)).item (at_use at t) depth (with_head_of s done t))

@@ -23,7 +23,6 @@ use Rattle.sx_quasi.specs.declared.quasi_syntax.Insert.{Insert}
 use Rattle.sx_quasi.specs.declared.quasi_syntax.QuasiSyntax.{QuasiSyntax}
 use Rattle.sx_quasi.specs.declared.word.Family.{Family}
 use Rattle.sx_quasi.specs.declared.word.Family.TheVariants as family
-use Rattle.sx_heads.specs.declared.depth.TheConstants.{MOST_ROUND}
 use Rattle.sx_quasi_code.specs.Filled.{next_code, filled, all_filled}
 use Rattle.sx_quasi_code.specs.Form.{quote_by, syntax_by, form_of, parts_of, code_of}
 use Rattle.sx_quasi_code.specs.Inserted.{dots, ellipsis, insert_variable, insert_variables, listed, pattern_under, insert_pattern, match_of, bind_inserts, inserted_in, inserted, syntax_code}
@@ -36,7 +35,7 @@ use Rattle.sx_shapes.specs.At.{place_of}
 use Rattle.sx_standing.specs.Binders.{put_row}
 use Rattle.sx_standing.specs.Patterns.{bind_pattern, template_of}
 use Rattle.sx_standing.specs.State.{State, fresh, fresh_frame}
-use Rattle.sx_heads.specs.Depth.{deeper}
+use Rattle.sx_heads.specs.Depth.{deeper, most_round}
 use Rattle.sx_expand.specs.Inside.{Inside}
 use Rattle.sx_expand.specs.Quasi.{part_core, parts_in_order, quasi_made, quasi_form}
 use Rattle.sx_value.specs.Cells.{Each}
@@ -91,7 +90,7 @@ module _ (own : LibName) (K : ℕ → Mark → Type 0) (J : ℕ → FrameNo → 
   part-up m n le p h = (tree-up own K J P lives first) m n le p.form h
 
   with-made-holds : (n : ℕ) (t : Tree) (depth : ℕ) (done : List Part) → (T own K J P lives first) n t → Each (PartAt n) done → Each (PartAt n) (with_made t depth done)
-  with-made-holds n t depth done h k = by (nat_lt MOST_ROUND depth)
+  with-made-holds n t depth done h k = by (nat_lt most_round depth)
     where
       by : (b : Bool) → Each (PartAt n) (if b then done ++ part t depth ∷ [] else done)
       by true = each_and (PartAt n) done (part t depth) k h
@@ -113,7 +112,7 @@ module _ (own : LibName) (K : ℕ → Mark → Type 0) (J : ℕ → FrameNo → 
 
   inserts-parts-hold : (n : ℕ) (t : Tree) (depth : ℕ) (is : List Insert) → (T own K J P lives first) n t → Each (InsertAt n) is → Each (PartAt n) (inserts_parts t depth is)
   inserts-parts-hold n t depth [] h k = with-made-holds n t depth [] h tt
-  inserts-parts-hold n t depth (i ∷ is) h k = by (nat_lt MOST_ROUND (deeper (deeper depth)))
+  inserts-parts-hold n t depth (i ∷ is) h k = by (nat_lt most_round (deeper (deeper depth)))
     where
       by : (b : Bool) → Each (PartAt n) ((if b then [] ++ part t (deeper (deeper depth)) ∷ [] else []) ++ map (insert_part (deeper (deeper depth))) (i ∷ is))
       by true = (h, insert-parts-hold n (deeper (deeper depth)) (i ∷ is) k)

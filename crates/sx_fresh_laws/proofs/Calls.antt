@@ -4,10 +4,9 @@ use Rattle.sx_base.specs.Gives.{◌>>=◌}
 use Rattle.sx_base.specs.declared.atom.Atom.TheVariants as a
 use Rattle.sx_base.specs.declared.fault.Bare.{Bare}
 use Rattle.sx_base.specs.declared.op.names.TheConstants as names
-use Rattle.sx_tree.specs.declared.limits.TheConstants.{MAX_HEIGHT}
 use Rattle.sx_tree.specs.Context.{LeafContext}
 use Rattle.sx_tree.specs.Leaves.{context_of}
-use Rattle.sx_tree.specs.Measures.{within}
+use Rattle.sx_tree.specs.Measures.{within, max_height}
 use Rattle.sx_tree.specs.Tree as tree
 use Rattle.sx_tree.specs.Tree.{Tree, list_of, vector_of}
 use Rattle.sx_frames.specs.Scope.{Scope}
@@ -324,7 +323,7 @@ module _ (P : LeafContext → Type 0) where
 
     tree_ok : (op : ℕ) (x : Value) (o : Option Tree) → OptionHolds (λ (t : Tree). P (context_of t)) o → AnswerOr (data_of.tree_by op cells x o)
     tree_ok op x None h = tt
-    tree_ok op x (Some id) h = answer_if (is_datum cells x) (data_of.tree_made (data_of.grown_to MAX_HEIGHT id cells x)) (Err (refused op)) (by_tree (data_of.grown_to MAX_HEIGHT id cells x) (grown_holds MAX_HEIGHT id h x)) tt
+    tree_ok op x (Some id) h = answer_if (is_datum cells x) (data_of.tree_made (data_of.grown_to max_height id cells x)) (Err (refused op)) (by_tree (data_of.grown_to max_height id cells x) (grown_holds max_height id h x)) tt
       where
         by_tree : (r : Result Tree Bare) → OkHolds (TreeHolds P) r → AnswerOr (data_of.tree_made r)
         by_tree (Ok t) k = k

@@ -1,7 +1,6 @@
 -- What loading keeps.
 use Rattle.std.specs.Prelude.{ℕ, suc, ◌+◌, ◌==◌, Bool, false, ◌||◌, List, [], ◌∷◌, ◌++◌, length, replicate, Option, Some, None, slice_get, if◌then◌else◌}
 use Rattle.sx_import.specs.Table.{put_first}
-use Rattle.sx_load.specs.declared.open.TheConstants.{MOST_LIBRARIES}
 use Rattle.sx_load.specs.declared.found.Source.{Source}
 use Rattle.sx_load.specs.declared.found.Opened.{Opened}
 use Rattle.sx_load.specs.declared.found.Found.{Found}
@@ -29,7 +28,7 @@ with_needs needs found = marks_with 0 needs found
 
 -- as many libraries may be loaded
 abbrev pub most_libraries : ℕ
-most_libraries = MOST_LIBRARIES
+most_libraries = 1024
 
 unfoldable pub no_needs : List Bool
 no_needs = replicate most_libraries false

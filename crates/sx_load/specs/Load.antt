@@ -20,7 +20,6 @@ use Rattle.sx_reader.specs.Read.{data_of, file_nesting}
 use Rattle.sx_report.specs.Name.{name_text}
 use Rattle.sx_load.specs.Found.{nothing_loaded, is_marked, with_needs, no_needs, most_libraries, absent_at, with_source, with_sources, with_begun, with_done, found_of}
 use Rattle.sx_file_names.specs.File.{file_of}
-use Rattle.sx_load.specs.declared.open.TheConstants.{FILE_LIMIT, RUN_LIMIT}
 use Rattle.sx_load.specs.declared.found.Source.{Source}
 use Rattle.sx_load.specs.declared.found.Opened.{Opened}
 use Rattle.sx_load.specs.declared.found.Found.{Found}
@@ -58,10 +57,10 @@ differs form = record { kind = kind.NameDiffers; span = form.name_span; words = 
 
 -- the most bytes of one file, and of all files of a run
 abbrev pub file_limit : ℕ
-file_limit = FILE_LIMIT
+file_limit = 4194304
 
 abbrev pub run_limit : ℕ
-run_limit = RUN_LIMIT
+run_limit = 67108864
 
 -- the most bytes of the next file
 abbrev pub most : ℕ → ℕ

@@ -4,7 +4,7 @@ use mathlib.Core.List.{reverse-cons}
 use Rattle.sx_base.specs.declared.atom.Atom.TheVariants as a
 use Rattle.sx_base.specs.declared.fault.Bare.{Bare}
 use Rattle.sx_base.specs.declared.op.names.TheConstants as names
-use Rattle.sx_tree.specs.declared.limits.TheConstants.{MAX_HEIGHT}
+use Rattle.sx_tree.specs.Measures.{max_height}
 use Rattle.sx_tree.specs.Tree.{Tree}
 use Rattle.sx_frames.specs.Scope.{Scope}
 use Rattle.sx_value.specs.Cells.{Each, FitsIn, Lies, CellLies, Whole}
@@ -244,7 +244,7 @@ module _ (P : Value → Type 0) (cells : List Cell) (holds : HoldsIn P cells) wh
 
   tree_ok : (op : ℕ) (x : Value) (o : Option Tree) → AnswerOr (data_of.tree_by op cells x o)
   tree_ok op x None = tt
-  tree_ok op x (Some id) = answer_if (is_datum cells x) (data_of.tree_made (data_of.grown_to MAX_HEIGHT id cells x)) (Err (refused op)) (by_tree (data_of.grown_to MAX_HEIGHT id cells x)) tt
+  tree_ok op x (Some id) = answer_if (is_datum cells x) (data_of.tree_made (data_of.grown_to max_height id cells x)) (Err (refused op)) (by_tree (data_of.grown_to max_height id cells x)) tt
     where
       by_tree : (r : Result Tree Bare) → AnswerOr (data_of.tree_made r)
       by_tree (Ok t) = holds.plain _ tt

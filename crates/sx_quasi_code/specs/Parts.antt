@@ -2,8 +2,7 @@
 -- quasi form stands in its place, at its depth, so that the fault is at the quasi form.
 use Rattle.std.specs.Prelude.{ℕ, nat_lt, List, [], ◌∷◌, ◌++◌, map, if◌then◌else◌}
 use Rattle.sx_tree.specs.Tree.{Tree}
-use Rattle.sx_heads.specs.declared.depth.TheConstants.{MOST_ROUND}
-use Rattle.sx_heads.specs.Depth.{deeper}
+use Rattle.sx_heads.specs.Depth.{deeper, most_round}
 use Rattle.sx_quasi.specs.Plan.{PlainQuasi, PlainQuasis, constant, expression, call, none, more}
 use Rattle.sx_quasi.specs.declared.quasi_syntax.Insert.{Insert}
 use Rattle.sx_quasi_code.specs.declared.parts.Part.{Part}
@@ -13,7 +12,7 @@ part t depth = record { form = t; depth = depth }
 
 -- a form that is made at this depth: it is no part, but where it is too deep the quasi form is
 abbrev pub with_made : Tree → ℕ → List Part → List Part
-with_made t depth done = if nat_lt MOST_ROUND depth then done ++ part t depth ∷ [] else done
+with_made t depth done = if nat_lt most_round depth then done ++ part t depth ∷ [] else done
 
 -- of the plan of a `quasiquote` form t, at a depth; the operator of a call is one deeper than the call
 abbrev mutual

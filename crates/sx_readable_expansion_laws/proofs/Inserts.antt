@@ -19,7 +19,6 @@ use Rattle.sx_quasi.specs.declared.quasi_syntax.Insert.{Insert}
 use Rattle.sx_quasi.specs.declared.quasi_syntax.QuasiSyntax.{QuasiSyntax}
 use Rattle.sx_quasi.specs.declared.word.Family.{Family}
 use Rattle.sx_quasi.specs.declared.word.Family.TheVariants as family
-use Rattle.sx_heads.specs.declared.depth.TheConstants.{MOST_ROUND}
 use Rattle.sx_quasi_code.specs.Filled.{next_code, filled, all_filled}
 use Rattle.sx_quasi_code.specs.Form.{quote_by, syntax_by, form_of, parts_of, code_of}
 use Rattle.sx_quasi_code.specs.Inserted.{dots, ellipsis, insert_variable, insert_variables, match_of, bind_inserts, inserted_in, inserted, syntax_code}
@@ -32,7 +31,7 @@ use Rattle.sx_shapes.specs.At.{place_of}
 use Rattle.sx_standing.specs.Binders.{put_row}
 use Rattle.sx_standing.specs.Patterns.{bind_pattern, template_of}
 use Rattle.sx_standing.specs.State.{State, fresh, fresh_frame}
-use Rattle.sx_heads.specs.Depth.{deeper}
+use Rattle.sx_heads.specs.Depth.{deeper, most_round}
 use Rattle.sx_expand.specs.Inside.{Inside}
 use Rattle.sx_expand.specs.Quasi.{part_core, parts_in_order, quasi_made, quasi_form}
 use Rattle.sx_value.specs.Cells.{Each}
@@ -85,7 +84,7 @@ abbrev PartAt : Part → Type 0
 PartAt p = T p.form
 
 with-made-holds : (t : Tree) (depth : ℕ) (done : List Part) → T t → Each PartAt done → Each PartAt (with_made t depth done)
-with-made-holds t depth done h k = by (nat_lt MOST_ROUND depth)
+with-made-holds t depth done h k = by (nat_lt most_round depth)
   where
     by : (b : Bool) → Each PartAt (if b then done ++ part t depth ∷ [] else done)
     by true = each_and PartAt done (part t depth) k h
@@ -107,7 +106,7 @@ insert-parts-hold depth (i ∷ is) h = (h.0.1, insert-parts-hold depth is h.1)
 
 inserts-parts-hold : (t : Tree) (depth : ℕ) (is : List Insert) → T t → Each InsertAt is → Each PartAt (inserts_parts t depth is)
 inserts-parts-hold t depth [] h k = with-made-holds t depth [] h tt
-inserts-parts-hold t depth (i ∷ is) h k = by (nat_lt MOST_ROUND (deeper (deeper depth)))
+inserts-parts-hold t depth (i ∷ is) h k = by (nat_lt most_round (deeper (deeper depth)))
   where
     by : (b : Bool) → Each PartAt ((if b then [] ++ part t (deeper (deeper depth)) ∷ [] else []) ++ map (insert_part (deeper (deeper depth))) (i ∷ is))
     by true = (h, insert-parts-hold (deeper (deeper depth)) (i ∷ is) k)

@@ -8,8 +8,7 @@ use Rattle.sx_base.specs.Gives.{◌>>=◌}
 use Rattle.sx_base.specs.declared.atom.Atom.TheVariants as a
 use Rattle.sx_base.specs.declared.fault.Bare.{Bare}
 use Rattle.sx_base.specs.declared.op.names.TheConstants as names
-use Rattle.sx_tree.specs.declared.limits.TheConstants.{MAX_HEIGHT}
-use Rattle.sx_tree.specs.Measures.{within}
+use Rattle.sx_tree.specs.Measures.{within, max_height}
 use Rattle.sx_tree.specs.Tree.{Tree, list_of, vector_of}
 use Rattle.sx_frames.specs.Scope.{Scope}
 use Rattle.sx_value.specs.Cells.{Each, vector_at, string_at}
@@ -413,7 +412,7 @@ module _ (cells : List Cell) (cells_hold : ReadableCells cells) where
 
   tree_ok : (op : ℕ) (x : Value) (o : Option Tree) → ReadableValue x → AnswerOr (data_of.tree_by op cells x o)
   tree_ok op x None r = tt
-  tree_ok op x (Some id) r = answer_if (is_datum cells x) (data_of.tree_made (data_of.grown_to MAX_HEIGHT id cells x)) (Err (refused op)) (by_tree (data_of.grown_to MAX_HEIGHT id cells x) (grown_holds MAX_HEIGHT id x r)) tt
+  tree_ok op x (Some id) r = answer_if (is_datum cells x) (data_of.tree_made (data_of.grown_to max_height id cells x)) (Err (refused op)) (by_tree (data_of.grown_to max_height id cells x) (grown_holds max_height id x r)) tt
     where
       by_tree : (o : Result Tree Bare) → OkHolds ReadableTree o → AnswerOr (data_of.tree_made o)
       by_tree (Ok t) k = k

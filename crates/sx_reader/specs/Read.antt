@@ -7,11 +7,10 @@ use Rattle.sx_lexer.specs.declared.token.Lexeme.{Lexeme}
 use Rattle.sx_machine.specs.declared.partial.State.{State}
 use Rattle.sx_machine.specs.Step.{state, step, finish}
 use Rattle.sx_reader.specs.Lexemes.{Lexed, lexed}
-use Rattle.sx_reader.specs.declared.read.TheConstants.{NESTING}
 
 -- how many forms may be nested in a program or library
 abbrev pub file_nesting : ℕ
-file_nesting = NESTING
+file_nesting = 500
 
 -- how many forms may be nested in any source that is read
 abbrev pub most_nesting : ℕ

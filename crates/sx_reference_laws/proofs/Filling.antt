@@ -13,7 +13,6 @@ use Rattle.sx_quasi.specs.Plan as quasi
 use Rattle.sx_quasi.specs.Plan.{PlainQuasi, PlainQuasis, constant, expression, none, more}
 use Rattle.sx_quasi.specs.declared.quasi_syntax.Insert.{Insert}
 use Rattle.sx_quasi.specs.declared.quasi_syntax.QuasiSyntax.{QuasiSyntax}
-use Rattle.sx_heads.specs.declared.depth.TheConstants.{MOST_ROUND}
 use Rattle.sx_quasi_code.specs.Filled.{next_code, filled, all_filled}
 use Rattle.sx_quasi_code.specs.Form.{parts_of, code_of}
 use Rattle.sx_quasi_code.specs.Inserted.{insert_variables, match_of, bind_inserts, inserted_in, inserted, syntax_code}
@@ -24,7 +23,7 @@ use Rattle.sx_quasi_code.specs.declared.parts.Part.{Part}
 use Rattle.sx_shapes.specs.At.{place_of}
 use Rattle.sx_standing.specs.Patterns.{template_of}
 use Rattle.sx_standing.specs.State.{State, fresh_frame}
-use Rattle.sx_heads.specs.Depth.{deeper}
+use Rattle.sx_heads.specs.Depth.{deeper, most_round}
 use Rattle.sx_value.specs.Cells.{Each}
 use Rattle.sx_expand_laws.proofs.Acts.{Gave, gave-any, gave-after, gave-within}
 
@@ -42,7 +41,7 @@ abbrev mutual
 -- No part is too deep where expansion gives something.
 
 abbrev pub IsLow : Part → Type 0
-IsLow p = nat_lt MOST_ROUND p.depth ≡ false
+IsLow p = nat_lt most_round p.depth ≡ false
 
 each-first : (ps qs : List Part) → Each IsLow (ps ++ qs) → Each IsLow ps
 each-first [] qs h = tt
@@ -53,9 +52,9 @@ each-last [] p h = h.0
 each-last (q ∷ ps) p h = each-last ps p h.1
 
 made-low : (t : Tree) (d : ℕ) (done : List Part) → Each IsLow (with_made t d done) → with_made t d done ≡ done
-made-low t d done h = by (nat_lt MOST_ROUND d) refl h
+made-low t d done h = by (nat_lt most_round d) refl h
   where
-    by : (b : Bool) → nat_lt MOST_ROUND d ≡ b → Each IsLow (if b then done ++ part t d ∷ [] else done) → (if b then done ++ part t d ∷ [] else done) ≡ done
+    by : (b : Bool) → nat_lt most_round d ≡ b → Each IsLow (if b then done ++ part t d ∷ [] else done) → (if b then done ++ part t d ∷ [] else done) ≡ done
     by true e k = absurd (true≢false (sym e ∙ each-last done (part t d) k))
     by false e k = refl
 

@@ -18,7 +18,6 @@ use Rattle.sx_core.specs.CoreView.{cases, clauses}
 use Rattle.sx_core.specs.References.{mentions, all_mentions, case_mentions, clause_mentions}
 use Rattle.sx_core.specs.declared.record.LibRecord.{LibRecord}
 use Rattle.sx_quasi.specs.declared.word.Family.{Family}
-use Rattle.sx_heads.specs.declared.depth.TheConstants.{MOST_ROUND}
 use Rattle.sx_quasi_code.specs.Form.{form_of, parts_of, code_of}
 use Rattle.sx_quasi_code.specs.declared.parts.Part.{Part}
 use Rattle.sx_shapes.specs.Lists.{is_leaf}
@@ -28,7 +27,7 @@ use Rattle.sx_shapes.specs.declared.shape.LambdaCase.{LambdaCase}
 use Rattle.sx_shapes.specs.declared.shape.PatternCase.{PatternCase}
 use Rattle.sx_standing.specs.Patterns.{check_literals}
 use Rattle.sx_standing.specs.State.{State, fresh, fault_form}
-use Rattle.sx_heads.specs.Depth.{deeper}
+use Rattle.sx_heads.specs.Depth.{deeper, most_round}
 use Rattle.sx_heads.specs.declared.plan.Plan.{Plan}
 use Rattle.sx_heads.specs.declared.plan.Plan.TheVariants as plans
 use Rattle.sx_hygiene_laws.specs.Marked.{Among}
@@ -272,12 +271,12 @@ module _ (libs : List LibName) (own : LibName) (core : Among libs library.Core) 
         abbrev PartMade : Part → State → PlainCore → State → List Reference → Type 0
         PartMade p s c u refs = Expands rs place level p.form s c u refs
 
-        form-low : (room : ℕ) (d : ℕ) (x : Tree) (s : State) → Gave (λ c u. nat_lt MOST_ROUND d ≡ false) ((inside rs room).form place level d x s)
+        form-low : (room : ℕ) (d : ℕ) (x : Tree) (s : State) → Gave (λ c u. nat_lt most_round d ≡ false) ((inside rs room).form place level d x s)
         unfolding inside form_at
         form-low zero d x s = tt
         form-low (suc room) d x s =
-            gave-if (λ c u. nat_lt MOST_ROUND d ≡ false) (nat_lt MOST_ROUND d) _ (after (settle (inside rs room).earlier place level x s) (perform_settled (inside rs room) level d)) (λ e. tt)
-            (λ e. gave-any (λ c u. nat_lt MOST_ROUND d ≡ false) (after (settle (inside rs room).earlier place level x s) (perform_settled (inside rs room) level d)) (λ c u. e))
+            gave-if (λ c u. nat_lt most_round d ≡ false) (nat_lt most_round d) _ (after (settle (inside rs room).earlier place level x s) (perform_settled (inside rs room) level d)) (λ e. tt)
+            (λ e. gave-any (λ c u. nat_lt most_round d ≡ false) (after (settle (inside rs room).earlier place level x s) (perform_settled (inside rs room) level d)) (λ c u. e))
 
         abbrev AreLow : List Part → List PlainCore → State → Type 0
         AreLow ps cs u = Each IsLow ps × (length cs ≡ length ps)
@@ -286,7 +285,7 @@ module _ (libs : List LibName) (own : LibName) (core : Among libs library.Core) 
         parts-low [] s = subst (λ (r : Result (List PlainCore × State) Fault). Gave (AreLow []) r) (sym (each-nil (part_core go place level) s)) (tt, refl)
         parts-low (p ∷ ps) s =
             subst (λ (r : Result (List PlainCore × State) Fault). Gave (AreLow (p ∷ ps)) r) (sym (each-cons (part_core go place level) p ps s))
-            (gave-after (λ c u. nat_lt MOST_ROUND p.depth ≡ false) (AreLow (p ∷ ps)) (part_core go place level p s) (λ a v. after (each (part_core go place level) [] ps v) (λ ys. give (a ∷ ys))) (form-low room p.depth p.form s)
+            (gave-after (λ c u. nat_lt most_round p.depth ≡ false) (AreLow (p ∷ ps)) (part_core go place level p s) (λ a v. after (each (part_core go place level) [] ps v) (λ ys. give (a ∷ ys))) (form-low room p.depth p.form s)
             (λ c v e. gave-after (AreLow ps) (AreLow (p ∷ ps)) (parts_in_order go place level ps v) (λ ys. give (c ∷ ys)) (parts-low ps v) (λ cs u k. ((e, k.0), ap suc k.1))))
 
         quasi-made : (which : Family) (template : Tree) (s : State) → F s → T s.names.number t → T s.names.number template → Gave (PlanMade place level t (plans.Quasi which template) s) (quasi_form go place level depth t which template s)
@@ -338,9 +337,9 @@ module _ (libs : List LibName) (own : LibName) (core : Among libs library.Core) 
       SettledSo place level t s d v = ((StateHolds own K P s.names.number v × settled.SettledAt own K J P lives first rs held v.names.number d) × (settle rs place level t s ≡ Ok (d, v))) × Settles rs level d v
 
       form-made : (place : Span) (level depth : ℕ) (t : Tree) (s : State) → F s → T s.names.number t → (es : List LibRecord) → es ≡ rs
-          → Gave (FormMade place level t s) (if nat_lt MOST_ROUND depth then fault_form kind.TooDeep t place s else after (settle es place level t s) (perform_settled go level depth))
+          → Gave (FormMade place level t s) (if nat_lt most_round depth then fault_form kind.TooDeep t place s else after (settle es place level t s) (perform_settled go level depth))
       form-made place level depth t s h g es same =
-          gave-if (FormMade place level t s) (nat_lt MOST_ROUND depth) _ (after (settle es place level t s) (perform_settled go level depth)) (λ e. tt)
+          gave-if (FormMade place level t s) (nat_lt most_round depth) _ (after (settle es place level t s) (perform_settled go level depth)) (λ e. tt)
           (λ e. subst (λ (xs : List LibRecord). Gave (FormMade place level t s) (after (settle xs place level t s) (perform_settled go level depth))) (sym same)
           (gave-after (SettledSo place level t s) (FormMade place level t s) (settle rs place level t s) (perform_settled go level depth)
           (gave-both (λ d v. (StateHolds own K P s.names.number v × settled.SettledAt own K J P lives first rs held v.names.number d) × (settle rs place level t s ≡ Ok (d, v))) (Settles rs level) (settle rs place level t s) (staying.gave-from libs own core new first (settled.SettledAt own K J P lives first rs held) s (settle rs place level t s) (settled.settle-to-holds own K J P lives first rs held s.uses_left place level t s h g)) (settle-so rs level place t s))

@@ -17,10 +17,9 @@ use Rattle.sx_heads.specs.Items.{begun}
 use Rattle.sx_heads.specs.declared.taken.Taken.{Taken}
 use Rattle.sx_hygiene_laws.specs.Marked.{Among}
 use Rattle.sx_value.specs.Cells.{Each}
-use Rattle.sx_expand.specs.declared.inside.TheConstants.{ROOM}
 use Rattle.sx_expand.specs.Body.{finish_all}
 use Rattle.sx_expand.specs.Expanding.{ready, body_of}
-use Rattle.sx_expand.specs.Expression.{inside}
+use Rattle.sx_expand.specs.Expression.{inside, full_room}
 use Rattle.sx_expand.specs.Inside.{Inside}
 use Rattle.sx_expand.specs.Top.{give_record, record_in, body_at, exports, first_pass, finished, top}
 use Rattle.sx_expand.specs.declared.top.TopAt.{TopAt}
@@ -64,7 +63,7 @@ module _ (libs : List LibName) (own : LibName) (core : Among libs library.Core) 
 
   module _ (records : List LibRecord) (first : ℕ) (held : RecordsHold (P first) records) (at : TopAt) (es : List (List ℕ × Tree)) (fs : List Tree) (s : State) where
     abbrev go : Inside
-    go = inside records ROOM
+    go = inside records full_room
 
     abbrev Right : LibRecord → State → Type 0
     Right r u = RunIsRight libs own records s at es fs r
@@ -77,7 +76,7 @@ module _ (libs : List LibName) (own : LibName) (core : Among libs library.Core) 
         (λ ls w y.
         let hw = standing.state-then own K J P lives first v w h y.0.0 in
         gave-after (λ xs u. staying.Went libs own core new w u × walking.LinesMade libs own core new records 0 d.waiting w xs u) Right (finish_all go 0 d.waiting w) (λ xs. give_record at ls xs)
-        (walking.lines-made libs own core new records first held ROOM (all-traced libs own core new records first held ROOM) 0 d.waiting w hw (items.waiting-up own K J P lives first v.names.number w.names.number y.0.0.stage.up d.waiting k))
+        (walking.lines-made libs own core new records first held full_room (all-traced libs own core new records first held full_room) 0 d.waiting w hw (items.waiting-up own K J P lives first v.names.number w.names.number y.0.0.stage.up d.waiting k))
         (λ xs u z. record {
           taken = d;
           first = v;
@@ -98,7 +97,7 @@ module _ (libs : List LibName) (own : LibName) (core : Among libs library.Core) 
     top-right h k q =
         gave-after (λ d v. (StateHolds own K P s.names.number v × TakenHolds (P v.names.number) d) × (first_pass go at fs s ≡ Ok (d, v))) Right (first_pass go at fs s) (finished go at es)
         (staying.gave-from libs own core new first (λ n d. TakenHolds (P n) d) s (first_pass go at fs s)
-        (forms.splice-holds own K J P lives first go (walking.keeps libs own core new records first held ROOM) (body_at at s.library) 0 begun (map (stamp at.frame) fs) s h tt (stamps-hold own K J P lives s.names.number at.frame fs q k) q))
+        (forms.splice-holds own K J P lives first go (walking.keeps libs own core new records first held full_room) (body_at at s.library) 0 begun (map (stamp at.frame) fs) s h tt (stamps-hold own K J P lives s.names.number at.frame fs q k) q))
         (λ d v z. finished-right d v (standing.state-then own K J P lives first s v h z.0.0) z.0.1 z.1)
 
 -- what is given of a record
@@ -123,6 +122,6 @@ records-hygienic own path records imports version place es fs codes r new only t
     let at = body_of (ready own path records imports codes) version place in
     let starts = events-stay.starts own records imports codes new only texts in
     let n = s.names.number in
-    given (RunIsRight libs own records s at es fs) (top (inside records ROOM) at es fs s) r
+    given (RunIsRight libs own records s at es fs) (top (inside records full_room) at es fs s) r
     (top-right libs own (inl refl) new records n starts.1 at es fs s starts.0
     (each_mapped WasRead (TreeHolds (HasKnownEvents libs own n)) (λ t k. tree_wider (λ c. c ≡ blank) (HasKnownEvents libs own n) (read-at libs own (inl refl) new n) t k) fs was) (first-made own records imports codes)) e

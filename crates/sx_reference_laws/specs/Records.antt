@@ -14,9 +14,8 @@ use Rattle.sx_standing.specs.Start.{started}
 use Rattle.sx_standing.specs.State.{State}
 use Rattle.sx_heads.specs.declared.taken.Taken.{Taken}
 use Rattle.sx_value.specs.Cells.{Each}
-use Rattle.sx_expand.specs.declared.inside.TheConstants.{ROOM}
 use Rattle.sx_expand.specs.Expanding.{ready, body_of, library_record}
-use Rattle.sx_expand.specs.Expression.{inside}
+use Rattle.sx_expand.specs.Expression.{inside, full_room}
 use Rattle.sx_expand.specs.Top as top
 use Rattle.sx_expand.specs.declared.top.TopAt.{TopAt}
 use Rattle.sx_fresh_laws.specs.Leaves.{CodesHold}
@@ -42,7 +41,7 @@ pub record RunIsRight (libs : List LibName) (own : LibName) (records : List LibR
   pub between : State
   pub told : List Told
   pub last : State
-  pub takes : top.first_pass (inside records ROOM) at forms start ≡ Ok (taken, first)
+  pub takes : top.first_pass (inside records full_room) at forms start ≡ Ok (taken, first)
   pub looks : top.exports at exports first ≡ Ok (exported, between)
   pub ends : Finish records 0 taken.waiting between told last
   pub run : lines told ≡ r.run

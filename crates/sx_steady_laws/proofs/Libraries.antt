@@ -22,7 +22,6 @@ use Rattle.sx_core_laws.specs.WellMade.{same_code}
 use Rattle.sx_core_laws.proofs.Decisions.{label_decides, code_decides}
 use Rattle.sx_value.specs.Cells.{is_found}
 use Rattle.sx_eval.specs.Codes.{Codes, code_at}
-use Rattle.sx_expand.specs.declared.inside.TheConstants.{ROOM}
 use Rattle.sx_whole_laws.proofs.Among.{each_of, among_parts}
 use Rattle.sx_whole_laws.proofs.Evaluations.{with_codes_whole}
 use Rattle.sx_standing.specs.Own.{export_labels, labels_with}
@@ -32,7 +31,7 @@ use Rattle.sx_heads.specs.Items.{begun}
 use Rattle.sx_heads.specs.declared.taken.Taken.{Taken}
 use Rattle.sx_expand.specs.Body.{splice, finish_all}
 use Rattle.sx_expand.specs.Expanding.{ready, body_of}
-use Rattle.sx_expand.specs.Expression.{inside}
+use Rattle.sx_expand.specs.Expression.{inside, full_room}
 use Rattle.sx_expand.specs.Inside.{Inside}
 use Rattle.sx_expand.specs.Top.{stands_for, export, all_exports, exports, give_record, record_in, body_at, finished, first_pass, top}
 use Rattle.sx_expand.specs.declared.top.TopAt.{TopAt}
@@ -151,8 +150,8 @@ expansions_never_stuck own path records imports version place exports forms code
     let around : Around own numbers records = record { new = ready_for.new; no_text = no_text; texts_only = texts_only own records codes texts; behind = behind } in
     let at = body_of (ready own path records imports codes) version place in
     let s = started own records imports codes in
-    by (top (inside records ROOM) at exports forms s)
-    (top-fine own numbers records around (inside records ROOM) (inside-holds own numbers records around ROOM) at exports forms s (started-begins own records imports codes ready_for) (started-safe own records codes texts imports))
+    by (top (inside records full_room) at exports forms s)
+    (top-fine own numbers records around (inside records full_room) (inside-holds own numbers records around full_room) at exports forms s (started-begins own records imports codes ready_for) (started-safe own records codes texts imports))
   where
     by : (r : Result (LibRecord × State) Fault) → Sure (λ a u. Unit {0}) r → IsNotStuck (record_in r)
     by (Ok p) h = tt

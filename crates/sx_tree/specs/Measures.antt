@@ -3,7 +3,6 @@ use Rattle.std.specs.Prelude.{ℕ, ◌+◌, ◌≤◌, max, Bool, ◌&&◌, nat_
 use Rattle.sx_base.specs.declared.atom.Atom.TheVariants.{Nil}
 use Rattle.sx_base.specs.declared.fault.Bare.{Bare}
 use Rattle.sx_base.specs.declared.fault.FaultKind.TheVariants as kind
-use Rattle.sx_tree.specs.declared.limits.TheConstants.{MAX_HEIGHT, MAX_SIZE}
 use Rattle.sx_tree.specs.Tree.{Tree, atom, leaf, pair, vector, is_list}
 
 -- 1 at a tail that is no list, and 0 at the rest of a list
@@ -31,12 +30,19 @@ abbrev pub greatest : List ℕ → ℕ
 greatest [] = 0
 greatest (n ∷ ns) = max n (greatest ns)
 
+-- how high a tree may be, and how many parts it may have
+abbrev pub max_height : ℕ
+max_height = 1000
+
+abbrev pub max_size : ℕ
+max_size = 16777216
+
 -- within the limits of a tree
 abbrev pub Fits : Tree → Type 0
-Fits t = (height t ≤ MAX_HEIGHT) × (size t ≤ MAX_SIZE)
+Fits t = (height t ≤ max_height) × (size t ≤ max_size)
 
 abbrev pub fits : Tree → Bool
-fits t = nat_le (height t) MAX_HEIGHT && nat_le (size t) MAX_SIZE
+fits t = nat_le (height t) max_height && nat_le (size t) max_size
 
 abbrev pub too_deep : Bare
 too_deep = record { kind = kind.TooDeep; words = [] }

@@ -23,6 +23,5 @@ pub mod change;
 pub mod context;
 pub mod frame_row;
 pub mod laws;
-pub mod limits;
 pub mod marks;
 pub mod stamp;

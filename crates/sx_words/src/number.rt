@@ -1,10 +1,10 @@
 //! The number of `--make`.
 
 ghost use Rattle.std.specs.Prelude.{◌≡◌, ◌≤◌};
-ghost use Rattle.sx_words.specs.Number.{number_from, number_of};
+ghost use Rattle.sx_words.specs.Number.{greatest, number_from, number_of};
 
 /// The greatest number.
-pub const GREATEST: u32 = 1_000;
+const GREATEST: u32 = 1_000;
 
 /// The number that decimal digits without a leading zero spell, where it is from 1 to the greatest.
 pub fn number_of(text: &str) -> Option<u32>
@@ -18,7 +18,7 @@ pub fn number_of(text: &str) -> Option<u32>
 
 // The number that digits spell behind those of `n`, where none passes the greatest.
 fn number_from(n: u32, digits: &[u8]) -> Option<u32>
-    requires { n ≤ GREATEST }
+    requires { n ≤ greatest }
     ensures { result ≡ number_from n digits.now }
 {
     match digits {
