@@ -20,7 +20,10 @@ use sx_base::items::Items;
 use sx_base::library::LibName;
 use sx_base::memory::Memory;
 use sx_base::name::{CodeNo, FrameNo, Label, Name};
-use sx_base::op::{NAME_COUNT, Op, names, op_text};
+use sx_base::op::names::{
+    EXISTS, FILTER, FIND, FOLD_LEFT, FOLD_RIGHT, FOR_ALL, FOR_EACH, MAP, MEMP, REMP,
+};
+use sx_base::op::{NAME_COUNT, Op, op_text};
 use sx_base::span::Span;
 use sx_base::symbol::Symbol;
 use sx_builtin::exports::exports;
@@ -35,16 +38,16 @@ use sx_syntax::syn::Syn;
 
 // The procedures that have a text, in the order of their codes.
 const PROCEDURES: [Op; 10] = [
-    Op(names::MAP),
-    Op(names::FOR_EACH),
-    Op(names::FOR_ALL),
-    Op(names::EXISTS),
-    Op(names::FILTER),
-    Op(names::REMP),
-    Op(names::FIND),
-    Op(names::MEMP),
-    Op(names::FOLD_LEFT),
-    Op(names::FOLD_RIGHT),
+    Op(MAP),
+    Op(FOR_EACH),
+    Op(FOR_ALL),
+    Op(EXISTS),
+    Op(FILTER),
+    Op(REMP),
+    Op(FIND),
+    Op(MEMP),
+    Op(FOLD_LEFT),
+    Op(FOLD_RIGHT),
 ];
 
 /// The names of `(rnrs)`, but those that the derived library defines.
