@@ -4,7 +4,7 @@ ghost use Rattle.std.specs.Prelude.{◌≡◌, [], IfOk, OnOk};
 ghost use Rattle.sx_base.specs.Act.{GivesAfter};
 ghost use Rattle.sx_base.specs.Gives.{Gives};
 ghost use Rattle.sx_stage.specs.Libraries.{earlier_in};
-ghost use Rattle.sx_expand.specs.Expression.{inside};
+ghost use Rattle.sx_expand.specs.Expression.{inside, full_room};
 ghost use Rattle.sx_expand.specs.Top.{export, all_exports, exports, with_label_of, with_labels_of, code_of, with_lines_of, refs_of, record_of, record_in, kind_of, body_at, first_pass, finished, top};
 
 use crate::body::{finish_all, splice};
@@ -188,7 +188,7 @@ fn finished<N: Ledger, L: Ledger>(
     means: &Means,
     counts: &mut Counts<N, L>,
 ) -> Result<LibRecord, Stop>
-    ensures { Gives (λ r. r) result (record_in (finished (inside (earlier_in means.now.earlier) 602) at list.now taken.now state.old)) }
+    ensures { Gives (λ r. r) result (record_in (finished (inside (earlier_in means.now.earlier) full_room) at list.now taken.now state.old)) }
 {
     let exports = exports(state, &at, list, counts.nodes)?;
     let lines = finish_all(state, taken.waiting.as_slice(), 0, means, counts, ROOM)?;
@@ -218,7 +218,7 @@ fn first_pass<N: Ledger, L: Ledger>(
     means: &Means,
     counts: &mut Counts<N, L>,
 ) -> Result<Taken, Stop>
-    ensures { GivesAfter (λ t. t) result state.new (first_pass (inside (earlier_in means.now.earlier) 602) at.now forms.now state.old) }
+    ensures { GivesAfter (λ t. t) result state.new (first_pass (inside (earlier_in means.now.earlier) full_room) at.now forms.now state.old) }
 {
     let forms = stamp_all(state.alloc(), &at.frame, forms, counts.nodes)?;
     let body = body_at(state, at)?;
@@ -251,7 +251,7 @@ pub fn top<N: Ledger, L: Ledger>(
     means: &Means,
     counts: &mut Counts<N, L>,
 ) -> Result<LibRecord, Stop>
-    ensures { Gives (λ r. r) result (record_in (top (inside (earlier_in means.now.earlier) 602) at list.now forms.now state.old)) }
+    ensures { Gives (λ r. r) result (record_in (top (inside (earlier_in means.now.earlier) full_room) at list.now forms.now state.old)) }
 {
     let taken = first_pass(state, &at, forms, means, counts)?;
     finished(state, at, list, &taken, means, counts)

@@ -14,7 +14,7 @@ use sx_base::items::Items;
 use sx_base::library::LibName;
 use sx_base::memory::Memory;
 use sx_base::name::{FrameNo, Label, Mark, Name};
-use sx_base::op::Op;
+use sx_base::op::{Op, names};
 use sx_base::span::Span;
 use sx_base::steps::Steps;
 use sx_base::symbol::Symbol;
@@ -162,7 +162,7 @@ fn match_of(
         fender: None,
         output,
     })?;
-    let subject = call_of(alloc, Op(121), codes)?;
+    let subject = call_of(alloc, Op(names::LIST), codes)?;
     let subject = Box::new(alloc, subject)?;
     Ok(Core {
         node: CoreNode::SyntaxCase(subject, clauses, span),

@@ -20,7 +20,7 @@ use sx_machine::step::{finish, step};
 /// How many forms may be nested in a program or library.
 pub const NESTING: u32 = 500;
 
-/// The data of a program or library, in order, as `read_deep` reads them at a nesting of 500.
+/// The data of a program or library, in order, as `read_deep` reads them at that nesting.
 pub fn read_all(alloc: Global, file: &Symbol, bytes: &[u8]) -> Result<Vec<Datum>, Stop>
     requires { length bytes.now < 2 ^ 32 }
     ensures gives { Gives (λ v. v.items) result (data_of file.now bytes.now file_nesting) }

@@ -9,7 +9,7 @@ use Rattle.sx_quasi.specs.Plan.{PlainQuasi, PlainQuasis, constant, expression, n
 use Rattle.sx_quasi_code.specs.Filled.{next_code, filled, all_filled}
 use Rattle.sx_quasi_code.specs.Parts.{part, with_made, quasi_parts, all_quasi_parts}
 use Rattle.sx_quasi_code.specs.declared.parts.Part.{Part}
-use Rattle.sx_heads.specs.Depth.{deeper}
+use Rattle.sx_heads.specs.Depth.{deeper, most_round}
 use Rattle.sx_value.specs.Cells.{Each}
 
 -- how many expressions there are in a plan
@@ -26,7 +26,7 @@ abbrev mutual
 -- No part is too deep where expansion gives something.
 
 abbrev pub IsLow : Part → Type 0
-IsLow p = nat_lt 600 p.depth ≡ false
+IsLow p = nat_lt most_round p.depth ≡ false
 
 each-first : (ps qs : List Part) → Each IsLow (ps ++ qs) → Each IsLow ps
 each-first [] qs h = tt
@@ -37,9 +37,9 @@ each-last [] p h = h.0
 each-last (q ∷ ps) p h = each-last ps p h.1
 
 pub made-low : (t : Tree) (d : ℕ) (done : List Part) → Each IsLow (with_made t d done) → with_made t d done ≡ done
-made-low t d done h = by (nat_lt 600 d) refl h
+made-low t d done h = by (nat_lt most_round d) refl h
   where
-    by : (b : Bool) → nat_lt 600 d ≡ b → Each IsLow (if b then done ++ part t d ∷ [] else done) → (if b then done ++ part t d ∷ [] else done) ≡ done
+    by : (b : Bool) → nat_lt most_round d ≡ b → Each IsLow (if b then done ++ part t d ∷ [] else done) → (if b then done ++ part t d ∷ [] else done) ≡ done
     by true e k = absurd (true≢false (sym e ∙ each-last done (part t d) k))
     by false e k = refl
 
