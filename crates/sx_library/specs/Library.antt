@@ -17,6 +17,7 @@ use Rattle.sx_eval.specs.Codes.{Codes}
 use Rattle.sx_base.specs.declared.library.LibName.{LibName}
 use Rattle.sx_expand.specs.Expanding.{Expanding, ready, library_record}
 use Rattle.sx_library.specs.Imports.{form_names}
+use Rattle.sx_library.specs.declared.library.Body.{Body}
 
 -- ---- what stands in the file, as syntax trees
 
@@ -48,6 +49,18 @@ export_tree e = (e.0, leaf (Some e.1.span) e.1.name blank)
 -- an expander behind these records, which knows what the procedures mean that are texts
 abbrev pub expander_of : Result Codes Fault → LibName → List ℕ → List LibRecord → List (List ℕ × Label) → Result Expanding Fault
 expander_of prelude name path records names = prelude >>= (λ codes. Ok (ready name path records names codes))
+
+-- the names that the form imports, and the forms of its body
+unfoldable pub body_of : List LibRecord → LibraryForm → List PlainDatum → Result Body Fault
+body_of records form body =
+    form_names records form.imports >>= (λ names.
+    trees_at form.name_span [] body >>= (λ forms. Ok (record { names = names; forms = forms })))
+
+-- what procedures mean that are texts, and then the body, after these records
+unfoldable pub expand_body : Result Codes Fault → List LibRecord → List ℕ → LibraryForm → Body → Result LibRecord Fault
+expand_body prelude records path form body =
+    expander_of prelude form.name path records body.names >>= (λ e.
+    library_record e records form.version form.name_span (map export_tree form.exports) body.forms)
 
 -- the names that the form imports, the forms of its body, what procedures mean that are texts, and then the body, after these records
 unfoldable pub expand_library : Result Codes Fault → List LibRecord → List ℕ → LibraryForm → List PlainDatum → Result LibRecord Fault

@@ -6,7 +6,7 @@ ghost use Rattle.sx_eval.specs.Codes as table;
 ghost use Rattle.sx_expand.specs.Expanding.{ready, library_record};
 ghost use Rattle.sx_prelude.specs.Prelude.{kept};
 ghost use Rattle.sx_library.specs.Records.{needed_records};
-ghost use Rattle.sx_library.specs.Library.{at_datum, tree_at, trees_at, export_tree, expander_of, expand_library};
+ghost use Rattle.sx_library.specs.Library.{at_datum, tree_at, trees_at, export_tree, expander_of, body_of, expand_body};
 
 use crate::imports::form_names;
 use crate::records::Records;
@@ -37,34 +37,63 @@ use sx_standing::share::share_library;
 use sx_syntax::syn::Syn;
 use sx_tree::marks::Marks;
 
-/// The record of a library or a program, from its form and the data of its body. The records before it
-/// are those of `records` that `needs` marks. First each library that it imports must fit, then each
-/// name, and then the body is expanded.
-#[tactic(auto, unfolding(crate::specs::Library::expand_library))]
-pub fn expand_library<N: Ledger, L: Ledger>(
+/// What the body of a library or a program is expanded from: the names that its form imports, and its forms.
+#[derive(Drop)]
+pub struct Body {
+    pub names: Items<(Symbol, Label)>,
+    pub forms: Items<Syn>,
+}
+
+/// The body of a library or a program, from its form and the data of its body, which may go then. First each library
+/// that it imports must fit, and then each name.
+#[tactic(auto, unfolding(crate::specs::Library::body_of))]
+pub fn body_of(
+    alloc: Global,
+    records: &Records,
+    needs: &[bool],
+    form: &LibraryForm,
+    body: &[Datum],
+) -> Result<Body, Stop>
+    ensures { Gives (λ b. b) result (body_of (needed_records records.now needs.now) form.now body.now) }
+{
+    let names = form_names(alloc, records, needs, form.imports.as_slice())?;
+    let names = rows(alloc, &names)?;
+    let forms = trees_at(alloc, &form.name_span, body)?;
+    Ok(Body { names, forms })
+}
+
+/// The record of a library or a program, from its form and its body. The records before it are those of `records` that
+/// `needs` marks.
+#[tactic(auto, unfolding(crate::specs::Library::expand_body))]
+pub fn expand_body<N: Ledger, L: Ledger>(
     alloc: Global,
     prelude: &Prelude,
     records: &Records,
     needs: &[bool],
     path: &Symbol,
     form: &LibraryForm,
-    body: &[Datum],
+    body: &Body,
     prims: &PrimTable,
     counts: &mut Counts<N, L>,
 ) -> Result<LibRecord, Stop>
-    ensures { Gives (λ r. r) result (expand_library (kept prelude.now) (needed_records records.now needs.now) path.now form.now body.now) }
+    ensures { Gives (λ r. r) result (expand_body (kept prelude.now) (needed_records records.now needs.now) path.now form.now body.now) }
 {
-    let names = form_names(alloc, records, needs, form.imports.as_slice())?;
-    let names = rows(alloc, &names)?;
-    let forms = trees_at(alloc, &form.name_span, body)?;
     let exports = export_trees(alloc, &form.exports)?;
     let version = share_version(alloc, form.version.as_slice())?;
-    let begun = expander_of(alloc, prelude, form, path, records, needs, names.as_slice())?;
+    let begun = expander_of(
+        alloc,
+        prelude,
+        form,
+        path,
+        records,
+        needs,
+        body.names.as_slice(),
+    )?;
     record_behind(
         begun,
         records,
         needs,
-        forms.as_slice(),
+        body.forms.as_slice(),
         &form.name_span,
         exports.as_slice(),
         version,

@@ -5,22 +5,25 @@ ghost use Rattle.std.specs.String.{string_bytes};
 ghost use Rattle.sx_base.specs.Gives.{Gives, Stops};
 ghost use Rattle.sx_prelude.specs.Prelude.{kept};
 ghost use Rattle.sx_import.specs.Turns.{turns};
-ghost use Rattle.sx_library.specs.Loaded.{expand_found, expand_next, all_records, planned_text, text_of};
+ghost use Rattle.sx_library.specs.Library.{expand_body};
+ghost use Rattle.sx_library.specs.Records.{needed_records};
+ghost use Rattle.sx_load.specs.declared.found.Loading.{Loading};
+ghost use Rattle.sx_library.specs.Loaded.{expand_next, all_records, planned_text, text_of};
 
-use crate::library::expand_library;
+use crate::library::{Body, body_of, expand_body};
 use crate::records::Records;
 use std::alloc::Global;
 use std::sync::ledger::Ledger;
-use sx_base::datum::Datum;
 use sx_base::fault::{Fault, Stop};
 use sx_base::items::Items;
 use sx_base::memory::Memory;
+use sx_base::symbol::Symbol;
 use sx_core::record::LibRecord;
 use sx_core_text::whole::core_text;
 use sx_derived::derived::derived_record;
-use sx_forms::form::{library_body, program_body};
+use sx_forms::form::{LibraryForm, library_body, program_body};
 use sx_import::table::Table;
-use sx_load::found::{Found, Loading};
+use sx_load::found::{Found, Opened};
 use sx_plan::planned::planned;
 use sx_prelude::prelude::Prelude;
 use sx_prims::table::PrimTable;
@@ -38,30 +41,32 @@ fn with_derived(alloc: Global, needs: &[bool]) -> Result<Items<bool>, Memory>
     Ok(all)
 }
 
-// The record of a library or program behind those that it needs.
+// The form of a library or program whose data go.
+fn without_data(found: Found) -> (Symbol, LibraryForm)
+    ensures { result ≡ (found.opened.path, found.opened.form) }
+{
+    let Found { opened, .. } = found;
+    let Opened { path, form, data } = opened;
+    drop(data);
+    (path, form)
+}
+
+// The record of a library or program behind those that it needs. Its data go once its body is read from them.
 fn expand_found<N: Ledger, L: Ledger>(
     alloc: Global,
     prelude: &Prelude,
     records: &Records,
-    found: &Found,
-    body: &[Datum],
+    found: Found,
+    needs: &[bool],
+    body: &Body,
     prims: &PrimTable,
     counts: &mut Counts<N, L>,
 ) -> Result<LibRecord, Stop>
-    ensures { Gives (λ r. r) result (expand_found (kept prelude.now) records.now found.now body.now) }
+    ensures { Gives (λ r. r) result (expand_body (kept prelude.now) (needed_records records.now needs.now) found.opened.path found.opened.form body.now) }
 {
-    let opened = &found.opened;
-    let needs = with_derived(alloc, found.needs.as_slice())?;
-    expand_library(
-        alloc,
-        prelude,
-        records,
-        needs.as_slice(),
-        &opened.path,
-        &opened.form,
-        body,
-        prims,
-        counts,
+    let (path, form) = without_data(found);
+    expand_body(
+        alloc, prelude, records, needs, &path, &form, body, prims, counts,
     )
 }
 
@@ -69,14 +74,25 @@ fn expand_next<N: Ledger, L: Ledger>(
     alloc: Global,
     prelude: &Prelude,
     records: &mut Records,
-    found: &Found,
+    found: Found,
     prims: &PrimTable,
     counts: &mut Counts<N, L>,
 ) -> Result<(), Stop>
-    ensures { Gives (λ _. records.new) result (expand_next (kept prelude.now) records.old ([], found.now)) }
+    ensures { Gives (λ _. records.new) result (expand_next (kept prelude.now) records.old ([], found)) }
 {
-    let body = library_body(found.opened.data.as_slice());
-    let record = expand_found(alloc, prelude, records, found, body, prims, counts)?;
+    let needs = with_derived(alloc, found.needs.as_slice())?;
+    let data = library_body(found.opened.data.as_slice());
+    let body = body_of(alloc, records, needs.as_slice(), &found.opened.form, data)?;
+    let record = expand_found(
+        alloc,
+        prelude,
+        records,
+        found,
+        needs.as_slice(),
+        &body,
+        prims,
+        counts,
+    )?;
     records.push(alloc, record)?;
     Ok(())
 }
@@ -86,17 +102,14 @@ fn records_behind<N: Ledger, L: Ledger>(
     alloc: Global,
     prelude: &Prelude,
     records: Records,
-    libraries: &Table<Found>,
+    libraries: Table<Found>,
     prims: &PrimTable,
     counts: &mut Counts<N, L>,
 ) -> Result<Records, Stop>
-    ensures { Gives (λ rs. rs) result (turns (expand_next (kept prelude.now)) records libraries.now) }
+    ensures { Gives (λ rs. rs) result (turns (expand_next (kept prelude.now)) records libraries) }
 {
     let mut records = records;
-    for place in 0..libraries.size() {
-        let Some((_, found)) = libraries.at(place) else {
-            return Err(Stop::Memory);
-        };
+    for found in libraries.into_values() {
         expand_next(alloc, prelude, &mut records, found, prims, counts)?;
     }
     Ok(records)
@@ -106,11 +119,11 @@ fn records_behind<N: Ledger, L: Ledger>(
 fn all_records<N: Ledger, L: Ledger>(
     alloc: Global,
     prelude: &Prelude,
-    libraries: &Table<Found>,
+    libraries: Table<Found>,
     prims: &PrimTable,
     counts: &mut Counts<N, L>,
 ) -> Result<Records, Stop>
-    ensures { Gives (λ rs. rs) result (all_records (kept prelude.now) libraries.now) }
+    ensures { Gives (λ rs. rs) result (all_records (kept prelude.now) libraries) }
 {
     let derived = derived_record(alloc, prelude, prims, counts)?;
     let records = Records::of_one(alloc, derived)?;
@@ -125,21 +138,33 @@ fn planned_text(alloc: Global, records: &[LibRecord], program: &LibRecord) -> Re
     core_text(alloc, records, &plan, program)
 }
 
-/// The core text of a program that was loaded, or the first fault of a library or of the program.
+/// The core text of a program that was loaded, or the first fault of a library or of the program. The data of each file go
+/// once they are syntax objects.
 #[tactic(auto, unfolding(crate::specs::Loaded::text_of))]
 pub fn program_text<N: Ledger, L: Ledger>(
     alloc: Global,
     prelude: &Prelude,
-    found: &Found,
-    loading: &Loading,
+    found: Found,
+    libraries: Table<Found>,
     prims: &PrimTable,
     counts: &mut Counts<N, L>,
 ) -> Result<String, Stop>
-    ensures { Gives string_bytes result (text_of (kept prelude.now) (Ok (found.now, loading.now))) }
+    ensures { (l : Loading) → l.done ≡ libraries → Gives string_bytes result (text_of (kept prelude.now) (Ok (found, l))) }
 {
-    let records = all_records(alloc, prelude, &loading.done, prims, counts)?;
-    let body = program_body(found.opened.data.as_slice());
-    let program = expand_found(alloc, prelude, &records, found, body, prims, counts)?;
+    let records = all_records(alloc, prelude, libraries, prims, counts)?;
+    let needs = with_derived(alloc, found.needs.as_slice())?;
+    let data = program_body(found.opened.data.as_slice());
+    let body = body_of(alloc, &records, needs.as_slice(), &found.opened.form, data)?;
+    let program = expand_found(
+        alloc,
+        prelude,
+        &records,
+        found,
+        needs.as_slice(),
+        &body,
+        prims,
+        counts,
+    )?;
     let records = records.into_records();
     planned_text(alloc, &records, &program)
 }
@@ -149,14 +174,14 @@ pub fn program_text<N: Ledger, L: Ledger>(
 pub fn first_fault<N: Ledger, L: Ledger>(
     alloc: Global,
     prelude: &Prelude,
-    loading: &Loading,
+    libraries: Table<Found>,
     fault: Fault,
     prims: &PrimTable,
     counts: &mut Counts<N, L>,
 ) -> Stop
-    ensures { Stops result (text_of (kept prelude.now) (Err (loading.now, fault))) }
+    ensures { (l : Loading) → l.done ≡ libraries → Stops result (text_of (kept prelude.now) (Err (l, fault))) }
 {
-    match all_records(alloc, prelude, &loading.done, prims, counts) {
+    match all_records(alloc, prelude, libraries, prims, counts) {
         Ok(_) => Stop::Fault(fault),
         Err(stop) => stop,
     }
