@@ -6,6 +6,7 @@ ghost use Rattle.sx_base.specs.Gives.{Gives, Stops};
 ghost use Rattle.sx_prelude.specs.Prelude.{kept};
 ghost use Rattle.sx_import.specs.Turns.{turns};
 ghost use Rattle.sx_forms.specs.Form.{library_body, program_body};
+ghost use Rattle.sx_load.specs.declared.found.Loading.{Loading};
 ghost use Rattle.sx_library.specs.Loaded.{expand_found, expand_next, all_records, planned_text, text_of};
 
 use crate::library::{Body, body_of, expand_body};
@@ -21,7 +22,7 @@ use sx_core_text::whole::core_text;
 use sx_derived::derived::derived_record;
 use sx_forms::form::{LibraryForm, library_body, program_body};
 use sx_import::table::Table;
-use sx_load::found::{Found, Loading, Opened};
+use sx_load::found::{Found, Opened};
 use sx_plan::planned::planned;
 use sx_prelude::prelude::Prelude;
 use sx_prims::table::PrimTable;
@@ -53,39 +54,39 @@ fn expand_next<N: Ledger, L: Ledger>(
     alloc: Global,
     prelude: &Prelude,
     records: &mut Records,
-    found: &Found,
+    found: Found,
     prims: &PrimTable,
     counts: &mut Counts<N, L>,
 ) -> Result<(), Stop>
-    ensures { Gives (λ _. records.new) result (expand_next (kept prelude.now) records.old ([], found.now)) }
+    ensures { Gives (λ _. records.new) result (expand_next (kept prelude.now) records.old ([], found)) }
 {
     let record = expand_one(alloc, prelude, records, found, prims, counts)?;
     records.push(alloc, record)?;
     Ok(())
 }
 
-// The record of a library behind those that it needs.
+// The record of a library behind those that it needs. Its data go once they are syntax objects.
 fn expand_one<N: Ledger, L: Ledger>(
     alloc: Global,
     prelude: &Prelude,
     records: &Records,
-    found: &Found,
+    found: Found,
     prims: &PrimTable,
     counts: &mut Counts<N, L>,
 ) -> Result<LibRecord, Stop>
-    ensures { Gives (λ r. r) result (expand_found (kept prelude.now) records.now found.now (library_body found.now.opened.«data»)) }
+    ensures { Gives (λ r. r) result (expand_found (kept prelude.now) records.now found (library_body found.opened.«data»)) }
 {
-    let opened = &found.opened;
     let needs = with_derived(alloc, found.needs.as_slice())?;
-    let data = library_body(opened.data.as_slice());
-    let body = body_of(alloc, records, needs.as_slice(), &opened.form, data)?;
+    let data = library_body(found.opened.data.as_slice());
+    let body = body_of(alloc, records, needs.as_slice(), &found.opened.form, data)?;
+    let (path, form) = without_data(found);
     expand_body(
         alloc,
         prelude,
         records,
         needs.as_slice(),
-        &opened.path,
-        &opened.form,
+        &path,
+        &form,
         &body,
         prims,
         counts,
@@ -125,17 +126,14 @@ fn records_behind<N: Ledger, L: Ledger>(
     alloc: Global,
     prelude: &Prelude,
     records: Records,
-    libraries: &Table<Found>,
+    libraries: Table<Found>,
     prims: &PrimTable,
     counts: &mut Counts<N, L>,
 ) -> Result<Records, Stop>
-    ensures { Gives (λ rs. rs) result (turns (expand_next (kept prelude.now)) records libraries.now) }
+    ensures { Gives (λ rs. rs) result (turns (expand_next (kept prelude.now)) records libraries) }
 {
     let mut records = records;
-    for place in 0..libraries.size() {
-        let Some((_, found)) = libraries.at(place) else {
-            return Err(Stop::Memory);
-        };
+    for found in libraries.into_values() {
         expand_next(alloc, prelude, &mut records, found, prims, counts)?;
     }
     Ok(records)
@@ -145,11 +143,11 @@ fn records_behind<N: Ledger, L: Ledger>(
 fn all_records<N: Ledger, L: Ledger>(
     alloc: Global,
     prelude: &Prelude,
-    libraries: &Table<Found>,
+    libraries: Table<Found>,
     prims: &PrimTable,
     counts: &mut Counts<N, L>,
 ) -> Result<Records, Stop>
-    ensures { Gives (λ rs. rs) result (all_records (kept prelude.now) libraries.now) }
+    ensures { Gives (λ rs. rs) result (all_records (kept prelude.now) libraries) }
 {
     let derived = derived_record(alloc, prelude, prims, counts)?;
     let records = Records::of_one(alloc, derived)?;
@@ -164,20 +162,20 @@ fn planned_text(alloc: Global, records: &[LibRecord], program: &LibRecord) -> Re
     core_text(alloc, records, &plan, program)
 }
 
-/// The core text of a program that was loaded, or the first fault of a library or of the program. The program's data go
+/// The core text of a program that was loaded, or the first fault of a library or of the program. The data of each file go
 /// once they are syntax objects.
 #[tactic(auto, unfolding(crate::specs::Loaded::text_of))]
 pub fn program_text<N: Ledger, L: Ledger>(
     alloc: Global,
     prelude: &Prelude,
     found: Found,
-    loading: &Loading,
+    libraries: Table<Found>,
     prims: &PrimTable,
     counts: &mut Counts<N, L>,
 ) -> Result<String, Stop>
-    ensures { Gives string_bytes result (text_of (kept prelude.now) (Ok (found, loading.now))) }
+    ensures { (l : Loading) → l.done ≡ libraries → Gives string_bytes result (text_of (kept prelude.now) (Ok (found, l))) }
 {
-    let records = all_records(alloc, prelude, &loading.done, prims, counts)?;
+    let records = all_records(alloc, prelude, libraries, prims, counts)?;
     let program = expand_program(alloc, prelude, &records, found, prims, counts)?;
     let records = records.into_records();
     planned_text(alloc, &records, &program)
@@ -188,14 +186,14 @@ pub fn program_text<N: Ledger, L: Ledger>(
 pub fn first_fault<N: Ledger, L: Ledger>(
     alloc: Global,
     prelude: &Prelude,
-    loading: &Loading,
+    libraries: Table<Found>,
     fault: Fault,
     prims: &PrimTable,
     counts: &mut Counts<N, L>,
 ) -> Stop
-    ensures { Stops result (text_of (kept prelude.now) (Err (loading.now, fault))) }
+    ensures { (l : Loading) → l.done ≡ libraries → Stops result (text_of (kept prelude.now) (Err (l, fault))) }
 {
-    match all_records(alloc, prelude, &loading.done, prims, counts) {
+    match all_records(alloc, prelude, libraries, prims, counts) {
         Ok(_) => Stop::Fault(fault),
         Err(stop) => stop,
     }

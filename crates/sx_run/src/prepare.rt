@@ -109,10 +109,10 @@ fn source_of<'a>(sources: &'a [Source], path: &Symbol) -> &'a [u8]
 }
 
 // The line of a fault, whose place is that in the file that it names.
-fn line_of(alloc: Global, loading: &Loading, fault: &Fault) -> Result<String, Memory>
-    ensures { IfOk result (λ line. string_bytes line ≡ fault_line fault.now (source_of loading.now.sources fault.now.span.file)) }
+fn line_of(alloc: Global, sources: &[Source], fault: &Fault) -> Result<String, Memory>
+    ensures { IfOk result (λ line. string_bytes line ≡ fault_line fault.now (source_of sources.now fault.now.span.file)) }
 {
-    let source = source_of(loading.sources.as_slice(), &fault.span.file);
+    let source = source_of(sources, &fault.span.file);
     fault_line(alloc, fault, source)
 }
 
@@ -138,20 +138,23 @@ fn of_found<N: Ledger, L: Ledger>(
     prelude: &Prelude,
     report: bool,
     found: Found,
-    loading: &Loading,
+    loading: Loading,
     prims: &PrimTable,
     counts: &mut Counts<N, L>,
 ) -> Result<Prepared, Unfinished>
     requires { kept prelude.now ≡ prelude_table }
-    ensures gives { Prepares result (of_loaded report (Ok (found, loading.now))) }
+    ensures gives { Prepares result (of_loaded report (Ok (found, loading))) }
     ensures unread { result ≢ Err Unfinished.Read }
 {
-    match program_text(alloc, prelude, found, loading, prims, counts) {
-        Ok(text) => {
-            let report = report_if(alloc, report, loading)?;
-            Ok(Prepared { text, report })
-        }
-        Err(Stop::Fault(fault)) => Err(Unfinished::Line(line_of(alloc, loading, &fault)?)),
+    let report = report_if(alloc, report, &loading)?;
+    let Loading { done, sources, .. } = loading;
+    match program_text(alloc, prelude, found, done, prims, counts) {
+        Ok(text) => Ok(Prepared { text, report }),
+        Err(Stop::Fault(fault)) => Err(Unfinished::Line(line_of(
+            alloc,
+            sources.as_slice(),
+            &fault,
+        )?)),
         Err(Stop::Memory) => Err(Unfinished::Memory),
     }
 }
@@ -161,17 +164,18 @@ fn of_fault<N: Ledger, L: Ledger>(
     alloc: Global,
     prelude: &Prelude,
     report: bool,
-    loading: &Loading,
+    loading: Loading,
     fault: Fault,
     prims: &PrimTable,
     counts: &mut Counts<N, L>,
 ) -> Result<Prepared, Unfinished>
     requires { kept prelude.now ≡ prelude_table }
-    ensures gives { Prepares result (of_loaded report (Err (loading.now, fault))) }
+    ensures gives { Prepares result (of_loaded report (Err (loading, fault))) }
     ensures unread { result ≢ Err Unfinished.Read }
 {
-    match first_fault(alloc, prelude, loading, fault, prims, counts) {
-        Stop::Fault(fault) => Err(Unfinished::Line(line_of(alloc, loading, &fault)?)),
+    let Loading { done, sources, .. } = loading;
+    match first_fault(alloc, prelude, done, fault, prims, counts) {
+        Stop::Fault(fault) => Err(Unfinished::Line(line_of(alloc, sources.as_slice(), &fault)?)),
         Stop::Memory => Err(Unfinished::Memory),
     }
 }
@@ -198,9 +202,9 @@ fn of_job<F: Files, N: Ledger, L: Ledger>(
         &job.program,
         &mut loading,
     ) {
-        Ok(found) => of_found(alloc, prelude, job.report, found, &loading, prims, counts),
+        Ok(found) => of_found(alloc, prelude, job.report, found, loading, prims, counts),
         Err(Halt::Fault(fault)) => of_fault(
-            alloc, prelude, job.report, &loading, fault, prims, counts,
+            alloc, prelude, job.report, loading, fault, prims, counts,
         ),
         Err(Halt::Read) => Err(Unfinished::Read),
         Err(Halt::Memory) => Err(Unfinished::Memory),
