@@ -94,13 +94,13 @@ fn record_by<N: Ledger, L: Ledger>(
     alloc: Global,
     begun: Expander,
     exports: &[(Symbol, Syn)],
-    forms: &[Syn],
+    forms: Items<Syn>,
     place: &Span,
     prims: &PrimTable,
     counts: &mut Counts<N, L>,
 ) -> Result<LibRecord, Stop>
     requires { begun.failed ≡ false }
-    ensures { Gives (λ r. r) result (library_record begun [] [] place.now exports.now forms.now) }
+    ensures { Gives (λ r. r) result (library_record begun [] [] place.now exports.now forms) }
 {
     let earlier = Earlier {
         records: &[],
@@ -117,7 +117,7 @@ fn record_of<N: Ledger, L: Ledger>(
     codes: IndexMap<CodeNo, Rc<Code>>,
     imports: &[(Symbol, Label)],
     exports: &[(Symbol, Syn)],
-    forms: &[Syn],
+    forms: Items<Syn>,
     place: &Span,
     prims: &PrimTable,
     counts: &mut Counts<N, L>,
@@ -125,7 +125,7 @@ fn record_of<N: Ledger, L: Ledger>(
     requires imports { imports.now ≡ names }
     requires exports { exports.now ≡ exports_of derived }
     requires place { place.now ≡ start }
-    ensures { Gives (λ r. r) result (record_of (table.seen codes.entries) forms.now) }
+    ensures { Gives (λ r. r) result (record_of (table.seen codes.entries) forms) }
 {
     let begun = expander_of(alloc, imports, codes)?;
     record_by(alloc, begun, exports, forms, place, prims, counts)
@@ -151,7 +151,7 @@ pub fn derived_record<N: Ledger, L: Ledger>(
         codes,
         names.as_slice(),
         exports.as_slice(),
-        forms.as_slice(),
+        forms,
         &place,
         prims,
         counts,

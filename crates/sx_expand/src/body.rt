@@ -230,7 +230,7 @@ fn value_of<M: Transformers, N: Ledger, L: Ledger>(
 
 #[cycle(form)]
 #[tactic(auto, unfolding(crate::specs::Body::finish_as))]
-fn finish_one<M: Transformers, N: Ledger, L: Ledger>(
+pub(crate) fn finish_one<M: Transformers, N: Ledger, L: Ledger>(
     state: &mut Expansion,
     waiting: &Waiting,
     level: u32,
@@ -282,7 +282,7 @@ fn finish_one<M: Transformers, N: Ledger, L: Ledger>(
 
 /// The second pass.
 #[cycle(form)]
-pub(crate) fn finish_all<M: Transformers, N: Ledger, L: Ledger>(
+fn finish_all<M: Transformers, N: Ledger, L: Ledger>(
     state: &mut Expansion,
     waiting: &[Waiting],
     level: u32,

@@ -1,13 +1,14 @@
 //! The body of a library or program (R6RS 7.1 and 8), and the record that comes of it.
 
-ghost use Rattle.std.specs.Prelude.{◌≡◌, [], IfOk, OnOk};
+ghost use Rattle.std.specs.Prelude.{◌≡◌, [], IfOk, OnOk, reverse};
 ghost use Rattle.sx_base.specs.Act.{GivesAfter};
 ghost use Rattle.sx_base.specs.Gives.{Gives};
 ghost use Rattle.sx_stage.specs.Libraries.{earlier_in};
+ghost use Rattle.sx_expand.specs.Body.{finish_all};
 ghost use Rattle.sx_expand.specs.Expression.{inside};
 ghost use Rattle.sx_expand.specs.Top.{export, all_exports, exports, with_label_of, with_labels_of, code_of, with_lines_of, refs_of, record_of, record_in, kind_of, body_at, first_pass, finished, top};
 
-use crate::body::{finish_all, splice};
+use crate::body::{finish_one, splice};
 use crate::expression::stamp_all;
 use crate::inside::ROOM;
 use crate::libraries::Libraries;
@@ -25,11 +26,14 @@ use sx_core::code::Core;
 use sx_core::record::{LibRecord, Line};
 use sx_core::references::references;
 use sx_heads::kept::KeptHeads;
-use sx_heads::taken::{BodyAt, BodyKind, Taken};
+use sx_heads::taken::{BodyAt, BodyKind, Taken, Waiting};
 use sx_standing::expansion::Expansion;
 use sx_standing::means::{Counts, Means};
 use sx_standing::share::share_library;
 use sx_syntax::syn::Syn;
+
+/// A list with room for more than so many gives back what it doesn't need.
+const LONG: usize = 1024;
 
 /// What a body of a library or program has besides its forms.
 #[derive(Drop)]
@@ -178,20 +182,64 @@ fn kind_of(library: &LibName) -> BodyKind
     }
 }
 
+/// A list that has become much shorter than its room gives that back.
+fn give_back(list: &mut Vec<Waiting>)
+    ensures { list.new.items ≡ list.old.items }
+{
+    if list.capacity() > LONG && list.len() < list.capacity() / 2 {
+        list.shrink_to_fit();
+    }
+}
+
+/// The second pass over what waits, which comes with the last first. What has waited goes as soon as it is done: the
+/// forms of a long body and their core code aren't kept side by side.
+fn finish_each<N: Ledger, L: Ledger>(
+    state: &mut Expansion,
+    waiting: Vec<Waiting>,
+    means: &Means,
+    counts: &mut Counts<N, L>,
+) -> Result<Vec<Line>, Stop>
+    ensures { GivesAfter (λ v. v.items) result state.new (finish_all (inside (earlier_in means.now.earlier) 602) 0 (reverse waiting.items) state.old) }
+{
+    let mut lines = Vec::new(state.alloc());
+    let mut left = waiting;
+    while let Some(one) = left.pop() {
+        let line = finish_one(state, &one, 0, means, counts, ROOM)?;
+        lines.push(line)?;
+        give_back(&mut left);
+    }
+    Ok(lines)
+}
+
+/// The second pass.
+fn finish_in_order<N: Ledger, L: Ledger>(
+    state: &mut Expansion,
+    taken: Taken,
+    means: &Means,
+    counts: &mut Counts<N, L>,
+) -> Result<Vec<Line>, Stop>
+    ensures { GivesAfter (λ v. v.items) result state.new (finish_all (inside (earlier_in means.now.earlier) 602) 0 taken.waiting state.old) }
+{
+    let Taken { waiting, .. } = taken;
+    let mut waiting = waiting.into_vec();
+    waiting.reverse();
+    finish_each(state, waiting, means, counts)
+}
+
 /// What comes after the first pass.
 #[tactic(auto, unfolding(crate::specs::Top::finished))]
 fn finished<N: Ledger, L: Ledger>(
     state: &mut Expansion,
     at: TopAt,
     list: &[(Symbol, Syn)],
-    taken: &Taken,
+    taken: Taken,
     means: &Means,
     counts: &mut Counts<N, L>,
 ) -> Result<LibRecord, Stop>
-    ensures { Gives (λ r. r) result (record_in (finished (inside (earlier_in means.now.earlier) 602) at list.now taken.now state.old)) }
+    ensures { Gives (λ r. r) result (record_in (finished (inside (earlier_in means.now.earlier) 602) at list.now taken state.old)) }
 {
     let exports = exports(state, &at, list, counts.nodes)?;
-    let lines = finish_all(state, taken.waiting.as_slice(), 0, means, counts, ROOM)?;
+    let lines = finish_in_order(state, taken, means, counts)?;
     Ok(record_of(state, at, exports, lines)?)
 }
 
@@ -214,13 +262,14 @@ fn body_at(state: &Expansion, at: &TopAt) -> Result<BodyAt, Memory>
 fn first_pass<N: Ledger, L: Ledger>(
     state: &mut Expansion,
     at: &TopAt,
-    forms: &[Syn],
+    forms: Items<Syn>,
     means: &Means,
     counts: &mut Counts<N, L>,
 ) -> Result<Taken, Stop>
-    ensures { GivesAfter (λ t. t) result state.new (first_pass (inside (earlier_in means.now.earlier) 602) at.now forms.now state.old) }
+    ensures { GivesAfter (λ t. t) result state.new (first_pass (inside (earlier_in means.now.earlier) 602) at.now forms state.old) }
 {
-    let forms = stamp_all(state.alloc(), &at.frame, forms, counts.nodes)?;
+    let stamped = stamp_all(state.alloc(), &at.frame, forms.as_slice(), counts.nodes)?;
+    drop(forms);
     let body = body_at(state, at)?;
     let mut taken = Taken {
         waiting: Items::new(state.alloc()),
@@ -233,7 +282,7 @@ fn first_pass<N: Ledger, L: Ledger>(
         &body,
         0,
         &mut taken,
-        forms.as_slice(),
+        stamped.as_slice(),
         means,
         counts,
         ROOM,
@@ -247,12 +296,12 @@ pub fn top<N: Ledger, L: Ledger>(
     state: &mut Expansion,
     at: TopAt,
     list: &[(Symbol, Syn)],
-    forms: &[Syn],
+    forms: Items<Syn>,
     means: &Means,
     counts: &mut Counts<N, L>,
 ) -> Result<LibRecord, Stop>
-    ensures { Gives (λ r. r) result (record_in (top (inside (earlier_in means.now.earlier) 602) at list.now forms.now state.old)) }
+    ensures { Gives (λ r. r) result (record_in (top (inside (earlier_in means.now.earlier) 602) at list.now forms state.old)) }
 {
     let taken = first_pass(state, &at, forms, means, counts)?;
-    finished(state, at, list, &taken, means, counts)
+    finished(state, at, list, taken, means, counts)
 }

@@ -62,7 +62,7 @@ pub fn body_of(
     Ok(Body { names, forms })
 }
 
-/// The record of a library or a program, from its form and its body. The records before it are those of `records` that
+/// The record of a library or a program, from its form and its body, which goes on the way. The records before it are those of `records` that
 /// `needs` marks.
 #[tactic(auto, unfolding(crate::specs::Library::expand_body))]
 pub fn expand_body<N: Ledger, L: Ledger>(
@@ -72,12 +72,13 @@ pub fn expand_body<N: Ledger, L: Ledger>(
     needs: &[bool],
     path: &Symbol,
     form: &LibraryForm,
-    body: &Body,
+    body: Body,
     prims: &PrimTable,
     counts: &mut Counts<N, L>,
 ) -> Result<LibRecord, Stop>
-    ensures { Gives (λ r. r) result (expand_body (kept prelude.now) (needed_records records.now needs.now) path.now form.now body.now) }
+    ensures { Gives (λ r. r) result (expand_body (kept prelude.now) (needed_records records.now needs.now) path.now form.now body) }
 {
+    let Body { names, forms } = body;
     let exports = export_trees(alloc, &form.exports)?;
     let version = share_version(alloc, form.version.as_slice())?;
     let begun = expander_of(
@@ -87,13 +88,13 @@ pub fn expand_body<N: Ledger, L: Ledger>(
         path,
         records,
         needs,
-        body.names.as_slice(),
+        names.as_slice(),
     )?;
     record_behind(
         begun,
         records,
         needs,
-        body.forms.as_slice(),
+        forms,
         &form.name_span,
         exports.as_slice(),
         version,
@@ -126,7 +127,7 @@ fn record_behind<N: Ledger, L: Ledger>(
     begun: Expander,
     records: &Records,
     needs: &[bool],
-    forms: &[Syn],
+    forms: Items<Syn>,
     place: &Span,
     exports: &[(Symbol, Syn)],
     version: Items<u64>,
@@ -134,7 +135,7 @@ fn record_behind<N: Ledger, L: Ledger>(
     counts: &mut Counts<N, L>,
 ) -> Result<LibRecord, Stop>
     requires { begun.failed ≡ false }
-    ensures { Gives (λ r. r) result (library_record begun (needed_records records.now needs.now) version place.now exports.now forms.now) }
+    ensures { Gives (λ r. r) result (library_record begun (needed_records records.now needs.now) version place.now exports.now forms) }
 {
     let earlier = Earlier {
         records: records.ready().as_slice(),

@@ -87,7 +87,7 @@ fn expand_one<N: Ledger, L: Ledger>(
         needs.as_slice(),
         &path,
         &form,
-        &body,
+        body,
         prims,
         counts,
     )
@@ -115,7 +115,7 @@ fn expand_program<N: Ledger, L: Ledger>(
         needs.as_slice(),
         &path,
         &form,
-        &body,
+        body,
         prims,
         counts,
     )
