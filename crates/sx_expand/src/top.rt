@@ -220,7 +220,8 @@ fn finish_in_order<N: Ledger, L: Ledger>(
 ) -> Result<Vec<Line>, Stop>
     ensures { GivesAfter (λ v. v.items) result state.new (finish_all (inside (earlier_in means.now.earlier) 602) 0 taken.waiting state.old) }
 {
-    let Taken { waiting, .. } = taken;
+    let Taken { waiting, kept, .. } = taken;
+    drop(kept);
     let mut waiting = waiting.into_vec();
     waiting.reverse();
     finish_each(state, waiting, means, counts)
