@@ -81,15 +81,7 @@ pub fn expand_body<N: Ledger, L: Ledger>(
     let Body { names, forms } = body;
     let exports = export_trees(alloc, &form.exports)?;
     let version = share_version(alloc, form.version.as_slice())?;
-    let begun = expander_of(
-        alloc,
-        prelude,
-        form,
-        path,
-        records,
-        needs,
-        names.as_slice(),
-    )?;
+    let begun = expander_of(alloc, prelude, form, path, records, needs, names.as_slice())?;
     record_behind(
         begun,
         records,
