@@ -23,7 +23,7 @@ pub struct Keywords {
 }
 
 impl Model for Keywords {
-    ghost use Rattle.std.specs.Prelude.{◌≡◌, Unit};
+    ghost use Rattle.std.specs.Prelude.{◌≡◌};
     ghost use Rattle.sx_machine.specs.Form.{keyword_of};
     ghost use Rattle.sx_lexer.specs.declared.token.Abbreviation.TheVariants as abbreviation;
 

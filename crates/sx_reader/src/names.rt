@@ -17,8 +17,6 @@ pub struct Names {
 }
 
 impl Model for Names {
-    ghost use Rattle.std.specs.Prelude.{Unit};
-
     ghost Value = { Unit {0} };
 
     ghost view = { λ n. tt };

@@ -29,7 +29,7 @@ pub(crate) struct End {
 }
 
 impl Model for End {
-    ghost use Rattle.std.specs.Prelude.{◌≡◌, Unit};
+    ghost use Rattle.std.specs.Prelude.{◌≡◌};
     ghost use Rattle.sx_tree.specs.Tree.{nil};
 
     ghost Value = { Unit {0} };
