@@ -4,11 +4,11 @@ ghost use Rattle.std.specs.Prelude.{◌≡◌, [], IfOk, OnOk, reverse};
 ghost use Rattle.sx_base.specs.Act.{GivesAfter};
 ghost use Rattle.sx_base.specs.Gives.{Gives};
 ghost use Rattle.sx_stage.specs.Libraries.{earlier_in};
-ghost use Rattle.sx_expand.specs.Body.{finish_all};
+ghost use Rattle.sx_expand.specs.Body.{finish_all, splice};
 ghost use Rattle.sx_expand.specs.Expression.{inside};
 ghost use Rattle.sx_expand.specs.Top.{export, all_exports, exports, with_label_of, with_labels_of, code_of, with_lines_of, refs_of, record_of, record_in, kind_of, body_at, first_pass, finished, top};
 
-use crate::body::{finish_one, splice};
+use crate::body::{finish_one, item};
 use crate::expression::stamp_all;
 use crate::inside::ROOM;
 use crate::libraries::Libraries;
@@ -183,7 +183,7 @@ fn kind_of(library: &LibName) -> BodyKind
 }
 
 /// A list that has become much shorter than its room gives that back.
-fn give_back(list: &mut Vec<Waiting>)
+fn give_back<T>(list: &mut Vec<T>)
     ensures { list.new.items ≡ list.old.items }
 {
     if list.capacity() > LONG && list.len() < list.capacity() / 2 {
@@ -258,6 +258,42 @@ fn body_at(state: &Expansion, at: &TopAt) -> Result<BodyAt, Memory>
     })
 }
 
+/// The first pass over forms, which come with the last first. Each goes as soon as it is done: a use and what it expands
+/// to aren't kept side by side.
+fn splice_each<N: Ledger, L: Ledger>(
+    state: &mut Expansion,
+    at: &BodyAt,
+    taken: &mut Taken,
+    forms: Vec<Syn>,
+    means: &Means,
+    counts: &mut Counts<N, L>,
+) -> Result<(), Stop>
+    ensures { GivesAfter (λ _. taken.new) result state.new (splice (inside (earlier_in means.now.earlier) 602) at.now 0 taken.old (reverse forms.items) state.old) }
+{
+    let mut left = forms;
+    while let Some(form) = left.pop() {
+        item(state, at, 0, taken, &form, means, counts, ROOM)?;
+        give_back(&mut left);
+    }
+    Ok(())
+}
+
+/// The first pass over forms.
+fn splice_in_order<N: Ledger, L: Ledger>(
+    state: &mut Expansion,
+    at: &BodyAt,
+    taken: &mut Taken,
+    forms: Items<Syn>,
+    means: &Means,
+    counts: &mut Counts<N, L>,
+) -> Result<(), Stop>
+    ensures { GivesAfter (λ _. taken.new) result state.new (splice (inside (earlier_in means.now.earlier) 602) at.now 0 taken.old forms state.old) }
+{
+    let mut forms = forms.into_vec();
+    forms.reverse();
+    splice_each(state, at, taken, forms, means, counts)
+}
+
 /// The first pass over the body of a library or program.
 #[tactic(auto, unfolding(crate::specs::Top::first_pass))]
 fn first_pass<N: Ledger, L: Ledger>(
@@ -278,16 +314,7 @@ fn first_pass<N: Ledger, L: Ledger>(
         has_expression: false,
         moved: false,
     };
-    splice(
-        state,
-        &body,
-        0,
-        &mut taken,
-        stamped.as_slice(),
-        means,
-        counts,
-        ROOM,
-    )?;
+    splice_in_order(state, &body, &mut taken, stamped, means, counts)?;
     Ok(taken)
 }
 
