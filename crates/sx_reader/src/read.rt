@@ -55,12 +55,27 @@ pub fn read_deep(
     ensures faulted { (f : Fault) → IsFaultOf file.now bytes.now nesting f → Gives (λ v. v.items) result (Err f) }
     ensures single { (ds es : List PlainDatum) → Spells file.now bytes.now nesting ds → Spells file.now bytes.now nesting es → ds ≡ es }
 {
-    let keywords = Keywords::new(alloc)?;
-    let mut names = Names::new(alloc);
-    read_lexemes(alloc, file, bytes, nesting, &keywords, &mut names)
+    read_lexemes(alloc, file, bytes, nesting)
 }
 
 fn read_lexemes(
+    alloc: Global,
+    file: &Symbol,
+    bytes: &[u8],
+    nesting: u32,
+) -> Result<Vec<Datum>, Stop>
+    requires { length bytes.now < 2 ^ 32 }
+    ensures gives { Gives (λ v. v.items) result (data_of file.now bytes.now nesting) }
+    ensures spelled { IfOk result (λ v. Spells file.now bytes.now nesting v.items) }
+    ensures refused { OnFault result (IsFaultOf file.now bytes.now nesting) }
+{
+    let keywords = Keywords::new(alloc)?;
+    let mut names = Names::new(alloc);
+    read_sharing(alloc, file, bytes, nesting, &keywords, &mut names)
+}
+
+/// As `read_lexemes`, with symbols that data can share.
+fn read_sharing(
     alloc: Global,
     file: &Symbol,
     bytes: &[u8],
