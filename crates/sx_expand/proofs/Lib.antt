@@ -1,4 +1,4 @@
 pub mod Bodies
-pub mod Popped
 pub mod Settling
 pub mod Steps
+pub mod Taking

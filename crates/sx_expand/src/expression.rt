@@ -49,7 +49,7 @@ pub(crate) fn sequence_of(parts: Vec<Core>) -> Core
 }
 
 /// No elements, with room for so many where there is memory. A list that grows keeps room for four at least.
-fn with_room<T>(alloc: Global, count: usize) -> Vec<T>
+pub(crate) fn with_room<T>(alloc: Global, count: usize) -> Vec<T>
     ensures { result.items ≡ [] }
 {
     match Vec::with_capacity(alloc, count) {

@@ -1,6 +1,6 @@
 //! The body of a library or program (R6RS 7.1 and 8), and the record that comes of it.
 
-ghost use Rattle.std.specs.Prelude.{◌≡◌, [], IfOk, OnOk, reverse};
+ghost use Rattle.std.specs.Prelude.{◌≡◌, [], IfOk, OnOk};
 ghost use Rattle.sx_base.specs.Act.{GivesAfter};
 ghost use Rattle.sx_base.specs.Gives.{Gives};
 ghost use Rattle.sx_stage.specs.Libraries.{earlier_in};
@@ -9,7 +9,7 @@ ghost use Rattle.sx_expand.specs.Expression.{inside};
 ghost use Rattle.sx_expand.specs.Top.{export, all_exports, exports, with_label_of, with_labels_of, code_of, with_lines_of, refs_of, record_of, record_in, kind_of, body_at, first_pass, finished, top};
 
 use crate::body::{finish_one, item};
-use crate::expression::stamp_all;
+use crate::expression::{stamp_all, with_room};
 use crate::inside::ROOM;
 use crate::libraries::Libraries;
 use std::alloc::Global;
@@ -31,9 +31,6 @@ use sx_standing::expansion::Expansion;
 use sx_standing::means::{Counts, Means};
 use sx_standing::share::share_library;
 use sx_syntax::syn::Syn;
-
-/// A list with room for more than so many gives back what it doesn't need.
-const LONG: usize = 1024;
 
 /// What a body of a library or program has besides its forms.
 #[derive(Drop)]
@@ -182,49 +179,24 @@ fn kind_of(library: &LibName) -> BodyKind
     }
 }
 
-/// A list that has become much shorter than its room gives that back.
-fn give_back<T>(list: &mut Vec<T>)
-    ensures { list.new.items ≡ list.old.items }
-{
-    if list.capacity() > LONG && list.len() < list.capacity() / 2 {
-        list.shrink_to_fit();
-    }
-}
-
-/// The second pass over what waits, which comes with the last first. What has waited goes as soon as it is done: the
-/// forms of a long body and their core code aren't kept side by side.
+/// The second pass. What has waited goes as soon as it is done: the forms of a long body and their core code aren't kept
+/// side by side.
 fn finish_each<N: Ledger, L: Ledger>(
     state: &mut Expansion,
-    waiting: Vec<Waiting>,
+    waiting: Items<Waiting>,
     means: &Means,
     counts: &mut Counts<N, L>,
 ) -> Result<Vec<Line>, Stop>
-    ensures { GivesAfter (λ v. v.items) result state.new (finish_all (inside (earlier_in means.now.earlier) 602) 0 (reverse waiting.items) state.old) }
+    ensures { GivesAfter (λ v. v.items) result state.new (finish_all (inside (earlier_in means.now.earlier) 602) 0 waiting state.old) }
 {
-    let mut lines = Vec::new(state.alloc());
-    let mut left = waiting;
-    while let Some(one) = left.pop() {
+    let waiting = waiting.into_vec();
+    let mut lines = with_room(state.alloc(), waiting.len());
+    let mut left = waiting.into_iter();
+    while let Some(one) = left.next() {
         let line = finish_one(state, &one, 0, means, counts, ROOM)?;
         lines.push(line)?;
-        give_back(&mut left);
     }
     Ok(lines)
-}
-
-/// The second pass.
-fn finish_in_order<N: Ledger, L: Ledger>(
-    state: &mut Expansion,
-    taken: Taken,
-    means: &Means,
-    counts: &mut Counts<N, L>,
-) -> Result<Vec<Line>, Stop>
-    ensures { GivesAfter (λ v. v.items) result state.new (finish_all (inside (earlier_in means.now.earlier) 602) 0 taken.waiting state.old) }
-{
-    let Taken { waiting, kept, .. } = taken;
-    drop(kept);
-    let mut waiting = waiting.into_vec();
-    waiting.reverse();
-    finish_each(state, waiting, means, counts)
 }
 
 /// What comes after the first pass.
@@ -240,7 +212,9 @@ fn finished<N: Ledger, L: Ledger>(
     ensures { Gives (λ r. r) result (record_in (finished (inside (earlier_in means.now.earlier) 602) at list.now taken state.old)) }
 {
     let exports = exports(state, &at, list, counts.nodes)?;
-    let lines = finish_in_order(state, taken, means, counts)?;
+    let Taken { waiting, kept, .. } = taken;
+    drop(kept);
+    let lines = finish_each(state, waiting, means, counts)?;
     Ok(record_of(state, at, exports, lines)?)
 }
 
@@ -258,28 +232,8 @@ fn body_at(state: &Expansion, at: &TopAt) -> Result<BodyAt, Memory>
     })
 }
 
-/// The first pass over forms, which come with the last first. Each goes as soon as it is done: a use and what it expands
-/// to aren't kept side by side.
+/// The first pass over forms. Each goes as soon as it is done: a use and what it expands to aren't kept side by side.
 fn splice_each<N: Ledger, L: Ledger>(
-    state: &mut Expansion,
-    at: &BodyAt,
-    taken: &mut Taken,
-    forms: Vec<Syn>,
-    means: &Means,
-    counts: &mut Counts<N, L>,
-) -> Result<(), Stop>
-    ensures { GivesAfter (λ _. taken.new) result state.new (splice (inside (earlier_in means.now.earlier) 602) at.now 0 taken.old (reverse forms.items) state.old) }
-{
-    let mut left = forms;
-    while let Some(form) = left.pop() {
-        item(state, at, 0, taken, &form, means, counts, ROOM)?;
-        give_back(&mut left);
-    }
-    Ok(())
-}
-
-/// The first pass over forms.
-fn splice_in_order<N: Ledger, L: Ledger>(
     state: &mut Expansion,
     at: &BodyAt,
     taken: &mut Taken,
@@ -289,9 +243,11 @@ fn splice_in_order<N: Ledger, L: Ledger>(
 ) -> Result<(), Stop>
     ensures { GivesAfter (λ _. taken.new) result state.new (splice (inside (earlier_in means.now.earlier) 602) at.now 0 taken.old forms state.old) }
 {
-    let mut forms = forms.into_vec();
-    forms.reverse();
-    splice_each(state, at, taken, forms, means, counts)
+    let mut left = forms.into_vec().into_iter();
+    while let Some(form) = left.next() {
+        item(state, at, 0, taken, &form, means, counts, ROOM)?;
+    }
+    Ok(())
 }
 
 /// The first pass over the body of a library or program.
@@ -314,7 +270,7 @@ fn first_pass<N: Ledger, L: Ledger>(
         has_expression: false,
         moved: false,
     };
-    splice_in_order(state, &body, &mut taken, stamped, means, counts)?;
+    splice_each(state, &body, &mut taken, stamped, means, counts)?;
     Ok(taken)
 }
 

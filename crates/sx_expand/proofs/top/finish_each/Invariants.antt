@@ -1,5 +1,4 @@
 use Rattle.std.proofs.Common.{◌≡◌, length}
-use Rattle.std.specs.Prelude.{reverse}
 use Rattle.sx_base.specs.Act.{each}
 use Rattle.sx_stage.specs.Libraries.{earlier_in}
 use Rattle.sx_expand.specs.Body.{finish_one, finish_all}
@@ -8,8 +7,8 @@ use Rattle.sx_expand.proofs.top.finish_each.Given as goal
 
 abbrev pub invariant-loop-one : goal.invariant-loop-one
 invariant-loop-one g l =
-    each (finish_one (inside (earlier_in l.means.earlier) 602) 0) l.lines.items (reverse l.left.items) l.state
-    ≡ finish_all (inside (earlier_in l.means.earlier) 602) 0 (reverse l.fn.waiting.items) l.fn.state
+    each (finish_one (inside (earlier_in l.means.earlier) 602) 0) l.lines.items l.left.rest.items l.state
+    ≡ finish_all (inside (earlier_in l.means.earlier) 602) 0 l.fn.waiting l.fn.state
 
 abbrev pub decreases-loop-one : goal.decreases-loop-one
-decreases-loop-one g l = length l.left.items
+decreases-loop-one g l = length l.left.rest.items

@@ -1,19 +1,16 @@
 use Rattle.std.proofs.lemmas.Result.{err_from_is_err_and}
 use Rattle.sx_stage.specs.Libraries.{earlier_in}
 use Rattle.sx_expand.specs.Expression.{inside}
-use Rattle.sx_expand.proofs.Popped.{taken_on, taken_stops, taken_all}
+use Rattle.sx_expand.proofs.Taking.{gather_taken, gather_stopped, gather_none}
 use Rattle.sx_expand.proofs.top.splice_each.Goals as goal
 
 pub returns-in_err-item : goal.returns-in_err-item
 returns-in_err-item g c =
     let p = err_from_is_err_and c.from_residual.result c.from_residual.ensures.1 in
-    rw (p.1, p.2) (taken_stops ((inside (earlier_in c.args.means.now.earlier) 602).item c.args.at.now 0) c.loop-form.left.items c.pop.new.self.items c.in-Some.form
-    c.in-Some.ensures.items c.loop-form.taken c.loop-form.state _ c.in_err-item.field-0.0 c.in_err-item.ensures c.loop-form.invariant)
+    rw (p.1, p.2) (gather_stopped ((inside (earlier_in c.args.means.now.earlier) 602).item c.args.at.now 0) c.loop-form.taken c.loop-form.left.rest.items c.next.new.self.rest.items c.in-Some.form
+    c.in-Some.ensures.items c.loop-form.state _ c.loop-form.invariant c.in_err-item.field-0.0 c.in_err-item.ensures)
 
 pub loop-form-preserved : goal.loop-form-preserved
 loop-form-preserved g c =
-    rw c.give_back.ensures (taken_on ((inside (earlier_in c.args.means.now.earlier) 602).item c.args.at.now 0) c.loop-form.left.items c.pop.new.self.items c.in-Some.form
-    c.in-Some.ensures.items c.loop-form.taken c.loop-form.state _ c.item.new.taken c.item.new.state c.in_ok-item.ensures c.loop-form.invariant)
-
-pub returns : goal.returns
-returns g c = taken_all ((inside (earlier_in c.args.means.now.earlier) 602).item c.args.at.now 0) c.loop-form.taken c.loop-form.left.items c.loop-form.state _ ? c.loop-form.invariant
+    gather_taken ((inside (earlier_in c.args.means.now.earlier) 602).item c.args.at.now 0) c.loop-form.taken c.loop-form.left.rest.items c.next.new.self.rest.items c.in-Some.form
+    c.in-Some.ensures.items c.loop-form.state _ c.loop-form.invariant c.item.new.taken c.item.new.state c.in_ok-item.ensures

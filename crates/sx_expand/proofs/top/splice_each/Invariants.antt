@@ -1,5 +1,4 @@
 use Rattle.std.proofs.Common.{◌≡◌, length}
-use Rattle.std.specs.Prelude.{reverse}
 use Rattle.sx_base.specs.Act.{gather}
 use Rattle.sx_stage.specs.Libraries.{earlier_in}
 use Rattle.sx_expand.specs.Body.{splice}
@@ -8,8 +7,8 @@ use Rattle.sx_expand.proofs.top.splice_each.Given as goal
 
 abbrev pub invariant-loop-form : goal.invariant-loop-form
 invariant-loop-form g l =
-    gather ((inside (earlier_in l.means.earlier) 602).item l.at 0) l.taken (reverse l.left.items) l.state
-    ≡ splice (inside (earlier_in l.means.earlier) 602) l.at 0 l.fn.taken (reverse l.fn.forms.items) l.fn.state
+    gather ((inside (earlier_in l.means.earlier) 602).item l.at 0) l.taken l.left.rest.items l.state
+    ≡ splice (inside (earlier_in l.means.earlier) 602) l.at 0 l.fn.taken l.fn.forms l.fn.state
 
 abbrev pub decreases-loop-form : goal.decreases-loop-form
-decreases-loop-form g l = length l.left.items
+decreases-loop-form g l = length l.left.rest.items
