@@ -402,8 +402,8 @@ module _ (P : LeafContext → Type 0) where
     unfolding part_made
     part_ok op [] = tt
     part_ok op (x ∷ []) =
-        made_if (op == 166) _ _ (some_made (strings.string_of cells x) _ (λ s. tt))
-        (made_if (op == 185) _ _ (some_made (strings.vector_of cells x) _ (λ xs. tt)) tt)
+        made_if (op == 166) _ _ (some_made (strings.string_of cells x) _ (λ s. natural_ok (length (chars s))))
+        (made_if (op == 185) _ _ (some_made (strings.vector_of cells x) _ (λ xs. natural_ok (length xs))) tt)
     part_ok op (x ∷ k ∷ []) =
         made_if (op == 167) _ _
         (some_made (strings.string_of cells x) _ (λ s. some_made (strings.index_below (length (chars s)) k) _ (λ i. char_given_ok (slice_get (chars s) i))))

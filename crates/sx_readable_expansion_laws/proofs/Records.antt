@@ -1,12 +1,12 @@
 -- What record forms stand for can be read where the form can.
-use Rattle.std.specs.Prelude.{◌&&◌, nat_lt}
+use Rattle.std.specs.Prelude.{◌^◌, ◌<◌, ◌≤◌, ◌&&◌, nat_lt, nat_le}
 use Rattle.std.proofs.lemmas.Bool.Decides.{nat_tests}
 use Rattle.std.specs.List.{list_all}
 use Rattle.std.specs.Str.{IsUtf8}
-use Rattle.std.proofs.lemmas.Bool.{and_parts, ltb-true}
+use Rattle.std.proofs.lemmas.Bool.{and_parts, leb-true, ltb-true}
 use Rattle.std.proofs.lemmas.List.{length-append}
 use Rattle.std.proofs.lemmas.Str.{IsUtf8-append, IsUtf8-nil}
-use Rattle.std.proofs.Common.{◌≡◌, ◌∙◌, refl, sym, subst, append_assoc, true, length, arith, ℕ, ◌+◌, Bool, List, [], ◌∷◌, ◌++◌, Option, None, Some, Ok, Err, codes}
+use Rattle.std.proofs.Common.{◌≡◌, ◌∙◌, refl, sym, subst, append_assoc, true, false, length, arith, ℕ, ◌+◌, Bool, List, [], ◌∷◌, ◌++◌, Option, None, Some, Result, Ok, Err, codes, if◌then◌else◌}
 use Rattle.sx_base.specs.Gives.{◌>>=◌}
 use Rattle.sx_base.specs.declared.span.Span.{Span}
 use Rattle.sx_scope.specs.Stands.{symbol_of}
@@ -18,7 +18,8 @@ use Rattle.sx_printer.specs.Symbols.{is_subsequent}
 use Rattle.sx_name_laws.proofs.AnyName.{rest_of_name, any_rest}
 use Rattle.sx_name_laws.proofs.Words.{all_weaker}
 use Rattle.sx_readable_laws.proofs.Texts.{is_small, small_text}
-use Rattle.sx_tree.specs.Tree.{Tree, atom, leaf, pair, vector, list_of, vector_of}
+use Rattle.sx_tree.specs.Measures.{size, height, within, too_deep}
+use Rattle.sx_tree.specs.Tree.{Tree, atom, leaf, pair, vector, nil, chain, list_of, vector_of}
 use Rattle.sx_frames.specs.Scope.{Scope}
 use Rattle.sx_core.specs.declared.core_form.CoreForm.{CoreForm}
 use Rattle.sx_core.specs.declared.core_form.CoreForm.TheVariants as form
@@ -371,35 +372,37 @@ accessor-operator-holds : T accessor_operator
 unfolding accessor_operator
 accessor-operator-holds = (named (codes "record-accessor") refl)
 
-accessor-value-good : (k : ℕ) → Good (accessor_value k)
+accessor-value-good : (k : ℕ) → k < 2 ^ 127 → Good (accessor_value k)
 unfolding accessor_value
-accessor-value-good k = three-good accessor_operator rtd (place_in k) accessor-operator-holds (named (codes "rtd") refl) tt
+accessor-value-good k few = three-good accessor_operator rtd (place_in k) accessor-operator-holds (named (codes "rtd") refl) few
 
-accessor-good : (k : ℕ) (id : Tree) → T id → Good (accessor_definition k id)
-accessor-good k id h = by-good id (accessor_value k) h (accessor-value-good k)
+accessor-good : (k : ℕ) (id : Tree) → k < 2 ^ 127 → T id → Good (accessor_definition k id)
+accessor-good k id few h = by-good id (accessor_value k) h (accessor-value-good k few)
 
 mutator-operator-holds : T mutator_operator
 unfolding mutator_operator
 mutator-operator-holds = (named (codes "record-mutator") refl)
 
-mutator-value-good : (k : ℕ) → Good (mutator_value k)
+mutator-value-good : (k : ℕ) → k < 2 ^ 127 → Good (mutator_value k)
 unfolding mutator_value
-mutator-value-good k = three-good mutator_operator rtd (place_in k) mutator-operator-holds (named (codes "rtd") refl) tt
+mutator-value-good k few = three-good mutator_operator rtd (place_in k) mutator-operator-holds (named (codes "rtd") refl) few
 
-mutator-good : (k : ℕ) (id : Tree) → T id → Good (mutator_definition k id)
-mutator-good k id h = by-good id (mutator_value k) h (mutator-value-good k)
+mutator-good : (k : ℕ) (id : Tree) → k < 2 ^ 127 → T id → Good (mutator_definition k id)
+mutator-good k id few h = by-good id (mutator_value k) h (mutator-value-good k few)
 
-with-mutator-good : (k : ℕ) (done : List Tree) (o : Option Tree) → Ts done → OptionHolds T o → RowGood (with_mutator k done o)
-with-mutator-good k done None h j = h
-with-mutator-good k done (Some put) h j = then-holds T Ts (mutator_definition k put) (λ t. Ok (done ++ t ∷ [])) (mutator-good k put j) (λ t g. each_and T done t h g)
+with-mutator-good : (k : ℕ) (done : List Tree) (o : Option Tree) → k < 2 ^ 127 → Ts done → OptionHolds T o → RowGood (with_mutator k done o)
+with-mutator-good k done None few h j = h
+with-mutator-good k done (Some put) few h j = then-holds T Ts (mutator_definition k put) (λ t. Ok (done ++ t ∷ [])) (mutator-good k put few j) (λ t g. each_and T done t h g)
 
-with-field-good : (k : ℕ) (done : List Tree) (f : Field) → Ts done → FieldHolds f → RowGood (with_field k done f)
-with-field-good k done f h j =
-    then-holds T Ts (accessor_definition k f.accessor) (λ t. with_mutator k (done ++ t ∷ []) f.mutator) (accessor-good k f.accessor j.1.0) (λ t g. with-mutator-good k (done ++ t ∷ []) f.mutator (each_and T done t h g) j.1.1)
+with-field-good : (k : ℕ) (done : List Tree) (f : Field) → k < 2 ^ 127 → Ts done → FieldHolds f → RowGood (with_field k done f)
+with-field-good k done f few h j =
+    then-holds T Ts (accessor_definition k f.accessor) (λ t. with_mutator k (done ++ t ∷ []) f.mutator) (accessor-good k f.accessor few j.1.0)
+    (λ t g. with-mutator-good k (done ++ t ∷ []) f.mutator few (each_and T done t h g) j.1.1)
 
-with-fields-good : (k : ℕ) (done : List Tree) (fs : List Field) → Ts done → Each FieldHolds fs → RowGood (with_fields k done fs)
-with-fields-good k done [] h j = h
-with-fields-good k done (f ∷ fs) h j = then-holds Ts Ts (with_field k done f) (λ ts. with_fields (k + 1) ts fs) (with-field-good k done f h j.0) (λ ts g. with-fields-good (k + 1) ts fs g j.1)
+with-fields-good : (k : ℕ) (done : List Tree) (fs : List Field) → k + length fs ≤ 2 ^ 127 → Ts done → Each FieldHolds fs → RowGood (with_fields k done fs)
+with-fields-good k done [] few h j = h
+with-fields-good k done (f ∷ fs) few h j =
+    then-holds Ts Ts (with_field k done f) (λ ts. with_fields (k + 1) ts fs) (with-field-good k done f (omega arith) h j.0) (λ ts g. with-fields-good (k + 1) ts fs (omega arith) g j.1)
 
 first-good : (own : List ℕ) (on : IsName own) (names : RecordNames) (cs : Clauses) → NamesHold names → ReadableClauses cs → RowGood (first_definitions own names cs)
 unfolding first_definitions
@@ -411,11 +414,89 @@ first-good own on names cs h k =
     (λ d s. then-holds T Ts (predicate_definition names.predicate) _ (predicate-definition-good names.predicate h.1.1)
     (λ e t. ((named (codes "begin") refl), (p, (q, (r, (s, (t, tt)))))))))))
 
+-- Each field has a definition, and a form within the limit of trees has no more parts than 128 bits count.
+
+size-some : (t : Tree) → 1 ≤ size t
+size-some (atom s a) = omega arith
+size-some (leaf s x c) = omega arith
+size-some (pair s a d) = let h = size-some a in omega arith
+size-some (vector s d) = size-some d
+
+chain-size : (ts : List Tree) → length ts ≤ size (chain ts nil)
+chain-size [] = omega arith
+chain-size (t ∷ ts) = let h = size-some t in let k = chain-size ts in omega arith
+
+list-size : (ts : List Tree) → length ts ≤ size (list_of ts None)
+list-size [] = omega arith
+list-size (t ∷ ts) = chain-size (t ∷ ts)
+
+within-size : (P : Tree → Type 0) (t : Tree) → (size t ≤ 16777216 → P t) → OkHolds P (within t)
+unfolding within
+within-size P t h = by (nat_le (height t) 1000) (nat_le (size t) 16777216) (λ e. h (omega (arith, leb-true, e)))
+  where
+    by : (c b : Bool) → (b ≡ true → P t) → OkHolds P (if c && b then Ok t else Err too_deep)
+    by true true k = k refl
+    by true false k = tt
+    by false b k = tt
+
+ok-weaker : {A E : Type 0} (P Q : A → Type 0) → ((x : A) → P x → Q x) → (r : Result A E) → OkHolds P r → OkHolds Q r
+ok-weaker P Q f (Ok x) h = f x h
+ok-weaker P Q f (Err e) h = tt
+
+-- so many or more
+abbrev Has : ℕ → List Tree → Type 0
+Has n ts = n ≤ length ts
+
+mutator-has : (k n : ℕ) (done : List Tree) (o : Option Tree) → n ≤ length done → OkHolds (Has n) (with_mutator k done o)
+mutator-has k n done None h = h
+mutator-has k n done (Some put) h = by (mutator_definition k put)
+  where
+    by : (m : Made) → OkHolds (Has n) (m >>= (λ t. Ok (done ++ t ∷ [])))
+    by (Ok t) = omega (arith, length-append done (t ∷ []))
+    by (Err f) = tt
+
+field-has : (k n : ℕ) (done : List Tree) (f : Field) → n ≤ length done → OkHolds (Has (n + 1)) (with_field k done f)
+field-has k n done f h = by (accessor_definition k f.accessor)
+  where
+    by : (m : Made) → OkHolds (Has (n + 1)) (m >>= (λ t. with_mutator k (done ++ t ∷ []) f.mutator))
+    by (Ok t) = mutator-has k (n + 1) (done ++ t ∷ []) f.mutator (omega (arith, length-append done (t ∷ [])))
+    by (Err f) = tt
+
+fields-have : (k n : ℕ) (done : List Tree) (fs : List Field) → n ≤ length done → OkHolds (Has (n + length fs)) (with_fields k done fs)
+fields-have k n done [] h = omega arith
+fields-have k n done (f ∷ fs) h =
+    then-holds (Has (n + 1)) (Has (n + length (f ∷ fs))) (with_field k done f) (λ ts. with_fields (k + 1) ts fs) (field-has k n done f h)
+    (λ ts j. ok-weaker (Has (n + 1 + length fs)) (Has (n + length (f ∷ fs))) (λ us i. omega arith) (with_fields (k + 1) ts fs) (fields-have (k + 1) (n + 1) ts fs j))
+
+-- the definitions of so many fields, where they are one form
+module _ (ts : List Tree) (fs : List Field) (h : Ts ts) (j : Each FieldHolds fs) where
+  fields-fit : (us : List Tree) → with_fields 0 ts fs ≡ Ok us → size (list_of us None) ≤ 16777216 → Ts us
+  fields-fit us e few = by (with_fields 0 ts fs) e (with-fields-good 0 ts fs enough h j)
+    where
+      counted : length fs ≤ length us
+      counted = let k : 0 + length fs ≤ length us = subst (OkHolds (Has (0 + length fs))) e (fields-have 0 0 ts fs (omega arith)) in omega (arith, k)
+
+      enough : 0 + length fs ≤ 2 ^ 127
+      enough = let k = counted in let i = list-size us in omega arith
+
+      by : (r : Row) → r ≡ Ok us → RowGood r → Ts us
+      by (Ok vs) e k = let same : vs ≡ us = cc in subst Ts same k
+      by (Err f) e k = absurd (cc)
+
+  fields-made : Good (with_fields 0 ts fs >>= list_made)
+  fields-made = by (with_fields 0 ts fs) refl
+    where
+      by : (r : Row) → with_fields 0 ts fs ≡ r → Good (r >>= list_made)
+      by (Ok us) e = within-size T (list_of us None) (λ few. list_of_holds us None (fields-fit us e few) tt)
+      by (Err f) e = tt
+
 definitions-good : (own : List ℕ) (on : IsName own) (names : RecordNames) (cs : Clauses) → NamesHold names → ReadableClauses cs → Good (definitions own names cs)
 unfolding definitions
-definitions-good own on names cs h k =
-    then-holds Ts T (first_definitions own names cs >>= (λ ts. with_fields 0 ts (or_no_fields cs.fields))) list_made
-    (then-holds Ts Ts (first_definitions own names cs) (λ ts. with_fields 0 ts (or_no_fields cs.fields)) (first-good own on names cs h k) (λ ts j. with-fields-good 0 ts (or_no_fields cs.fields) j (no-fields cs.fields k.fields))) list-good
+definitions-good own on names cs h k = by (first_definitions own names cs) (first-good own on names cs h k)
+  where
+    by : (r : Row) → RowGood r → Good ((r >>= (λ ts. with_fields 0 ts (or_no_fields cs.fields))) >>= list_made)
+    by (Ok ts) j = fields-made ts (or_no_fields cs.fields) j (no-fields cs.fields k.fields)
+    by (Err f) j = tt
 
 -- Forms.
 

@@ -1,6 +1,8 @@
 -- What a primitive makes can be read where its arguments and the cells can, row by row of `delta`.
 use Rattle.std.specs.Char.{IsScalar}
+use Rattle.std.specs.Ordering.{int_eq}
 use Rattle.std.specs.Str.{IsUtf8}
+use Rattle.std.proofs.lemmas.Bool.{ltb-true}
 use Rattle.std.proofs.lemmas.Str.{IsUtf8-nil}
 use Rattle.std.specs.Prelude.{cond, nat_lt}
 use Rattle.std.proofs.Common.{◌≡◌, refl, arith, ◌+◌, ◌-◌, ◌/◌, ◌%◌, ◌==◌, ◌||◌, ◌&&◌, ℕ, zero, suc, ℤ, pos, negsuc, List, [], ◌∷◌, ◌++◌, Option, Some, None, Bool, true, false, Result, Ok, Err, length, map, chars, nat_le, unsigned_abs, slice_get, if◌then◌else◌}
@@ -43,6 +45,8 @@ use Rattle.sx_prims.specs.Strings.{part_made, unpacked_made, string_made, digits
 use Rattle.sx_prims.specs.Syntax as identifiers
 use Rattle.sx_prims.specs.Syntax.{identifier_made, temporaries_made}
 use Rattle.sx_readable_laws.specs.Readable.{ReadableTree, ReadableValue, ReadableValues, ReadableCells}
+use Rattle.sx_round.specs.Readable.{Fits}
+use Rattle.sx_round.proofs.Chars.{scalar_small}
 use Rattle.sx_fresh_laws.specs.Leaves.{OptionHolds}
 use Rattle.sx_fresh_laws.proofs.Eachs.{each_both, each_and, each_at, each_taken, each_reversed}
 use Rattle.sx_readable_laws.proofs.Reading.{PairOr, ValueOr, ValuesOr, TextOr, value_at, vector_at_holds, string_at_holds, pair_holds, all_elements, the_end, elements_hold, tail_holds}
@@ -74,6 +78,15 @@ same_scalar n e = by (nat_lt n 55296) (nat_le 57344 n && nat_lt n 1114112) e
     by : (b c : Bool) → (b || c) ≡ true → cond b true c ≡ true
     by true c h = refl
     by false c h = h
+
+-- what is tested of an integer is that it has at most 128 bits
+same_small : (z : ℤ) → numbers.is_small z ≡ true → Fits z
+same_small (pos n) e = omega (arith, ltb-true, e)
+same_small (negsuc n) e = omega (arith, ltb-true, e)
+
+-- as a scalar value has
+scalar_fits : (c : ℕ) → IsScalar c → Fits (pos c)
+scalar_fits c h = let few = scalar_small c h in omega (arith, few)
 
 module _ (cells : List Cell) (cells_hold : ReadableCells cells) where
   -- Ways to make.
@@ -121,12 +134,19 @@ module _ (cells : List Cell) (cells_hold : ReadableCells cells) where
 
   -- Numbers.
 
-  integer_ok : (o : Option ℤ) → MadeOr (numbers.integer_made o)
-  integer_ok None = tt
-  integer_ok (Some z) = tt
-
   whole_ok : (z : ℤ) → MadeOr (numbers.number z)
-  whole_ok z = integer_ok (numbers.small z)
+  whole_ok z = by (numbers.is_small z) (same_small z)
+    where
+      by : (t : Bool) → (t ≡ true → Fits z) → MadeOr (numbers.integer_made (if t then Some z else None))
+      by true fits = fits refl
+      by false fits = tt
+
+  quotient_ok : (op : ℕ) (x d : ℤ) → MadeOr (numbers.of_numbers op x d)
+  quotient_ok op x d = by (int_eq d (pos 0))
+    where
+      by : (t : Bool) → MadeOr (numbers.integer_made (if t then None else numbers.small (numbers.quotient op x d)))
+      by true = tt
+      by false = whole_ok (numbers.quotient op x d)
 
   compared_ok : (r : Option Relation) (zs : List ℤ) → MadeOr (numbers.compared r zs)
   compared_ok None zs = tt
@@ -145,7 +165,7 @@ module _ (cells : List Cell) (cells_hold : ReadableCells cells) where
       (made_if (op == 145) _ _ tt
       (made_if (op == 102) _ _ tt
       (made_if (op == 38) _ _ (whole_ok (pos (unsigned_abs z))) tt)))))
-  few_ok op (x ∷ d ∷ []) = integer_ok (numbers.small_quotient op x d)
+  few_ok op (x ∷ d ∷ []) = quotient_ok op x d
   few_ok op (x ∷ d ∷ y ∷ zs) = tt
 
   computed_ok : (op : ℕ) (zs : List ℤ) → MadeOr (computed op zs)
@@ -180,25 +200,39 @@ module _ (cells : List Cell) (cells_hold : ReadableCells cells) where
   to_character_ok (value.Atom (a.Int (negsuc n))) = tt
   to_character_ok _ = tt
 
-  from_character_ok : (x : Value) → MadeOr (characters.from_character x)
-  from_character_ok (value.Atom (a.Char c)) = tt
-  from_character_ok _ = tt
+  from_character_ok : (x : Value) → ReadableValue x → MadeOr (characters.from_character x)
+  from_character_ok (value.Atom (a.Char c)) h = scalar_fits c h
+  from_character_ok (value.Atom (a.Int z)) h = tt
+  from_character_ok (value.Atom (a.Spelt text)) h = tt
+  from_character_ok (value.Atom a.Nil) h = tt
+  from_character_ok (value.Atom (a.Bool b)) h = tt
+  from_character_ok (value.Atom (a.Str text)) h = tt
+  from_character_ok (value.Atom (a.Bytes bytes)) h = tt
+  from_character_ok value.Unspecified h = tt
+  from_character_ok (value.Symbol x) h = tt
+  from_character_ok (value.Pair p) h = tt
+  from_character_ok (value.Vector p) h = tt
+  from_character_ok (value.Str p) h = tt
+  from_character_ok (value.Closure c p) h = tt
+  from_character_ok (value.Prim op) h = tt
+  from_character_ok (value.Syn t) h = tt
+  from_character_ok (value.Transformer p) h = tt
 
   alike_ok : (op : ℕ) (args : List Value) → MadeOr (characters.alike op args)
   alike_ok op args = made_if (all_are (characters.is_kind op) args) (said (each_next same args)) None (said_made (each_next same args)) tt
 
-  of_character_ok : (op : ℕ) (args : List Value) → MadeOr (characters.of_character op args)
-  of_character_ok op [] = tt
-  of_character_ok op (x ∷ []) = made_if (op == 82) _ _ (from_character_ok x) (to_character_ok x)
-  of_character_ok op (x ∷ y ∷ args) = tt
+  of_character_ok : (op : ℕ) (args : List Value) → ReadableValues args → MadeOr (characters.of_character op args)
+  of_character_ok op [] r = tt
+  of_character_ok op (x ∷ []) r = made_if (op == 82) _ _ (from_character_ok x r.0) (to_character_ok x)
+  of_character_ok op (x ∷ y ∷ args) r = tt
 
-  character_ok : (op : ℕ) (args : List Value) → MadeOr (character_made op args)
+  character_ok : (op : ℕ) (args : List Value) → ReadableValues args → MadeOr (character_made op args)
   unfolding character_made
-  character_ok op args =
+  character_ok op args r =
       made_if (op == 46) _ _ (alike_ok op args)
       (made_if (op == 176) _ _ (alike_ok op args)
-      (made_if (op == 82) _ _ (of_character_ok op args)
-      (made_if (op == 116) _ _ (of_character_ok op args)
+      (made_if (op == 82) _ _ (of_character_ok op args r)
+      (made_if (op == 116) _ _ (of_character_ok op args r)
       (some_made (all_of characters.scalar_value [] args) _ (λ zs. compared_ok (relation_of op) zs)))))
 
   -- Strings.
@@ -491,8 +525,8 @@ module _ (cells : List Cell) (cells_hold : ReadableCells cells) where
   unfolding part_made
   part_ok op [] = tt
   part_ok op (x ∷ []) =
-      made_if (op == 166) _ _ (some_made (strings.string_of cells x) _ (λ s. tt))
-      (made_if (op == 185) _ _ (some_made (strings.vector_of cells x) _ (λ xs. tt)) tt)
+      made_if (op == 166) _ _ (some_made (strings.string_of cells x) _ (λ s. natural_ok (length (chars s))))
+      (made_if (op == 185) _ _ (some_made (strings.vector_of cells x) _ (λ xs. natural_ok (length xs))) tt)
   part_ok op (x ∷ k ∷ []) =
       made_if (op == 167) _ _
       (some_text (strings.string_of cells x) _ (string_holds x) (λ s h. some_made (strings.index_below (length (chars s)) k) _ (λ i. char_given_ok (slice_get (chars s) i) (each_at IsScalar (chars s) i (chars_scalar s h)))))
@@ -632,7 +666,7 @@ module _ (cells : List Cell) (cells_hold : ReadableCells cells) where
   row_ok row op args frames r =
       answer_if (row == 0) _ _ (refused_ok op (basic_made op args cells) (basic_ok op args r))
       (answer_if (row == 1) _ _ (refused_ok op (number_made op args) (number_ok op args))
-      (answer_if (row == 2) _ _ (refused_ok op (character_made op args) (character_ok op args))
+      (answer_if (row == 2) _ _ (refused_ok op (character_made op args) (character_ok op args r))
       (answer_if (row == 3) _ _ (refused_ok op (part_made op args cells) (part_ok op args))
       (answer_if (row == 4) _ _ (refused_ok op (gathered_made op args) (gathered_ok op args r))
       (answer_if (row == 5) _ _ (refused_ok op (list_made op args cells) (list_ok op args r))

@@ -1,11 +1,13 @@
 -- What an evaluation makes can be written and read back, where what it is made of can.
 use Rattle.std.specs.Prelude.{◌≡◌, ℕ, List, Ok}
+use Rattle.sx_base.specs.Datum.{PlainDatum}
 use Rattle.sx_base.specs.Named.{Named}
 use Rattle.sx_region.specs.declared.region.Place.{Place}
 use Rattle.sx_tree.specs.Tree.{Tree}
 use Rattle.sx_frames.specs.Scope.{Scope}
 use Rattle.sx_core.specs.Core.{PlainCore}
 use Rattle.sx_core.specs.declared.record.Line.{Line}
+use Rattle.sx_round.specs.Readable.{IsReadable}
 use Rattle.sx_value.specs.ToSyntax.{to_syntax}
 use Rattle.sx_value.specs.declared.cell.Cell.{Cell}
 use Rattle.sx_value.specs.declared.value.Value.{Value}
@@ -17,7 +19,7 @@ use Rattle.sx_eval.specs.Meaning.{eval_of, applied}
 use Rattle.sx_eval.specs.Setting.{PlainSetting}
 use Rattle.sx_eval.specs.State.{State}
 use Rattle.sx_readable_laws.specs.Outcome.{ReadableSetting, ReadableState, ReadableOutcome}
-use Rattle.sx_readable_laws.specs.Readable.{ReadableTree, ReadableValue, ReadableValues, ReadableCells, ReadableCore, ReadableLines}
+use Rattle.sx_readable_laws.specs.Readable.{ReadableDatum, ReadableTree, ReadableValue, ReadableValues, ReadableCells, ReadableCore, ReadableLines}
 
 -- what a primitive makes
 abbrev pub PrimitivesMakeReadables : Type 0
@@ -31,3 +33,7 @@ pub record ReadablesStay : Type 0 where
   pub libraries : (w : PlainSetting) (ls : List Line) (scope : Place) (s : State) (n : ℕ) → ReadableSetting w → ReadableState s → ReadableLines ls → ReadableOutcome (lines_from (eval_of w) ls scope s n)
   -- and the trees that values are read as
   pub trees : (cells : List Cell) (v : Value) (fuel left : ℕ) (t : Tree) → ReadableCells cells → ReadableValue v → to_syntax cells v fuel ≡ Ok (t, left) → ReadableTree t
+
+-- Such a datum is read back from its text, where some number of forms may be nested.
+abbrev pub ReadablesAreRead : Type 0
+ReadablesAreRead = (d : PlainDatum) → ReadableDatum d → (n : ℕ) × IsReadable n d

@@ -1,5 +1,4 @@
 pub mod Readable
-pub mod Integers
 pub mod Outcome
 pub mod Laws
 pub mod Stages

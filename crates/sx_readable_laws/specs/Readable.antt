@@ -1,4 +1,4 @@
--- What of a tree, a value, a cell and core code can be written and read back, but for the size of integers: texts are UTF-8, characters are
+-- What of a tree, a value, a cell and core code can be written and read back: integers have at most 128 bits, texts are UTF-8, characters are
 -- scalar values, bytes are bytes, symbols have one character or more, and a vector has its elements as a list.
 use Rattle.std.specs.Prelude.{List, Option, None, Some}
 use Rattle.std.specs.Str.{IsUtf8}
@@ -25,9 +25,8 @@ use Rattle.sx_value.specs.declared.value.Value.TheVariants as value
 use Rattle.sx_value.specs.declared.cell.Cell.{Cell}
 use Rattle.sx_value.specs.declared.cell.Cell.TheVariants as cell
 
--- an atom, whatever the size of an integer is
+-- an atom, as the reader gives it where a form may be nested
 abbrev pub ReadableAtom : Atom → Type 0
-ReadableAtom (a.Int z) = Unit {0}
 ReadableAtom x = IsReadableAtom 1 x
 
 abbrev pub IsNil : Atom → Type 0

@@ -9,18 +9,16 @@
 //! ```
 //!
 //! Core text has them all, and must be read as what it says. Not each datum can be read: a symbol without characters has no spelling, nor
-//! a string that isn't UTF-8, a character that is a surrogate, or a vector whose elements aren't a list. The promise: there are none of
-//! these in what an evaluation comes to, where there are none in the code, the cells and the values that it begins with. Row by row, no
-//! primitive makes one. So there are none in the form that a use of a keyword gives.
+//! a string that isn't UTF-8, a character that is a surrogate, an integer of more than 128 bits, or a vector whose elements aren't a list.
+//! The promise: there are none of these in what an evaluation comes to, where there are none in the code, the cells and the values that it
+//! begins with. Row by row, no primitive makes one. So there are none in the form that a use of a keyword gives.
 //!
-//! Nothing is said of the size of integers. Arithmetic has 128 bits, but the definitions count the characters of a string in numbers of any
-//! size. Where integers have 128 bits, each such datum can be read.
+//! And that is all that reading asks: a datum with none of these is read back from its text, wherever enough forms may be nested.
 //!
 //! Here are no calls to make: each function stands for the law that it ensures.
 #![tactic(auto)]
 
-ghost use Rattle.sx_readable_laws.specs.Integers.{ReadablesAreRead};
-ghost use Rattle.sx_readable_laws.specs.Laws.{PrimitivesMakeReadables, ReadablesStay};
+ghost use Rattle.sx_readable_laws.specs.Laws.{PrimitivesMakeReadables, ReadablesAreRead, ReadablesStay};
 ghost use Rattle.sx_readable_laws.specs.Stages.{UsesMakeReadables};
 
 /// What a primitive makes of what can be read can be read.
@@ -38,7 +36,7 @@ pub fn uses_make_readables()
     ensures { UsesMakeReadables }
 {}
 
-/// A datum whose integers have 128 bits can be read, where some number of forms may be nested.
+/// Each such datum can be read, where some number of forms may be nested.
 pub fn readables_are_read()
     ensures { ReadablesAreRead }
 {}

@@ -2,9 +2,14 @@ pub mod Capturing
 pub mod Referring
 pub mod Introducing
 pub mod Settling
+pub mod SettlingItems
+pub mod Naming
+pub mod Templating
 pub mod Staying
+pub mod Telling
 pub mod Walking
 pub mod Filling
+pub mod Coding
 pub mod Performing
 pub mod Wholly
 pub mod Recording

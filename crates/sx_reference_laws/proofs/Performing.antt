@@ -13,36 +13,49 @@ use Rattle.sx_base.specs.declared.span.Span.{Span}
 use Rattle.sx_tree.specs.Context.{LeafContext}
 use Rattle.sx_tree.specs.Tree.{Tree, atom, leaf, pair, vector}
 use Rattle.sx_scope.specs.Stands.{stands}
-use Rattle.sx_core.specs.Core.{PlainCore, variable, assignment, procedure, call, matching, cores, one_armed, two_armed}
+use Rattle.sx_core.specs.Template.{PlainTemplate}
+use Rattle.sx_core.specs.declared.core_form.CoreForm.TheVariants as core_forms
+use Rattle.sx_core.specs.Core.{PlainCore, variable, instance, assignment, procedure, call, matching, cores, one_armed, two_armed}
 use Rattle.sx_core.specs.CoreView.{cases, clauses}
-use Rattle.sx_core.specs.References.{mentions, all_mentions, case_mentions, clause_mentions}
 use Rattle.sx_core.specs.declared.record.LibRecord.{LibRecord}
 use Rattle.sx_quasi.specs.declared.word.Family.{Family}
 use Rattle.sx_quasi_code.specs.Form.{form_of, parts_of, code_of}
+use Rattle.sx_quasi_code.specs.declared.form.QuasiForm.{QuasiForm}
+use Rattle.sx_quasi_code.specs.declared.form.QuasiForm.TheVariants as quasi_forms
 use Rattle.sx_quasi_code.specs.declared.parts.Part.{Part}
+use Rattle.sx_shapes.specs.At.{place_of}
+use Rattle.sx_shapes.specs.Forms.{shape}
 use Rattle.sx_shapes.specs.Lists.{is_leaf}
+use Rattle.sx_shapes.specs.declared.shape.Shape.TheVariants as shapes
 use Rattle.sx_shapes.specs.declared.shape.BindingSpec.{BindingSpec}
 use Rattle.sx_shapes.specs.declared.shape.FormalIds.{FormalIds}
 use Rattle.sx_shapes.specs.declared.shape.LambdaCase.{LambdaCase}
 use Rattle.sx_shapes.specs.declared.shape.PatternCase.{PatternCase}
-use Rattle.sx_standing.specs.Patterns.{check_literals}
+use Rattle.sx_standing.specs.Patterns.{check_literals, template_of}
 use Rattle.sx_standing.specs.State.{State, fresh, fault_form}
 use Rattle.sx_heads.specs.Depth.{deeper}
+use Rattle.sx_heads.specs.Items.{define_keyword}
+use Rattle.sx_heads.specs.declared.item.Item.{Item}
+use Rattle.sx_heads.specs.declared.item.Item.TheVariants as of_items
 use Rattle.sx_heads.specs.declared.plan.Plan.{Plan}
 use Rattle.sx_heads.specs.declared.plan.Plan.TheVariants as plans
+use Rattle.sx_heads.specs.declared.taken.BodyAt.{BodyAt}
+use Rattle.sx_heads.specs.declared.taken.Taken.{Taken}
 use Rattle.sx_hygiene_laws.specs.Marked.{Among}
 use Rattle.sx_value.specs.Cells.{Each}
-use Rattle.sx_expand.specs.Body.{sequence_of}
+use Rattle.sx_expand.specs.Body as expand_body
+use Rattle.sx_expand.specs.Body.{splice, perform_item, item, sequence_of}
 use Rattle.sx_expand.specs.Expression.{in_order, lambda_case, lambda, all_cases, case_lambda, application, alternate, conditional, set, in_sequence, all_clauses, syntax_case, keywords_form, perform, perform_settled, form_at, inside}
 use Rattle.sx_expand.specs.Inside.{Inside}
-use Rattle.sx_expand.specs.Keywords.{with_keywords}
+use Rattle.sx_expand.specs.Keywords.{keyword, with_keywords, define_syntax}
 use Rattle.sx_expand.specs.Quasi.{part_core, parts_in_order, quasi_made, quasi_form}
-use Rattle.sx_expand.specs.Settle.{settle}
+use Rattle.sx_expand.specs.Settle.{settle, settle_item}
 use Rattle.sx_expand.specs.declared.settle.Settled.{Settled}
 use Rattle.sx_expand_laws.specs.States.{Later}
-use Rattle.sx_expand_laws.proofs.Acts.{Gave, gave-any, gave-both, gave-after, gave-less, gave-if, each-nil, each-cons}
+use Rattle.sx_expand_laws.proofs.Acts.{Gave, gave-any, gave-both, gave-after, gave-less, gave-if, told, each-nil, each-cons}
 use Rattle.sx_expand_laws.proofs.Later.{later-then}
-use Rattle.sx_expand_laws.proofs.QuasiLater.{moved-code}
+use Rattle.sx_expand_laws.proofs.QuasiLater.{form-same, moved-code}
+use Rattle.sx_expand_laws.proofs.SpentBinding.{Same, literals-same}
 use Rattle.sx_expand_laws.proofs.Uses.{literals-later}
 use Rattle.sx_fresh_laws.specs.Leaves.{OptionHolds, TreeHolds}
 use Rattle.sx_fresh_laws.proofs.Eachs.{each_mapped}
@@ -58,22 +71,29 @@ use Rattle.sx_fresh_expansion_laws.proofs.Plans as plan
 use Rattle.sx_fresh_expansion_laws.proofs.Settled as settled
 use Rattle.sx_fresh_expansion_laws.proofs.Shapes.{FormalsHold, LambdaHolds, PatternCaseHolds, ShapeHolds, shape-holds}
 use Rattle.sx_fresh_expansion_laws.proofs.Standing as standing
-use Rattle.sx_reference_laws.specs.Expands.{Reference, counted, Expands, settles, Performs, refers, is_done, calls, tests, chooses, assigns, follows, makes, makes_cases, matches_one, has_keywords, fills, Expand, Fill, no_part, part, Binds, Bind, Match}
-use Rattle.sx_reference_laws.proofs.Filling.{IsLow, code-said}
+use Rattle.sx_reference_laws.specs.Expands.{counted, Expands, settles, Performs, refers, is_done, is_template, Codes, calls, tests, chooses, assigns, follows, makes, makes_cases, matches_one, has_keywords, fills, Expand, Fill, no_part, part, Binds, Bind, Match}
+use Rattle.sx_reference_laws.specs.Expands.{Means, BindsKeywords, Takes, takes, Acts, is_taken, takes_forms, defines_keyword, takes_among, Take}
+use Rattle.sx_reference_laws.specs.Namings.{Naming, names_variable, namings, all_namings, case_namings, clause_namings}
+use Rattle.sx_reference_laws.specs.Noted.{Reference, Noted, only, of_references, both, named}
+use Rattle.sx_reference_laws.specs.Templates.{IsTemplate}
+use Rattle.sx_reference_laws.proofs.Coding.{QuasiTemplateHolds, template-kept, Coded, code-coded}
+use Rattle.sx_reference_laws.proofs.Filling.{IsLow}
 use Rattle.sx_reference_laws.proofs.Settling.{IsTarget, Plans, Settles, settle-so}
+use Rattle.sx_reference_laws.proofs.SettlingItems.{settled-item-holds}
 use Rattle.sx_reference_laws.proofs.Staying as staying
+use Rattle.sx_reference_laws.proofs.Telling.{Untold, told-self, told-same, settle-told, define-keyword-told, settle-item-told, code-told}
 use Rattle.sx_reference_laws.proofs.Walking as walking
 
 -- only leaves stand for something
-leaf-stands : (t : Tree) (s : State) (l : Label) → stands s.frames t ≡ Some l → is_leaf t ≡ true
+pub leaf-stands : (t : Tree) (s : State) (l : Label) → stands s.frames t ≡ Some l → is_leaf t ≡ true
 leaf-stands (atom r a) s l e = absurd (cc)
 leaf-stands (leaf r x c) s l e = refl
 leaf-stands (pair r a d) s l e = absurd (cc)
 leaf-stands (vector r d) s l e = absurd (cc)
 
-sequence-said : (cs : List PlainCore) → mentions (sequence_of cs) ≡ all_mentions (cores cs)
+sequence-said : (cs : List PlainCore) → namings (sequence_of cs) ≡ all_namings (cores cs)
 sequence-said [] = refl
-sequence-said (c ∷ []) = sym (append-nil (mentions c))
+sequence-said (c ∷ []) = sym (append-nil (namings c))
 sequence-said (c ∷ (d ∷ cs)) = refl
 
 module _ (libs : List LibName) (own : LibName) (core : Among libs library.Core) (new : IsNewAmong libs own) where
@@ -101,8 +121,8 @@ module _ (libs : List LibName) (own : LibName) (core : Among libs library.Core) 
   abbrev Went : State → State → Type 0
   Went s u = staying.Went libs own core new s u
 
-  abbrev Made : (List Reference → Type 0) → List Label → State → Type 0
-  Made R m u = staying.Made libs own core new R m u
+  abbrev Made : (Noted → Type 0) → List Naming → State → State → Type 0
+  Made R m s u = staying.Made libs own core new R m s u
 
   module _ (rs : List LibRecord) where
     abbrev FormMade : Span → ℕ → Tree → State → PlainCore → State → Type 0
@@ -116,7 +136,7 @@ module _ (libs : List LibName) (own : LibName) (core : Among libs library.Core) 
     target-kept place t l value s u g w k = record {
       leafy = leaf-stands k.1.0 s l k.1.1.1;
       known = known;
-      code = inl refl;
+      code = inl (inl refl);
       stood = k.1.1.1;
       before = w.from.stage.up;
       now = staying.stays libs own core new s.names.number s u (omega arith) w.later k.1.0 known ∙ k.1.1.1;
@@ -144,6 +164,14 @@ module _ (libs : List LibName) (own : LibName) (core : Among libs library.Core) 
       one-more : (s : State) → s.names.number ≤ (counted s).names.number
       one-more s = omega arith
 
+      -- the operand of a form
+      operand-known : (place : Span) (t operand : Tree) (s : State) → T s.names.number t → shape core_forms.Syntax t place ≡ Ok (shapes.Operand operand) → T s.names.number operand
+      operand-known place t operand s g e = subst (OkHolds (ShapeHolds (P s.names.number))) e (shape-holds (P s.names.number) core_forms.Syntax t place g)
+
+      -- the template of a quasi form
+      abbrev TemplateAt : ℕ → QuasiForm → Type 0
+      TemplateAt n q = QuasiTemplateHolds (P n) q
+
       abbrev Goes : {A : Type 0} → (A → State → Type 0) → State → A → State → Type 0
       Goes M s a u = Went s u × M a u
 
@@ -164,7 +192,7 @@ module _ (libs : List LibName) (own : LibName) (core : Among libs library.Core) 
             (λ c v w. gave-after (Goes (walking.FormsMade libs own core new rs place level operands v) v) (PlanMade place level t (plans.Call operator operands) s) (in_order go place level depth operands v) (λ cs. give (call c (cores cs)))
             (order-went place level depth operands v (goes s v h w.0) (standing.trees-up own K J P lives first s.names.number v.names.number w.0.from.stage.up operands g))
             (λ cs u z. staying.made-joined libs own core new (λ refs. Expands rs place level operator s c v refs) (λ refs. Expand rs place level operands v cs u refs) (λ refs. Performs rs place level t (plans.Call operator operands) s (call c (cores cs)) u refs)
-            (mentions c) (all_mentions (cores cs)) v u z.0.later w.1 z.1 (λ refs others i j. calls i j)))
+            (namings c) (all_namings (cores cs)) s v u z.0.later w.1 z.1 (λ refs others i j. calls i j)))
 
         conditional-made : (test consequent : Tree) (o : Option Tree) (s : State) → F s → T s.names.number test → T s.names.number consequent → OptionHolds (T s.names.number) o
             → Gave (PlanMade place level t (plans.Conditional test consequent o) s) (conditional go place level depth test consequent o s)
@@ -179,62 +207,63 @@ module _ (libs : List LibName) (own : LibName) (core : Among libs library.Core) 
                 → Gave (PlanMade place level t (plans.Conditional test consequent o) s) (alternate go place level depth c d o y)
             by None q c v w d y z =
                 staying.made-joined libs own core new (λ refs. Expands rs place level test s c v refs) (λ refs. Expands rs place level consequent v d y refs) (λ refs. Performs rs place level t (plans.Conditional test consequent None) s (one_armed c d) y refs)
-                (mentions c) (mentions d) v y z.0.later w.1 z.1 (λ refs others i j. tests i j)
+                (namings c) (namings d) s v y z.0.later w.1 z.1 (λ refs others i j. tests i j)
             by (Some other) q c v w d y z =
                 let up = w.0.from.stage.up in
                 let up-more = z.0.from.stage.up in
                 gave-after (Goes (FormMade place level other y) y) (PlanMade place level t (plans.Conditional test consequent (Some other)) s) (go.form place level depth other y) (λ e. give (two_armed c d e))
                 (form-went place level depth other y (goes v y (goes s v h w.0) z.0) (tree-up s.names.number y.names.number (omega (arith, up, up-more)) other q))
                 (λ e u x.
-                let Both : List Reference → Type 0 = λ refs. (early : List Reference) × ((late : List Reference) × ((refs ≡ early ++ late) × (Expands rs place level consequent v d y early × Expands rs place level other y e u late))) in
-                staying.made-so libs own core new (λ refs. Performs rs place level t (plans.Conditional test consequent (Some other)) s (two_armed c d e) u refs) (λ refs. Performs rs place level t (plans.Conditional test consequent (Some other)) s (two_armed c d e) u refs)
-                (mentions c ++ (mentions d ++ mentions e)) (mentions (two_armed c d e)) u
-                (staying.made-joined libs own core new (λ refs. Expands rs place level test s c v refs) Both (λ refs. Performs rs place level t (plans.Conditional test consequent (Some other)) s (two_armed c d e) u refs)
-                (mentions c) (mentions d ++ mentions e) v u (staying.went-then libs own core new first v y u z.0 x.0).later w.1
-                (staying.made-joined libs own core new (λ refs. Expands rs place level consequent v d y refs) (λ refs. Expands rs place level other y e u refs) Both (mentions d) (mentions e) y u x.0.later z.1 x.1 (λ refs others i j. (refs, (others, (refl, (i, j))))))
-                (λ refs others i j. subst (λ (ls : List Reference). Performs rs place level t (plans.Conditional test consequent (Some other)) s (two_armed c d e) u (refs ++ ls)) (sym j.1.1.0) (chooses i j.1.1.1.0 j.1.1.1.1)))
-                (λ refs i. i) refl)
+                let Two : Noted → Type 0 = λ refs. (early : Noted) × ((late : Noted) × ((refs ≡ both early late) × (Expands rs place level consequent v d y early × Expands rs place level other y e u late))) in
+                let All : Noted → Type 0 = λ refs. Performs rs place level t (plans.Conditional test consequent (Some other)) s (two_armed c d e) u refs in
+                staying.made-joined libs own core new (λ refs. Expands rs place level test s c v refs) Two All (namings c) (namings d ++ namings e) s v u (staying.went-then libs own core new first v y u z.0 x.0).later w.1
+                (staying.made-joined libs own core new (λ refs. Expands rs place level consequent v d y refs) (λ refs. Expands rs place level other y e u refs) Two (namings d) (namings e) v y u x.0.later z.1 x.1 (λ refs others i j. (refs, (others, (refl, (i, j))))))
+                (λ refs others i j. subst (λ (ls : Noted). All (both refs ls)) (sym j.1.1.0) (chooses i j.1.1.1.0 j.1.1.1.1)))
 
         set-made : (l : Label) (value : Tree) (s : State) → F s → T s.names.number t → T s.names.number value → IsTarget place t l value s → Gave (PlanMade place level t (plans.Assignment l value) s) (set go place level depth l value s)
         unfolding set
         set-made l value s h g k q =
             gave-after (Goes (FormMade place level value s) s) (PlanMade place level t (plans.Assignment l value) s) (go.form place level depth value s) (λ c. give (assignment l c)) (form-went place level depth value s h k)
-            (λ c u z. record {
-              refs = record { leaf = q.1.0; state = s; label = l; code = variable l } ∷ z.1.refs;
+            (λ c u z.
+            let r : Reference = record { leaf = q.1.0; state = s; label = l; code = variable l } in
+            record {
+              noted = both (only r) z.1.noted;
               is = assigns q.0 q.1.1.0 q.1.1.1 z.1.is;
-              all = ap (λ ls. l ∷ ls) z.1.all;
+              all = ap (λ ns. names_variable l ∷ ns) z.1.all;
               kept = (target-kept place t l value s u g z.0 q, z.1.kept);
+              expressions = z.1.expressions;
+              told = z.1.told;
             })
 
         abbrev SequenceMade : List Tree → State → PlainCore → State → Type 0
-        SequenceMade ts s c u = (cs : List PlainCore) × ((c ≡ sequence_of cs) × Made (λ refs. Expand rs place level ts s cs u refs) (mentions c) u)
+        SequenceMade ts s c u = (cs : List PlainCore) × ((c ≡ sequence_of cs) × Made (λ refs. Expand rs place level ts s cs u refs) (namings c) s u)
 
         sequence-made : (ts : List Tree) (s : State) → F s → Ts s.names.number ts → Gave (SequenceMade ts s) (in_sequence go place level depth ts s)
         unfolding in_sequence
         sequence-made ts s h k =
             gave-after (Goes (walking.FormsMade libs own core new rs place level ts s) s) (SequenceMade ts s) (in_order go place level depth ts s) (λ cs. give (sequence_of cs)) (order-went place level depth ts s h k)
-            (λ cs u z. (cs, (refl, staying.made-so libs own core new (λ refs. Expand rs place level ts s cs u refs) (λ refs. Expand rs place level ts s cs u refs) (all_mentions (cores cs)) (mentions (sequence_of cs)) u z.1 (λ refs i. i) (sequence-said cs))))
+            (λ cs u z. (cs, (refl, staying.made-so libs own core new (λ refs. Expand rs place level ts s cs u refs) (λ refs. Expand rs place level ts s cs u refs) (all_namings (cores cs)) (namings (sequence_of cs)) s u z.1 (λ refs i. i) (sequence-said cs))))
 
         in-sequence-made : (ts : List Tree) (s : State) → F s → Ts s.names.number ts → Gave (PlanMade place level t (plans.Sequence ts) s) (in_sequence go place level depth ts s)
         in-sequence-made ts s h k =
             gave-less (SequenceMade ts s) (PlanMade place level t (plans.Sequence ts) s) (in_sequence go place level depth ts s) (sequence-made ts s h k)
             (λ c u z. subst (λ (x : PlainCore). PlanMade place level t (plans.Sequence ts) s x u) (sym z.1.0)
-            (staying.made-so libs own core new (λ refs. Expand rs place level ts s z.0 u refs) (λ refs. Performs rs place level t (plans.Sequence ts) s (sequence_of z.0) u refs) (mentions c) (mentions (sequence_of z.0)) u z.1.1 (λ refs i. follows i) (ap mentions (sym z.1.0))))
+            (staying.made-so libs own core new (λ refs. Expand rs place level ts s z.0 u refs) (λ refs. Performs rs place level t (plans.Sequence ts) s (sequence_of z.0) u refs) (namings c) (namings (sequence_of z.0)) s u z.1.1 (λ refs i. follows i) (ap namings (sym z.1.0))))
 
         lambda-made : (ids : FormalIds) (fs : List Tree) (s : State) → F s → FormalsHold (P s.names.number) ids → Ts s.names.number fs → Gave (PlanMade place level t (plans.Lambda ids fs) s) (lambda go place level depth t ids fs s)
         unfolding lambda fresh
         lambda-made ids fs s h k g =
             gave-after (walking.CaseMade libs own core new rs place level t ids fs (counted s)) (PlanMade place level t (plans.Lambda ids fs) s) (lambda_case go place level depth t ids fs (counted s)) _
             (walking.case-made libs own core new rs first held room traced place level depth t ids fs (counted s) (counted-at s h) (items.formals-up own K J P lives first s.names.number (s.names.number + 1) (one-more s) ids k) (standing.trees-up own K J P lives first s.names.number (s.names.number + 1) (one-more s) fs g))
-            (λ c u z. staying.made-so libs own core new (λ refs. Binds rs place level t ids fs (counted s) c u refs) (λ refs. Performs rs place level t (plans.Lambda ids fs) s (procedure (record { 0 = s.names }) (cases (c ∷ [])) true) u refs) (mentions c.body) (mentions c.body ++ []) u z (λ refs i. makes i) (append-nil (mentions c.body)))
+            (λ c u z. staying.made-from libs own core new (λ refs. Binds rs place level t ids fs (counted s) c u refs) (λ refs. Performs rs place level t (plans.Lambda ids fs) s (procedure (record { 0 = s.names }) (cases (c ∷ [])) true) u refs) (namings c.body) (namings c.body ++ []) s (counted s) u (told-self s) z (λ refs i. makes i) (append-nil (namings c.body)))
 
         case-lambda-made : (xs : List LambdaCase) (s : State) → F s → Each (LambdaHolds (P s.names.number)) xs → Gave (PlanMade place level t (plans.CaseLambda xs) s) (case_lambda go place level depth t xs s)
         unfolding case_lambda fresh
         case-lambda-made xs s h k =
-            gave-after (λ cs u. Went (counted s) u × Made (Bind rs place level t xs (counted s) cs u) (case_mentions (cases cs)) u) (PlanMade place level t (plans.CaseLambda xs) s) (all_cases go place level depth t xs (counted s)) _
+            gave-after (λ cs u. Went (counted s) u × Made (Bind rs place level t xs (counted s) cs u) (case_namings (cases cs)) (counted s) u) (PlanMade place level t (plans.CaseLambda xs) s) (all_cases go place level depth t xs (counted s)) _
             (walking.cases-went libs own core new rs first held room traced place level depth t xs (counted s) (counted-at s h)
             (each_mapped (LambdaHolds (P s.names.number)) (LambdaHolds (P (s.names.number + 1))) (walking.lambda-case-up libs own core new rs first held room traced s.names.number (s.names.number + 1) (one-more s)) xs k))
-            (λ cs u z. staying.made-so libs own core new (λ refs. Bind rs place level t xs (counted s) cs u refs) (λ refs. Performs rs place level t (plans.CaseLambda xs) s (procedure (record { 0 = s.names }) (cases cs) false) u refs) (case_mentions (cases cs)) (case_mentions (cases cs)) u z.1 (λ refs i. makes_cases i) refl)
+            (λ cs u z. staying.made-from libs own core new (λ refs. Bind rs place level t xs (counted s) cs u refs) (λ refs. Performs rs place level t (plans.CaseLambda xs) s (procedure (record { 0 = s.names }) (cases cs) false) u refs) (case_namings (cases cs)) (case_namings (cases cs)) s (counted s) u (told-self s) z.1 (λ refs i. makes_cases i) refl)
 
         matching-made : (subject : Tree) (literals : List Tree) (xs : List PatternCase) (span : Span) (s : State) → F s → T s.names.number subject → Each (PatternCaseHolds (P s.names.number)) xs
             → Gave (PlanMade place level t (plans.Matching subject literals xs span) s) (syntax_case go place level depth subject literals xs span s)
@@ -249,26 +278,37 @@ module _ (libs : List LibName) (own : LibName) (core : Among libs library.Core) 
             (staying.gave-from libs own core new first (λ n e. Unit {0}) v (check_literals place literals v) (standing.literals-hold own K J P lives first literals place v hv)))
             (λ e y q.
             let up-more = q.1.0.0.stage.up in
-            gave-after (λ cs u. Went y u × Made (Match rs place level literals xs y cs u) (clause_mentions (clauses cs)) u) (PlanMade place level t (plans.Matching subject literals xs span) s) (all_clauses go place level depth literals xs y) (λ cs. give (matching c (clauses cs) span))
+            gave-after (λ cs u. Went y u × Made (Match rs place level literals xs y cs u) (clause_namings (clauses cs)) y u) (PlanMade place level t (plans.Matching subject literals xs span) s) (all_clauses go place level depth literals xs y) (λ cs. give (matching c (clauses cs) span))
             (walking.clauses-went libs own core new rs first held room traced place level depth literals xs y (from-to v y hv q.1.0.0)
             (each_mapped (PatternCaseHolds (P s.names.number)) (PatternCaseHolds (P y.names.number)) (forms.pattern-case-up own K J P lives first go (walking.keeps libs own core new rs first held room) s.names.number y.names.number (omega (arith, up, up-more))) xs g))
-            (λ cs u z. staying.made-joined libs own core new (λ refs. Expands rs place level subject s c v refs) (λ refs. Match rs place level literals xs y cs u refs) (λ refs. Performs rs place level t (plans.Matching subject literals xs span) s (matching c (clauses cs) span) u refs)
-            (mentions c) (clause_mentions (clauses cs)) v u (later-then own v y u q.0 z.0.later) w.1 z.1 (λ refs others i j. matches_one i q.1.1 j))))
+            (λ cs u z.
+            let Rest : Noted → Type 0 = λ refs. Match rs place level literals xs y cs u refs in
+            staying.made-joined libs own core new (λ refs. Expands rs place level subject s c v refs) Rest (λ refs. Performs rs place level t (plans.Matching subject literals xs span) s (matching c (clauses cs) span) u refs)
+            (namings c) (clause_namings (clauses cs)) s v u (later-then own v y u q.0 z.0.later) w.1
+            (staying.made-from libs own core new Rest Rest (clause_namings (clauses cs)) (clause_namings (clauses cs)) v y u (told-same v y (told (Same v) (check_literals place literals v) e y (literals-same literals place v) q.1.1)) z.1 (λ refs i. i) refl)
+            (λ refs others i j. matches_one i q.1.1 j))))
 
         keywords-made : (recursive : Bool) (bs : List BindingSpec) (fs : List Tree) (s : State) → F s → Each (standing.SpecAt own K J P lives first s.names.number) bs → Ts s.names.number fs
             → Gave (PlanMade place level t (plans.Keywords recursive bs fs) s) (keywords_form go place level depth recursive bs fs s)
         unfolding keywords_form
         keywords-made recursive bs fs s h k g =
             let bound = with_keywords go place level depth recursive bs fs s in
-            gave-after (λ xs v. (StateHolds own K P s.names.number v × Ts v.names.number xs) × (bound ≡ Ok (xs, v))) (PlanMade place level t (plans.Keywords recursive bs fs) s) bound (in_sequence go place level depth)
-            (staying.gave-from libs own core new first Ts s bound (forms.with-keywords-holds own K J P lives first go (walking.keeps libs own core new rs first held room) place level depth recursive bs fs s h k g))
+            let Keywords : List Tree → State → Type 0 = λ xs v. staying.Bound libs own core new (λ es. BindsKeywords rs place level recursive bs fs s xs v es) s v in
+            gave-after (λ xs v. (StateHolds own K P s.names.number v × Ts v.names.number xs) × Keywords xs v) (PlanMade place level t (plans.Keywords recursive bs fs) s) bound (in_sequence go place level depth)
+            (staying.gave-and libs own core new first Ts Keywords s bound (forms.with-keywords-holds own K J P lives first go (walking.keeps libs own core new rs first held room) place level depth recursive bs fs s h k g)
+            (walking.keywords-made libs own core new rs first held room traced place level depth recursive bs fs s h k))
             (λ xs v z. gave-less (SequenceMade xs v) (PlanMade place level t (plans.Keywords recursive bs fs) s) (in_sequence go place level depth xs v) (sequence-made xs v (from-to s v h z.0.0) z.0.1)
             (λ c u y. subst (λ (x : PlainCore). PlanMade place level t (plans.Keywords recursive bs fs) s x u) (sym y.1.0)
-            (staying.made-so libs own core new (λ refs. Expand rs place level xs v y.0 u refs) (λ refs. Performs rs place level t (plans.Keywords recursive bs fs) s (sequence_of y.0) u refs) (mentions c) (mentions (sequence_of y.0)) u y.1.1 (λ refs i. has_keywords room depth z.1 i) (ap mentions (sym y.1.0)))))
+            (staying.bound-made libs own core new (λ es. BindsKeywords rs place level recursive bs fs s xs v es) (λ refs. Expand rs place level xs v y.0 u refs) (λ refs. Performs rs place level t (plans.Keywords recursive bs fs) s (sequence_of y.0) u refs) (namings c) (namings (sequence_of y.0)) s v u z.1 y.1.1
+            (λ es refs i j. has_keywords i j) (ap namings (sym y.1.0)))))
 
         -- Quasi forms.
 
-        abbrev PartMade : Part → State → PlainCore → State → List Reference → Type 0
+        form-up : (m n : ℕ) → m ≤ n → (q : QuasiForm) → inserts.FormAt own K J P lives first m q → TemplateAt n q
+        form-up m n le (quasi_forms.Quote q) h = tt
+        form-up m n le (quasi_forms.Syntax q) h = tree-up m n le q.template h.0
+
+        abbrev PartMade : Part → State → PlainCore → State → Noted → Type 0
         PartMade p s c u refs = Expands rs place level p.form s c u refs
 
         form-low : (room : ℕ) (d : ℕ) (x : Tree) (s : State) → Gave (λ c u. nat_lt 600 d ≡ false) ((inside rs room).form place level d x s)
@@ -298,28 +338,54 @@ module _ (libs : List LibName) (own : LibName) (core : Among libs library.Core) 
             (λ q v z.
             let hv = from-to s v h z.0.0 in
             let ps = parts_of t depth q in
-            gave-after (λ cs w. (Went v w × Made (λ refs. Fill rs place level ps v cs w refs) (all_mentions (cores cs)) w) × AreLow ps cs w) So (parts_in_order go place level ps v) (code_of place level t q)
-            (gave-both (λ cs w. Went v w × Made (λ refs. Fill rs place level ps v cs w refs) (all_mentions (cores cs)) w) (AreLow ps) (parts_in_order go place level ps v)
-            (walking.each-went libs own core new rs first held room traced (part_core go place level) (λ n p. T n p.form) (λ m n le p x. tree-up m n le p.form x) PartMade (λ ps s cs u refs. Fill rs place level ps s cs u refs) mentions (λ cs. all_mentions (cores cs))
+            gave-after (λ cs w. (Went v w × Made (λ refs. Fill rs place level ps v cs w refs) (all_namings (cores cs)) v w) × AreLow ps cs w) So (parts_in_order go place level ps v) (code_of place level t q)
+            (gave-both (λ cs w. Went v w × Made (λ refs. Fill rs place level ps v cs w refs) (all_namings (cores cs)) v w) (AreLow ps) (parts_in_order go place level ps v)
+            (walking.each-went libs own core new rs first held room traced (part_core go place level) (λ n p. T n p.form) (λ m n le p x. tree-up m n le p.form x) PartMade (λ ps s cs u refs. Fill rs place level ps s cs u refs) namings (λ cs. all_namings (cores cs))
             (λ s. no_part) (λ p ps s v u c cs refs others i j. part i j) refl (λ c cs. refl) (λ p s h k. form-went place level p.depth p.form s h k) ps v hv
             (inserts.parts-of-hold own K J P lives first v.names.number t depth q (tree-up s.names.number v.names.number z.0.0.stage.up t k) z.0.1))
             (parts-low ps v))
             (λ cs w y.
             let code = code_of place level t q cs w in
-            gave-less (λ c u. Later own w u × ((mentions c ≡ all_mentions (cores cs)) × (code ≡ Ok (c, u)))) So code
-            (gave-both (λ c u. Later own w u) (λ c u. (mentions c ≡ all_mentions (cores cs)) × (code ≡ Ok (c, u))) code (moved-code own place level t q cs w (goes v w hv y.0.0).stage.library) (gave-both (λ c u. mentions c ≡ all_mentions (cores cs)) (λ c u. code ≡ Ok (c, u)) code (code-said place level t depth q cs w y.1.0 y.1.1) (staying.gave-is code)))
-            (λ c u x. staying.made-so libs own core new (λ refs. Fill rs place level ps v cs w refs) (λ refs. Performs rs place level t (plans.Quasi which template) s c u refs) (all_mentions (cores cs)) (mentions c) u
-            (staying.made-later libs own core new (λ refs. Fill rs place level ps v cs w refs) (all_mentions (cores cs)) w u x.0 y.0.1) (λ refs i. fills depth z.1 i x.1.1) x.1.0)))
+            gave-less (λ c u. Later own w u × (Coded libs own core new place level t q cs w c u × Untold w c u)) So code
+            (gave-both (λ c u. Later own w u) (λ c u. Coded libs own core new place level t q cs w c u × Untold w c u) code (moved-code own place level t q cs w (goes v w hv y.0.0).stage.library)
+            (gave-both (Coded libs own core new place level t q cs w) (Untold w) code
+            (code-coded libs own core new place level t first depth q cs w (goes v w hv y.0.0) (form-up v.names.number w.names.number y.0.0.from.stage.up q z.0.1) y.1.0 y.1.1) (code-told place level t q cs w)))
+            (λ c u x.
+            let Filled : Noted → Type 0 = λ refs. Fill rs place level ps v cs w refs in
+            let Coding : Noted → Type 0 = λ refs. Codes place level t q cs w c u refs in
+            let All : Noted → Type 0 = λ refs. Performs rs place level t (plans.Quasi which template) s c u refs in
+            let refs = x.1.0.references in
+            let m = all_namings (cores cs) ++ named refs in
+            let formed = told-same s v (ap (λ (y : State). y.keywords) (told (λ q v. v ≡ s) made q v (form-same place t which template s) z.1)) in
+            let coded : Made Coding (named refs) w u = record { noted = of_references refs; is = x.1.0.is; all = refl; kept = x.1.0.kept; expressions = tt; told = λ l d e. inl (x.1.1 l d e) } in
+            staying.made-from libs own core new All All m (namings c) s v u formed
+            (staying.made-joined libs own core new Filled Coding All (all_namings (cores cs)) (named refs) v w u x.0 y.0.1 coded (λ others more i j. fills depth z.1 i j)) (λ refs i. i) x.1.0.all)))
 
-      perform-made : (place : Span) (level depth : ℕ) (t : Tree) (p : Plan) (s : State) → F s → T s.names.number t → plan.PlanAt own K J P lives first s.names.number p → Plans place t p s → Gave (PlanMade place level t p s) (perform go place level depth t p s)
+      -- the template of a `syntax` form
+      syntax-made : (place : Span) (level : ℕ) (t operand : Tree) (x : PlainTemplate) (refs : List Reference) (s : State) → T s.names.number t → shape core_forms.Syntax t place ≡ Ok (shapes.Operand operand)
+          → template_of place level operand s ≡ Ok (x, s) → IsTemplate s level operand x refs → PlanMade place level t (plans.Done (instance x (place_of t place))) s (instance x (place_of t place)) s
+      syntax-made place level t operand x refs s g shaped made is = record {
+        noted = of_references refs;
+        is = is_template shaped made is;
+        all = is.all;
+        kept = template-kept libs own core new s s level operand x refs (operand-known place t operand s g shaped) (omega arith) refl is;
+        expressions = tt;
+        told = λ l d e. inl e;
+      }
+
+      perform-made : (place : Span) (level depth : ℕ) (t : Tree) (p : Plan) (s : State) → F s → T s.names.number t → plan.PlanAt own K J P lives first s.names.number p → Plans level place t p s → Gave (PlanMade place level t p s) (perform go place level depth t p s)
       unfolding perform
       perform-made place level depth t (plans.Done c) s h g k (inl q) = record {
-        refs = record { leaf = t; state = s; label = q.0; code = c } ∷ [];
+        noted = only (record { leaf = t; state = s; label = q.0; code = c });
         is = refers q.1.0 q.1.1.0 q.1.1.1;
-        all = sym (append-nil (mentions c));
-        kept = (record { leafy = q.1.0; known = g; code = q.1.1.1; stood = q.1.1.0; before = omega arith; now = q.1.1.0 }, tt);
+        all = sym (append-nil (namings c));
+        kept = (record { leafy = q.1.0; known = g; code = inl q.1.1.1; stood = q.1.1.0; before = omega arith; now = q.1.1.0 }, tt);
+        expressions = tt;
+        told = λ l d e. inl e;
       }
-      perform-made place level depth t (plans.Done c) s h g k (inr q) = record { refs = []; is = is_done q.0 q.1; all = q.1; kept = tt }
+      perform-made place level depth t (plans.Done c) s h g k (inr (inr q)) =
+          subst (λ (d : PlainCore). PlanMade place level t (plans.Done d) s d s) (sym q.code) (syntax-made place level t q.operand q.template q.references s g q.shaped q.made q.is)
+      perform-made place level depth t (plans.Done c) s h g k (inr (inl q)) = staying.made-none libs own core new (λ refs. Performs rs place level t (plans.Done c) s c s refs) (namings c) s s (is_done q.0 q.1) q.1 (told-self s)
       perform-made place level depth t (plans.Call operator operands) s h g k q = application-made place level (deeper depth) t operator operands s h k.0 k.1
       perform-made place level depth t (plans.Conditional test consequent other) s h g k q = conditional-made place level (deeper depth) t test consequent other s h k.0 k.1.0 k.1.1
       perform-made place level depth t (plans.Assignment l value) s h g k q = set-made place level (deeper depth) t l value s h g k q
@@ -344,20 +410,74 @@ module _ (libs : List LibName) (own : LibName) (core : Among libs library.Core) 
           (gave-after (SettledSo place level t s) (FormMade place level t s) (settle rs place level t s) (perform_settled go level depth)
           (gave-both (λ d v. (StateHolds own K P s.names.number v × settled.SettledAt own K J P lives first rs held v.names.number d) × (settle rs place level t s ≡ Ok (d, v))) (Settles rs level) (settle rs place level t s) (staying.gave-from libs own core new first (settled.SettledAt own K J P lives first rs held) s (settle rs place level t s) (settled.settle-to-holds own K J P lives first rs held s.uses_left place level t s h g)) (settle-so rs level place t s))
           (λ d v z. gave-less (PlanMade d.place level d.form d.plan v) (FormMade place level t s) (perform go d.place level depth d.form d.plan v) (perform-made d.place level depth d.form d.plan v (from-to s v h z.0.0.0) z.0.0.1.0 z.0.0.1.1 z.1)
-          (λ c u y. staying.made-so libs own core new (λ refs. Performs rs d.place level d.form d.plan v c u refs) (λ refs. Expands rs place level t s c u refs) (mentions c) (mentions c) u y (λ refs i. settles z.0.1 i) refl))))
+          (λ c u y. staying.made-from libs own core new (λ refs. Performs rs d.place level d.form d.plan v c u refs) (λ refs. Expands rs place level t s c u refs) (namings c) (namings c) s v u (told (Untold s) (settle rs place level t s) d v (settle-told rs level place t s) z.0.1) y (λ refs i. settles z.0.1 i) refl))))
 
-    earlier-same : (room : ℕ) → (inside rs room).earlier ≡ rs
-    unfolding inside
-    earlier-same zero = refl
-    earlier-same (suc room) = refl
+      -- Forms of a body.
+
+      abbrev TakenAt : ℕ → Taken → Type 0
+      TakenAt n d = items.TakenAt own K J P lives first n d
+
+      abbrev ActsMade : BodyAt → ℕ → Taken → Tree → Item → State → Taken → State → Type 0
+      ActsMade at depth d t i s e u = staying.Bound libs own core new (λ es. Acts rs at depth d t i s e u es) s u
+
+      keyword-item-made : (at : BodyAt) (depth : ℕ) (d : Taken) (t : Tree) (b : BindingSpec) (s : State) → F s → standing.SpecAt own K J P lives first s.names.number b
+          → Gave (ActsMade at depth d t (of_items.Keyword b) s) (after (define_syntax go at (deeper depth) d t b s) (λ _. give d))
+      unfolding define_syntax
+      keyword-item-made at depth d t b s h k =
+          let made = define_keyword at d t b s in
+          let So : Taken → State → Type 0 = ActsMade at depth d t (of_items.Keyword b) s in
+          gave-after (λ x u. ActsMade at depth d t (of_items.Keyword b) s d u) So (after made (keyword go at.place at.level (deeper depth))) (λ _. give d)
+          (gave-after (λ x v. ((StateHolds own K P s.names.number v × standing.BoundHolds own K J P lives first v.names.number x) × (made ≡ Ok (x, v))) × Untold s x v) (λ x u. ActsMade at depth d t (of_items.Keyword b) s d u) made (keyword go at.place at.level (deeper depth))
+          (gave-both (λ x v. (StateHolds own K P s.names.number v × standing.BoundHolds own K J P lives first v.names.number x) × (made ≡ Ok (x, v))) (Untold s) made
+          (staying.gave-from libs own core new first (standing.BoundHolds own K J P lives first) s made (items.define-keyword-holds own K J P lives first at (deeper depth) d t b s h k)) (define-keyword-told at (deeper depth) d t b s))
+          (λ x v z. gave-less (λ y u. staying.Bound libs own core new (λ es. Means rs at.place at.level x v u es) v u) (λ y u. ActsMade at depth d t (of_items.Keyword b) s d u) (keyword go at.place at.level (deeper depth) x v)
+          (walking.means-made libs own core new rs first held room traced at.place at.level (deeper depth) x v (from-to s v h z.0.0.0) z.0.0.1)
+          (λ y u x. staying.bound-from libs own core new (λ es. Means rs at.place at.level _ v u es) (λ es. Acts rs at depth d t (of_items.Keyword b) s d u es) s v u z.1 x (λ es i. defines_keyword z.0.1 i))))
+          (λ x u y. y)
+
+      acts-made : (at : BodyAt) (depth : ℕ) (d : Taken) (t : Tree) (i : Item) (s : State) → F s → TakenAt s.names.number d → T s.names.number t → items.ItemAt own K J P lives first s.names.number i → J s.names.number at.frame
+          → Gave (ActsMade at depth d t i s) (perform_item go at depth d t i s)
+      unfolding perform_item
+      acts-made at depth d t of_items.Nothing s h k g y q = staying.bound-none libs own core new (λ es. Acts rs at depth d t of_items.Nothing s d s es) s s is_taken (told-self s)
+      acts-made at depth d t (of_items.Forms fs) s h k g y q =
+          gave-less (walking.TakeMade libs own core new rs at (deeper depth) d fs s) (ActsMade at depth d t (of_items.Forms fs) s) (splice go at (deeper depth) d fs s)
+          (walking.take-made libs own core new rs first held room traced at (deeper depth) d fs s h k y q)
+          (λ e u x. staying.bound-from libs own core new (λ es. Take rs at (deeper depth) d fs s e u es) (λ es. Acts rs at depth d t (of_items.Forms fs) s e u es) s s u (told-self s) x (λ es i. takes_forms i))
+      acts-made at depth d t (of_items.Keyword b) s h k g y q = keyword-item-made at depth d t b s h y
+      acts-made at depth d t (of_items.Keywords recursive bs fs) s h k g y q =
+          let bound = with_keywords go at.place at.level (deeper depth) recursive bs fs s in
+          let Keywords : List Tree → State → Type 0 = λ xs v. staying.Bound libs own core new (λ es. BindsKeywords rs at.place at.level recursive bs fs s xs v es) s v in
+          gave-after (λ xs v. (StateHolds own K P s.names.number v × Ts v.names.number xs) × Keywords xs v) (ActsMade at depth d t (of_items.Keywords recursive bs fs) s) bound (splice go at (deeper depth) d)
+          (staying.gave-and libs own core new first Ts Keywords s bound (forms.with-keywords-holds own K J P lives first go (walking.keeps libs own core new rs first held room) at.place at.level (deeper depth) recursive bs fs s h y.0 y.1)
+          (walking.keywords-made libs own core new rs first held room traced at.place at.level (deeper depth) recursive bs fs s h y.0))
+          (λ xs v z. gave-less (walking.TakeMade libs own core new rs at (deeper depth) d xs v) (ActsMade at depth d t (of_items.Keywords recursive bs fs) s) (splice go at (deeper depth) d xs v)
+          (walking.take-made libs own core new rs first held room traced at (deeper depth) d xs v (from-to s v h z.0.0) (items.taken-up own K J P lives first s.names.number v.names.number z.0.0.stage.up d k) z.0.1 (lives.frames s.names.number v.names.number at.frame z.0.0.stage.up q))
+          (λ e u x. staying.bound-joined libs own core new (λ es. BindsKeywords rs at.place at.level recursive bs fs s xs v es) (λ es. Take rs at (deeper depth) d xs v e u es) (λ es. Acts rs at depth d t (of_items.Keywords recursive bs fs) s e u es) s v u z.1 x (λ es others i j. takes_among i j)))
+      acts-made at depth d t (of_items.Use k) s h g y q r = tt
+      acts-made at depth d t (of_items.SetUse l) s h g y q r = tt
+
+      item-made : (at : BodyAt) (depth : ℕ) (d : Taken) (t : Tree) (s : State) → F s → TakenAt s.names.number d → T s.names.number t → J s.names.number at.frame → Gave (walking.TakesMade libs own core new rs at depth d t s) (item go at depth d t s)
+      unfolding item
+      item-made at depth d t s h k g q =
+          let So : Taken → State → Type 0 = walking.TakesMade libs own core new rs at depth d t s in
+          gave-if So (nat_lt 600 depth) _ (after (settle_item go.earlier at depth d t s) (expand_body.perform_settled go depth)) (λ e. tt)
+          (λ e. subst (λ (es : List LibRecord). Gave So (after (settle_item es at depth d t s) (expand_body.perform_settled go depth))) (sym (staying.earlier-same rs room))
+          (gave-after (λ p v. ((StateHolds own K P s.names.number v × settled.SettledItemAt own K J P lives first rs held v.names.number p) × (settle_item rs at depth d t s ≡ Ok (p, v))) × Untold s p v) So (settle_item rs at depth d t s) (expand_body.perform_settled go depth)
+          (gave-both (λ p v. (StateHolds own K P s.names.number v × settled.SettledItemAt own K J P lives first rs held v.names.number p) × (settle_item rs at depth d t s ≡ Ok (p, v))) (Untold s) (settle_item rs at depth d t s)
+          (staying.gave-from libs own core new first (settled.SettledItemAt own K J P lives first rs held) s (settle_item rs at depth d t s) (settled-item-holds own K J P lives first rs held at depth d t s h k g q))
+          (settle-item-told rs depth at d t s))
+          (λ p v z. gave-less (ActsMade p.1.at depth p.0 p.1.form p.1.item v) So (perform_item go p.1.at depth p.0 p.1.form p.1.item v)
+          (acts-made p.1.at depth p.0 p.1.form p.1.item v (from-to s v h z.0.0.0) z.0.0.1.0 z.0.0.1.1.0 z.0.0.1.1.1.0 z.0.0.1.1.1.1)
+          (λ e u y. staying.bound-from libs own core new (λ es. Acts rs p.1.at depth p.0 p.1.form p.1.item v e u es) (λ es. Takes rs at depth d t s e u es) s v u z.1 y (λ es i. takes z.0.1 i)))))
 
     -- so it is however deep forms nest
     pub all-traced : (first : ℕ) (held : RecordsHold (P first) rs) (room : ℕ) → walking.Traced libs own core new rs first held room
     unfolding inside form_at
-    all-traced first held zero = record { form = λ place level depth t s h k. tt; procedure = λ place level depth t ids fs s h k g. tt }
+    all-traced first held zero = record { form = λ place level depth t s h k. tt; procedure = λ place level depth t ids fs s h k g. tt; item = λ at depth d t s h k g q. tt }
     all-traced first held (suc room) =
         let inner = all-traced first held room in
         record {
-          form = λ place level depth t s h g. form-made first held room inner place level depth t s h g (inside rs room).earlier (earlier-same room);
+          form = λ place level depth t s h g. form-made first held room inner place level depth t s h g (inside rs room).earlier (staying.earlier-same rs room);
           procedure = λ place level depth t ids fs s h k g. walking.case-made libs own core new rs first held room inner place level depth t ids fs s h k g;
+          item = λ at depth d t s h k g q. item-made first held room inner at depth d t s h k g q;
         }

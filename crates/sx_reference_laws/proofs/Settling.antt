@@ -13,7 +13,7 @@ use Rattle.sx_scope.specs.Stands.{stands}
 use Rattle.sx_core.specs.Bindings.{bound_to}
 use Rattle.sx_core.specs.Core.{PlainCore, variable, instance}
 use Rattle.sx_core.specs.CoreForm.{at_number}
-use Rattle.sx_core.specs.References.{mentions}
+use Rattle.sx_core.specs.Template.{PlainTemplate}
 use Rattle.sx_core.specs.declared.binding.Binding.{Binding}
 use Rattle.sx_core.specs.declared.binding.Binding.TheVariants as binding
 use Rattle.sx_core.specs.declared.core_form.CoreForm.{CoreForm}
@@ -42,6 +42,10 @@ use Rattle.sx_expand.specs.declared.settle.Settled.{Settled}
 use Rattle.sx_expand.specs.declared.settle.Step.{Step}
 use Rattle.sx_expand.specs.declared.settle.Step.TheVariants as steps
 use Rattle.sx_expand_laws.specs.Named.{RefersTo}
+use Rattle.sx_reference_laws.specs.Namings.{namings}
+use Rattle.sx_reference_laws.specs.Noted.{Reference}
+use Rattle.sx_reference_laws.specs.Templates.{IsTemplate}
+use Rattle.sx_reference_laws.proofs.Templating.{TemplateNames, template-of-names}
 use Rattle.sx_expand_laws.proofs.Acts.{Gave, gave-any, gave-both, gave-after, gave-less, gave-if}
 use Rattle.sx_expand_laws.proofs.Named.{assignments-named}
 use Rattle.sx_expand_laws.proofs.References.{RefersBy, Refers, Targets, reference-is, target_by-is}
@@ -94,38 +98,48 @@ abbrev pub IsReference : Tree → PlainCore → State → Type 0
 IsReference t c u = (l : Label) × ((is_leaf t ≡ true) × ((stands u.frames t ≡ Some l) × RefersTo u (Some l) c))
 
 abbrev pub IsConstant : Tree → PlainCore → Type 0
-IsConstant t c = (is_leaf t ≡ false) × (mentions c ≡ [])
+IsConstant t c = (is_leaf t ≡ false) × (namings c ≡ [])
+
+-- the template of a `syntax` form
+pub record IsSyntax (place : Span) (level : ℕ) (t : Tree) (c : PlainCore) (u : State) : Type 0 where
+  pub operand : Tree
+  pub shaped : shape core_forms.Syntax t place ≡ Ok (shapes.Operand operand)
+  pub template : PlainTemplate
+  pub made : template_of place level operand u ≡ Ok (template, u)
+  pub references : List Reference
+  pub is : IsTemplate u level operand template references
+  pub code : c ≡ instance template (place_of t place)
 
 abbrev pub IsTarget : Span → Tree → Label → Tree → State → Type 0
 IsTarget place t l value u = (f : CoreForm) × ((id : Tree) × ((shape f t place ≡ Ok (shapes.Set id value)) × (stands u.frames id ≡ Some l)))
 
-abbrev pub Plans : Span → Tree → Plan → State → Type 0
-Plans place t (plans.Done c) u = IsReference t c u ⊎ IsConstant t c
-Plans place t (plans.Assignment l value) u = IsTarget place t l value u
-Plans place t _ u = Unit {0}
+abbrev pub Plans : ℕ → Span → Tree → Plan → State → Type 0
+Plans level place t (plans.Done c) u = IsReference t c u ⊎ (IsConstant t c ⊎ IsSyntax place level t c u)
+Plans level place t (plans.Assignment l value) u = IsTarget place t l value u
+Plans level place t _ u = Unit {0}
 
 -- a leaf
 module _ (place : Span) (level : ℕ) (t : Tree) (leafy : is_leaf t ≡ true) (s : State) where
-  refers-so : (l : Label) (st : Standing) (p : Plan) → stands s.frames t ≡ Some l → label_standing s l ≡ st → OfLabel l st → RefersBy level s st p → Plans place t p s
+  refers-so : (l : Label) (st : Standing) (p : Plan) → stands s.frames t ≡ Some l → label_standing s l ≡ st → OfLabel l st → RefersBy level s st p → Plans level place t p s
   refers-so l standing.Nothing p e is of h = absurd h
-  refers-so l (standing.Variable v) p e is of h = subst (λ q. Plans place t q s) (sym h.0) (inl (l, (leafy, (e, inl (ap variable of)))))
+  refers-so l (standing.Variable v) p e is of h = subst (λ q. Plans level place t q s) (sym h.0) (inl (l, (leafy, (e, inl (ap variable of)))))
   refers-so l standing.PatternVariable p e is of h = absurd h
-  refers-so l (standing.Primitive o) p e is of h = subst (λ q. Plans place t q s) (sym h) (inl (l, (leafy, (e, inr (o, (is, refl))))))
+  refers-so l (standing.Primitive o) p e is of h = subst (λ q. Plans level place t q s) (sym h) (inl (l, (leafy, (e, inr (o, (is, refl))))))
   refers-so l (standing.Core f) p e is of h = absurd h
-  refers-so l (standing.Keyword m) p e is of h = subst (λ q. Plans place t q s) (sym h) tt
+  refers-so l (standing.Keyword m) p e is of h = subst (λ q. Plans level place t q s) (sym h) tt
 
-  stood-so : (o : Option Label) (p : Plan) (u : State) → stands s.frames t ≡ o → Refers place level s (standing_by s o) p u → Plans place t p u
+  stood-so : (o : Option Label) (p : Plan) (u : State) → stands s.frames t ≡ o → Refers place level s (standing_by s o) p u → Plans level place t p u
   stood-so None p u e h = absurd h.1
-  stood-so (Some l) p u e h = subst (Plans place t p) (sym h.0) (refers-so l (label_standing s l) p e refl (label-kept s l) h.1)
+  stood-so (Some l) p u e h = subst (Plans level place t p) (sym h.0) (refers-so l (label_standing s l) p e refl (label-kept s l) h.1)
 
-  leaf-plans : Gave (Plans place t) (reference place level t s)
+  leaf-plans : Gave (Plans level place t) (reference place level t s)
   unfolding standing_of
-  leaf-plans = gave-less (Refers place level s (standing_by s (stands s.frames t))) (Plans place t) (reference place level t s) (reference-is place level s t) (λ p u k. stood-so (stands s.frames t) p u refl k)
+  leaf-plans = gave-less (Refers place level s (standing_by s (stands s.frames t))) (Plans level place t) (reference place level t s) (reference-is place level s t) (λ p u k. stood-so (stands s.frames t) p u refl k)
 
 -- a list
 module _ (place : Span) (level : ℕ) (t : Tree) (compound : is_leaf t ≡ false) (s : State) where
   abbrev Right : Plan → State → Type 0
-  Right p u = Plans place t p u
+  Right p u = Plans level place t p u
 
   abbrev Assigned : Tree → Label → State → Type 0
   Assigned id l u = stands u.frames id ≡ Some l
@@ -149,13 +163,26 @@ module _ (place : Span) (level : ℕ) (t : Tree) (compound : is_leaf t ≡ false
   unfolding assign
   assign-so f id value e = assign-by f id value e (standing_of s id) (target-so id)
 
-  operand-so : (f : CoreForm) (operand : Tree) → Gave Right (operand_plan place level t f operand s)
-  operand-so core_forms.Syntax operand =
-      gave-after (λ x u. Unit {0}) Right (template_of place level operand s) (λ x. give (plans.Done (instance x (place_of t place)))) (gave-any (λ x u. Unit {0}) (template_of place level operand s) (λ x u. tt))
-      (λ x u k. inr (compound, refl))
-  operand-so core_forms.Quasiquote operand = tt
-  operand-so core_forms.Quasisyntax operand = tt
-  operand-so _ operand = tt
+  syntax-so : (operand : Tree) → shape core_forms.Syntax t place ≡ Ok (shapes.Operand operand) → Gave Right (after (template_of place level operand s) (λ x. give (plans.Done (instance x (place_of t place)))))
+  syntax-so operand e =
+      gave-after (λ x u. (template_of place level operand s ≡ Ok (x, u)) × TemplateNames level operand s x u) Right (template_of place level operand s) (λ x. give (plans.Done (instance x (place_of t place))))
+      (gave-both (λ x u. template_of place level operand s ≡ Ok (x, u)) (TemplateNames level operand s) (template_of place level operand s) (gave-told (λ x u. template_of place level operand s ≡ Ok (x, u)) (template_of place level operand s) (λ x u i. i))
+      (template-of-names place level operand s))
+      (λ x u k. subst (λ (v : State). Right (plans.Done (instance x (place_of t place))) v) (sym k.1.0) (inr (inr (record {
+        operand = operand;
+        shaped = e;
+        template = x;
+        made = subst (λ (v : State). template_of place level operand s ≡ Ok (x, v)) k.1.0 k.0;
+        references = k.1.1.0;
+        is = k.1.1.1;
+        code = refl;
+      }))))
+
+  operand-so : (f : CoreForm) (operand : Tree) → shape f t place ≡ Ok (shapes.Operand operand) → Gave Right (operand_plan place level t f operand s)
+  operand-so core_forms.Syntax operand e = syntax-so operand e
+  operand-so core_forms.Quasiquote operand e = tt
+  operand-so core_forms.Quasisyntax operand e = tt
+  operand-so _ operand e = tt
 
   sequence-so : (forms : List Tree) → Gave Right (in_sequence place t forms s)
   sequence-so [] = tt
@@ -167,7 +194,7 @@ module _ (place : Span) (level : ℕ) (t : Tree) (compound : is_leaf t ≡ false
 
   shape-so : (f : CoreForm) (x : Shape) → shape f t place ≡ Ok x → Gave Right (shape_plan place level t f x s)
   unfolding shape_plan
-  shape-so f (shapes.Quote datum) e = inr (compound, refl)
+  shape-so f (shapes.Quote datum) e = inr (inl (compound, refl))
   shape-so f (shapes.Lambda ids forms) e = tt
   shape-so f (shapes.CaseLambda cs) e = tt
   shape-so f (shapes.If test consequent other) e = tt
@@ -178,7 +205,7 @@ module _ (place : Span) (level : ℕ) (t : Tree) (compound : is_leaf t ≡ false
   shape-so f (shapes.DefineProcedure id ids forms) e = tt
   shape-so f (shapes.DefineSyntax id value) e = tt
   shape-so f (shapes.LetSyntax bs forms) e = keywords-so f bs forms
-  shape-so f (shapes.Operand operand) e = operand-so f operand
+  shape-so f (shapes.Operand operand) e = operand-so f operand e
   shape-so f (shapes.SyntaxCase subject literals clauses) e = tt
 
   with-shape-so : (f : CoreForm) (r : Result Shape Fault) → shape f t place ≡ r → Gave Right (with_shape place level t f r s)
@@ -219,12 +246,12 @@ module _ (place : Span) (level : ℕ) (t : Tree) (compound : is_leaf t ≡ false
   unfolding list_plan
   list-so head rest = gave-if Right (is_leaf head) _ _ (λ e. head-so head rest (standing_of s head)) (λ e. application-so head rest)
 
-constant-so : (place : Span) (t : Tree) → is_leaf t ≡ false → (b : Bool) (s : State) → Gave (Plans place t) (constant place t b s)
-constant-so place t e true s = tt
-constant-so place t e false s = inr (e, refl)
+constant-so : (place : Span) (level : ℕ) (t : Tree) → is_leaf t ≡ false → (b : Bool) (s : State) → Gave (Plans level place t) (constant place t b s)
+constant-so place level t e true s = tt
+constant-so place level t e false s = inr (inl (e, refl))
 
-plan-so : (place : Span) (level : ℕ) (t : Tree) (s : State) → Gave (Plans place t) (plan_of place level t s)
-plan-so place level (atom r a) s = constant-so place (atom r a) refl (is_nil_atom a) s
+plan-so : (place : Span) (level : ℕ) (t : Tree) (s : State) → Gave (Plans level place t) (plan_of place level t s)
+plan-so place level (atom r a) s = constant-so place level (atom r a) refl (is_nil_atom a) s
 plan-so place level (leaf r x c) s = leaf-plans place level (leaf r x c) refl s
 plan-so place level (pair r a d) s = list-so place level (pair r a d) refl s a d
 plan-so place level (vector r d) s = tt
@@ -232,17 +259,17 @@ plan-so place level (vector r d) s = tt
 -- What is settled.
 module _ (rs : List LibRecord) (level : ℕ) where
   abbrev pub Settles : Settled → State → Type 0
-  Settles d u = Plans d.place d.form d.plan u
+  Settles d u = Plans level d.place d.form d.plan u
 
   abbrev Steps : Span → Tree → Step → State → Type 0
-  Steps place t (steps.Plan p) u = Plans place t p u
+  Steps place t (steps.Plan p) u = Plans level place t p u
   Steps place t (steps.Use k) u = Unit {0}
 
   set-so : (place : Span) (t : Tree) (l : Label) (id : Tree) (b : Bool) (s : State) → Gave (Steps place t) (set_step place t l id b s)
   set-so place t l id true s = tt
   set-so place t l id false s = tt
 
-  step-of-so : (place : Span) (t : Tree) (p : Plan) (s : State) → Plans place t p s → Gave (Steps place t) (step_of rs place t p s)
+  step-of-so : (place : Span) (t : Tree) (p : Plan) (s : State) → Plans level place t p s → Gave (Steps place t) (step_of rs place t p s)
   step-of-so place t (plans.Use k) s h = tt
   step-of-so place t (plans.SetUse l id) s h =
       gave-after (λ b u. Unit {0}) (Steps place t) (asks_variable rs (place_of t place) l s) (set_step place t l id) (gave-any (λ b u. Unit {0}) (asks_variable rs (place_of t place) l s) (λ b u. tt)) (λ b u k. set-so place t l id b u)
@@ -260,7 +287,7 @@ module _ (rs : List LibRecord) (level : ℕ) where
 
   step-so : (place : Span) (t : Tree) (s : State) → Gave (Steps place t) (step rs place level t s)
   unfolding step
-  step-so place t s = gave-after (Plans place t) (Steps place t) (plan_of place level t s) (step_of rs place t) (plan-so place level t s) (λ p u h. step-of-so place t p u h)
+  step-so place t s = gave-after (Plans level place t) (Steps place t) (plan_of place level t s) (step_of rs place t) (plan-so place level t s) (λ p u h. step-of-so place t p u h)
 
   settled-so : (onward : KeywordUse → Does Settled) (place : Span) (t : Tree) (x : Step) (u : State) → ((k : KeywordUse) (v : State) → Gave Settles (onward k v)) → Steps place t x u → Gave Settles (settled_by onward place t x u)
   settled-so onward place t (steps.Plan p) u more h = h

@@ -1,5 +1,6 @@
 -- References that were taken name what their identifiers stand for in each later state.
-use Rattle.std.proofs.Common.{◌≡◌, ◌≤◌, ℕ, true, List, [], ◌∷◌, ◌++◌, Some, Result, Ok, Err, refl, sym, ap, ◌∙◌, arith, append_assoc}
+use Rattle.std.proofs.Common.{◌≡◌, ◌≤◌, ℕ, zero, suc, true, List, [], ◌∷◌, ◌++◌, Some, Result, Ok, Err, refl, sym, ◌∙◌, arith, inl, inr}
+use Rattle.std.specs.Prelude.{◌⊎◌}
 use Rattle.sx_base.specs.declared.fault.Fault.{Fault}
 use Rattle.sx_base.specs.declared.library.LibName.{LibName}
 use Rattle.sx_base.specs.declared.library.LibName.TheVariants as library
@@ -10,18 +11,22 @@ use Rattle.sx_tree.specs.Context.{LeafContext}
 use Rattle.sx_tree.specs.Tree.{Tree, atom, leaf, pair, vector}
 use Rattle.sx_tree.specs.declared.stamp.Stamp.{Stamp}
 use Rattle.sx_scope.specs.Stands.{stands}
-use Rattle.sx_core.specs.References.{mentions}
+use Rattle.sx_core.specs.Core.{PlainCore}
+use Rattle.sx_core.specs.declared.record.LibRecord.{LibRecord}
 use Rattle.sx_shapes.specs.Lists.{is_leaf}
 use Rattle.sx_standing.specs.InScope.{cut}
 use Rattle.sx_standing.specs.State.{State}
 use Rattle.sx_hygiene_laws.specs.Marked.{Among}
 use Rattle.sx_value.specs.Cells.{Each}
+use Rattle.sx_expand.specs.Expression.{inside}
 use Rattle.sx_expand_laws.specs.Named.{RefersTo}
 use Rattle.sx_expand_laws.specs.States.{IsOld, Later}
 use Rattle.sx_expand_laws.specs.Trees.{StampsAre, LeavesAre}
 use Rattle.sx_expand_laws.proofs.Acts.{Gave}
 use Rattle.sx_expand_laws.proofs.Later.{later-self, later-then}
 use Rattle.sx_expand_laws.proofs.Named.{leaf-stays}
+use Rattle.sx_expand_laws.proofs.Spent.{Known}
+use Rattle.sx_expand_laws.proofs.SpentOnStage.{Tells}
 use Rattle.sx_fresh_laws.specs.Leaves.{TreeHolds}
 use Rattle.sx_fresh_laws.proofs.Eachs.{each_both, each_mapped}
 use Rattle.sx_fresh_laws.proofs.Wider.{tree_wider}
@@ -34,12 +39,10 @@ use Rattle.sx_fresh_expansion_laws.proofs.Having.{history-marks}
 use Rattle.sx_fresh_expansion_laws.proofs.Making.{are-made}
 use Rattle.sx_fresh_expansion_laws.proofs.Once.{as-history, lives-once}
 use Rattle.sx_fresh_expansion_laws.proofs.Standing as standing
-use Rattle.sx_reference_laws.specs.Expands.{Reference}
-use Rattle.sx_reference_laws.specs.Whole.{mentioned}
-
-pub mentioned-joined : (xs ys : List Reference) → mentioned (xs ++ ys) ≡ mentioned xs ++ mentioned ys
-mentioned-joined [] ys = refl
-mentioned-joined (x ∷ xs) ys = ap (λ ls. mentions x.code ++ ls) (mentioned-joined xs ys) ∙ sym (append_assoc (mentions x.code) (mentioned xs) (mentioned ys))
+use Rattle.sx_reference_laws.specs.Noted.{Reference, Expression, Noted, nothing, of_keywords, both, named, IsExpression}
+use Rattle.sx_reference_laws.specs.Namings.{Naming, namings}
+use Rattle.sx_reference_laws.specs.Whole.{IsOnlyVariable, KeepsOnly}
+use Rattle.sx_reference_laws.proofs.Templating.{named-joined}
 
 -- known identifiers have stamps of frames that were made
 module _ (own : LibName) (s : State) where
@@ -57,6 +60,12 @@ module _ (own : LibName) (s : State) where
 pub gave-is : {A : Type 0} (r : Result (A × State) Fault) → Gave (λ a u. r ≡ Ok (a, u)) r
 gave-is (Ok p) = refl
 gave-is (Err e) = tt
+
+-- the records behind which forms are expanded
+pub earlier-same : (rs : List LibRecord) (room : ℕ) → (inside rs room).earlier ≡ rs
+unfolding inside
+earlier-same rs zero = refl
+earlier-same rs (suc room) = refl
 
 module _ (libs : List LibName) (own : LibName) (core : Among libs library.Core) (new : IsNewAmong libs own) where
   abbrev pub K : ℕ → Mark → Type 0
@@ -89,7 +98,7 @@ module _ (libs : List LibName) (own : LibName) (core : Among libs library.Core) 
   pub record Kept (u : State) (r : Reference) : Type 0 where
     pub leafy : is_leaf r.leaf ≡ true
     pub known : T r.state.names.number r.leaf
-    pub code : RefersTo r.state (Some r.label) r.code
+    pub code : RefersTo r.state (Some r.label) r.code ⊎ IsOnlyVariable r.state r.label r.code
     pub stood : stands r.state.frames r.leaf ≡ Some r.label
     pub before : r.state.names.number ≤ u.names.number
     pub now : stands u.frames r.leaf ≡ Some r.label
@@ -113,33 +122,113 @@ module _ (libs : List LibName) (own : LibName) (core : Among libs library.Core) 
   pub all-cut : (n : ℕ) (u : State) (refs : List Reference) → Each (Kept u) refs → Each (Kept (cut n u)) refs
   all-cut n u refs h = each_mapped (Kept u) (Kept (cut n u)) (λ r k. kept-cut n u r k) refs h
 
-  -- What comes of a form, with references that are related to it so, and that name these labels.
-  pub record Made (R : List Reference → Type 0) (m : List Label) (u : State) : Type 0 where
-    pub refs : List Reference
-    pub is : R refs
-    pub all : m ≡ mentioned refs
-    pub kept : Each (Kept u) refs
+  -- an expression of a keyword, whose references name what their identifiers stood for to its end
+  abbrev pub KeptExpression : Expression → Type 0
+  KeptExpression e = (namings e.code ≡ named e.references) × Each (Kept e.state) e.references
 
-  pub made-none : (R : List Reference → Type 0) (u : State) → R [] → Made R [] u
-  made-none R u h = record { refs = []; is = h; all = refl; kept = tt }
+  -- What comes of a form, with what is noted of it that is related to it so, and whose references name these labels.
+  pub record Made (R : Noted → Type 0) (m : List Naming) (s u : State) : Type 0 where
+    pub noted : Noted
+    pub is : R noted
+    pub all : m ≡ named noted.references
+    pub kept : Each (Kept u) noted.references
+    pub expressions : Each KeptExpression noted.expressions
+    pub told : KeepsOnly noted.expressions s u
 
-  pub made-so : (R V : List Reference → Type 0) (m n : List Label) (u : State) → Made R m u → ((refs : List Reference) → R refs → V refs) → n ≡ m → Made V n u
-  made-so R V m n u h f e = record { refs = h.refs; is = f h.refs h.is; all = e ∙ h.all; kept = h.kept }
+  pub made-none : (R : Noted → Type 0) (m : List Naming) (s u : State) → R nothing → m ≡ [] → Tells s.keywords u.keywords → Made R m s u
+  made-none R m s u h e k = record { noted = nothing; is = h; all = e; kept = tt; expressions = tt; told = λ l c x. inl (k l c x) }
 
-  pub made-later : (R : List Reference → Type 0) (m : List Label) (s u : State) → Later own s u → Made R m s → Made R m u
-  made-later R m s u l h = record { refs = h.refs; is = h.is; all = h.all; kept = all-later s u l h.refs h.kept }
+  pub made-so : (R V : Noted → Type 0) (m n : List Naming) (s u : State) → Made R m s u → ((x : Noted) → R x → V x) → n ≡ m → Made V n s u
+  made-so R V m n s u h f e = record { noted = h.noted; is = f h.noted h.is; all = e ∙ h.all; kept = h.kept; expressions = h.expressions; told = h.told }
+
+  -- from an earlier state, and to a later one
+  pub made-from : (R V : Noted → Type 0) (m n : List Naming) (s v u : State) → Tells s.keywords v.keywords → Made R m v u → ((x : Noted) → R x → V x) → n ≡ m → Made V n s u
+  made-from R V m n s v u k h f e = record {
+    noted = h.noted;
+    is = f h.noted h.is;
+    all = e ∙ h.all;
+    kept = h.kept;
+    expressions = h.expressions;
+    told = λ l c x. by l c (h.told l c x);
+  }
+    where
+      by : (l : Label) (c : PlainCore) → Known v.keywords l c ⊎ IsExpression h.noted.expressions l c → Known s.keywords l c ⊎ IsExpression h.noted.expressions l c
+      by l c (inl x) = inl (k l c x)
+      by l c (inr x) = inr x
+
+  pub made-later : (R : Noted → Type 0) (m : List Naming) (s v u : State) → Later own v u → Tells v.keywords u.keywords → Made R m s v → Made R m s u
+  made-later R m s v u l k h = record { noted = h.noted; is = h.is; all = h.all; kept = all-later v u l h.noted.references h.kept; expressions = h.expressions; told = λ x c e. h.told x c (k x c e) }
+
+  -- expressions that come to be kept, and others behind them
+  pub only-joined : (es others : List Expression) (s v u : State) → KeepsOnly es s v → KeepsOnly others v u → KeepsOnly (es ++ others) s u
+  only-joined es others s v u h k l c x = by l c (k l c x)
+    where
+      first : (xs : List Expression) (l : Label) (c : PlainCore) → IsExpression xs l c → IsExpression (xs ++ others) l c
+      first [] l c a = absurd a
+      first (y ∷ xs) l c (inl e) = inl e
+      first (y ∷ xs) l c (inr a) = inr (first xs l c a)
+
+      last : (xs : List Expression) (l : Label) (c : PlainCore) → IsExpression others l c → IsExpression (xs ++ others) l c
+      last [] l c a = a
+      last (y ∷ xs) l c a = inr (last xs l c a)
+
+      before : (l : Label) (c : PlainCore) → Known s.keywords l c ⊎ IsExpression es l c → Known s.keywords l c ⊎ IsExpression (es ++ others) l c
+      before l c (inl e) = inl e
+      before l c (inr a) = inr (first es l c a)
+
+      by : (l : Label) (c : PlainCore) → Known v.keywords l c ⊎ IsExpression others l c → Known s.keywords l c ⊎ IsExpression (es ++ others) l c
+      by l c (inl e) = before l c (h l c e)
+      by l c (inr a) = inr (last es l c a)
 
   -- what came before, and what came after it
-  pub made-joined : (R Q V : List Reference → Type 0) (m n : List Label) (s u : State) → Later own s u → Made R m s → Made Q n u → ((refs others : List Reference) → R refs → Q others → V (refs ++ others)) → Made V (m ++ n) u
-  made-joined R Q V m n s u l a b f = record {
-    refs = a.refs ++ b.refs;
-    is = f a.refs b.refs a.is b.is;
-    all = (λ i. a.all i ++ b.all i) ∙ sym (mentioned-joined a.refs b.refs);
-    kept = each_both (Kept u) a.refs b.refs (all-later s u l a.refs a.kept) b.kept;
+  pub made-joined : (R Q V : Noted → Type 0) (m n : List Naming) (s v u : State) → Later own v u → Made R m s v → Made Q n v u → ((x y : Noted) → R x → Q y → V (both x y)) → Made V (m ++ n) s u
+  made-joined R Q V m n s v u l a b f = record {
+    noted = both a.noted b.noted;
+    is = f a.noted b.noted a.is b.is;
+    all = (λ i. a.all i ++ b.all i) ∙ sym (named-joined a.noted.references b.noted.references);
+    kept = each_both (Kept u) a.noted.references b.noted.references (all-later v u l a.noted.references a.kept) b.kept;
+    expressions = each_both KeptExpression a.noted.expressions b.noted.expressions a.expressions b.expressions;
+    told = only-joined a.noted.expressions b.noted.expressions s v u a.told b.told;
   }
 
-  pub made-cut : (R V : List Reference → Type 0) (m : List Label) (n : ℕ) (u : State) → Made R m u → ((refs : List Reference) → R refs → V refs) → Made V m (cut n u)
-  made-cut R V m n u h f = record { refs = h.refs; is = f h.refs h.is; all = h.all; kept = all-cut n u h.refs h.kept }
+  pub made-cut : (R V : Noted → Type 0) (m : List Naming) (n : ℕ) (s u : State) → Made R m s u → ((x : Noted) → R x → V x) → Made V m s (cut n u)
+  made-cut R V m n s u h f = record { noted = h.noted; is = f h.noted h.is; all = h.all; kept = all-cut n u h.noted.references h.kept; expressions = h.expressions; told = h.told }
+
+  -- What comes of keywords, whose expressions are related to them so.
+  pub record Bound (R : List Expression → Type 0) (s u : State) : Type 0 where
+    pub expressions : List Expression
+    pub is : R expressions
+    pub kept : Each KeptExpression expressions
+    pub told : KeepsOnly expressions s u
+
+  pub bound-none : (R : List Expression → Type 0) (s u : State) → R [] → Tells s.keywords u.keywords → Bound R s u
+  bound-none R s u h k = record { expressions = []; is = h; kept = tt; told = λ l c x. inl (k l c x) }
+
+  pub bound-from : (R V : List Expression → Type 0) (s v u : State) → Tells s.keywords v.keywords → Bound R v u → ((es : List Expression) → R es → V es) → Bound V s u
+  bound-from R V s v u k h f = record { expressions = h.expressions; is = f h.expressions h.is; kept = h.kept; told = λ l c x. by l c (h.told l c x) }
+    where
+      by : (l : Label) (c : PlainCore) → Known v.keywords l c ⊎ IsExpression h.expressions l c → Known s.keywords l c ⊎ IsExpression h.expressions l c
+      by l c (inl x) = inl (k l c x)
+      by l c (inr x) = inr x
+
+  pub bound-joined : (R Q V : List Expression → Type 0) (s v u : State) → Bound R s v → Bound Q v u → ((es others : List Expression) → R es → Q others → V (es ++ others)) → Bound V s u
+  bound-joined R Q V s v u a b f = record {
+    expressions = a.expressions ++ b.expressions;
+    is = f a.expressions b.expressions a.is b.is;
+    kept = each_both KeptExpression a.expressions b.expressions a.kept b.kept;
+    told = only-joined a.expressions b.expressions s v u a.told b.told;
+  }
+
+  -- keywords, and what comes of forms behind them
+  pub bound-made : (R : List Expression → Type 0) (Q V : Noted → Type 0) (m n : List Naming) (s v u : State) → Bound R s v → Made Q m v u → ((es : List Expression) (x : Noted) → R es → Q x → V (both (of_keywords es) x)) → n ≡ m → Made V n s u
+  bound-made R Q V m n s v u a b f e = record {
+    noted = both (of_keywords a.expressions) b.noted;
+    is = f a.expressions b.noted a.is b.is;
+    all = e ∙ b.all;
+    kept = b.kept;
+    expressions = each_both KeptExpression a.expressions b.noted.expressions a.kept b.expressions;
+    told = only-joined a.expressions b.noted.expressions s v u a.told b.told;
+  }
 
   -- a step from a state to a later one
   pub record Went (s u : State) : Type 0 where
@@ -169,3 +258,9 @@ module _ (libs : List LibName) (own : LibName) (core : Among libs library.Core) 
     pub gave-from : {A : Type 0} (W : ℕ → A → Type 0) (s : State) (r : Result (A × State) Fault) → standing.Gave own K J P lives first W s r → Gave (λ a u. (StateHolds own K P s.names.number u × W u.names.number a) × (r ≡ Ok (a, u))) r
     gave-from W s (Ok p) h = (h, refl)
     gave-from W s (Err e) h = tt
+
+    -- with what is told of it besides
+    pub gave-and : {A : Type 0} (W : ℕ → A → Type 0) (M : A → State → Type 0) (s : State) (r : Result (A × State) Fault) → standing.Gave own K J P lives first W s r → Gave M r
+        → Gave (λ a u. (StateHolds own K P s.names.number u × W u.names.number a) × M a u) r
+    gave-and W M s (Ok p) h k = (h, k)
+    gave-and W M s (Err e) h k = tt

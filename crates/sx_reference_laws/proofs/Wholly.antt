@@ -4,11 +4,12 @@ use Rattle.std.specs.Prelude.{option_map}
 use Rattle.sx_base.specs.declared.library.LibName.{LibName}
 use Rattle.sx_base.specs.declared.library.LibName.TheVariants as library
 use Rattle.sx_base.specs.declared.span.Span.{Span}
+use Rattle.sx_base.specs.declared.name.Label.{Label}
 use Rattle.sx_tree.specs.Context.{LeafContext}
 use Rattle.sx_tree.specs.Leaves.{stamps_of}
 use Rattle.sx_tree.specs.Tree.{Tree, atom, leaf, pair, vector}
 use Rattle.sx_frames.specs.Rows.{Row}
-use Rattle.sx_scope.specs.Stands.{symbol_of}
+use Rattle.sx_scope.specs.Stands.{stands, symbol_of}
 use Rattle.sx_shapes.specs.Lists.{is_leaf}
 use Rattle.sx_standing.specs.State.{State}
 use Rattle.sx_hygiene_laws.specs.Binder.{binder_of, Captures}
@@ -21,50 +22,58 @@ use Rattle.sx_fresh_laws.specs.Leaves.{TreeHolds}
 use Rattle.sx_fresh_laws.proofs.Eachs.{each_mapped}
 use Rattle.sx_fresh_expansion_laws.specs.Events.{HasKnownEvents}
 use Rattle.sx_fresh_expansion_laws.specs.Known.{IsNewAmong}
-use Rattle.sx_reference_laws.specs.Expands.{Reference}
-use Rattle.sx_reference_laws.specs.Whole.{IsRight, FormsAreHygienic}
+use Rattle.sx_reference_laws.specs.Noted.{Reference, Expression}
+use Rattle.sx_reference_laws.specs.Whole.{IsCaptured, IsRight, IsRightExpression, FormsAreHygienic}
 use Rattle.sx_reference_laws.proofs.Capturing.{captures-hygienic}
+use Rattle.sx_reference_laws.proofs.Naming.{mentions-named}
 use Rattle.sx_reference_laws.proofs.Performing.{all-traced}
-use Rattle.sx_reference_laws.proofs.Staying.{Kept}
+use Rattle.sx_reference_laws.proofs.Staying.{Kept, KeptExpression}
 use Rattle.sx_reference_laws.proofs.Walking.{FormMade}
 
 module _ (libs : List LibName) (own : LibName) (core : Among libs library.Core) (new : IsNewAmong libs own) where
-  -- a reference that was taken is right
-  right-so : (u : State) (r : Reference) → Kept libs own core new u r → IsRight libs own u r
-  right-so u r h = by r.leaf refl
+  -- an identifier is captured by the binder of what it stands for
+  pub captured-so : (n : ℕ) (u : State) (t : Tree) (l : Label) → is_leaf t ≡ true → TreeHolds (HasKnownEvents libs own n) t → stands u.frames t ≡ Some l → IsCaptured libs own n u t l
+  captured-so n u t l leafy known now = by t refl
     where
-      found : (p : Option Span) (x : List ℕ) (k : LeafContext) → r.leaf ≡ leaf p x k → HasKnownEvents libs own r.state.names.number k → (o : Option Row) → binder_of u.frames r.leaf ≡ o → option_map (λ (q : Row). q.label) o ≡ Some r.label → IsRight libs own u r
+      found : (p : Option Span) (x : List ℕ) (k : LeafContext) → t ≡ leaf p x k → HasKnownEvents libs own n k → (o : Option Row) → binder_of u.frames t ≡ o → option_map (λ (q : Row). q.label) o ≡ Some l → IsCaptured libs own n u t l
       found p x k e g None i j = absurd (cc)
       found p x k e g (Some q) i j =
-          let said : Some q.label ≡ Some r.label = j in
-          let same : q.label ≡ r.label = cc in
+          let said : Some q.label ≡ Some l = j in
+          let same : q.label ≡ l = cc in
           record {
             span = p;
             symbol = x;
             context = k;
             leaf = e;
             history = g;
-            code = h.code;
-            stood = h.stood;
-            now = h.now;
+            now = now;
             row = q;
             captures = i;
             binder = same;
-            hygienic = captures-hygienic libs own r.state.names.number p x k g u.frames q (subst (λ (t : Tree). Captures u.frames q t) e i);
+            hygienic = captures-hygienic libs own n p x k g u.frames q (subst (λ (y : Tree). Captures u.frames q y) e i);
           }
 
-      by : (t : Tree) → r.leaf ≡ t → IsRight libs own u r
-      by (atom p a) e = absurd (true≢false (sym (subst (λ (t : Tree). is_leaf t ≡ true) e h.leafy)))
-      by (leaf p x k) e =
-          found p x k e (subst (TreeHolds (HasKnownEvents libs own r.state.names.number)) e h.known) (binder_of u.frames r.leaf) refl
-          (sym (label_by-row u.frames (symbol_of r.leaf) (stamps_of r.leaf)) ∙ h.now)
-      by (pair p a d) e = absurd (true≢false (sym (subst (λ (t : Tree). is_leaf t ≡ true) e h.leafy)))
-      by (vector p d) e = absurd (true≢false (sym (subst (λ (t : Tree). is_leaf t ≡ true) e h.leafy)))
+      by : (y : Tree) → t ≡ y → IsCaptured libs own n u t l
+      by (atom p a) e = absurd (true≢false (sym (subst (λ (y : Tree). is_leaf y ≡ true) e leafy)))
+      by (leaf p x k) e = found p x k e (subst (TreeHolds (HasKnownEvents libs own n)) e known) (binder_of u.frames t) refl (sym (label_by-row u.frames (symbol_of t) (stamps_of t)) ∙ now)
+      by (pair p a d) e = absurd (true≢false (sym (subst (λ (y : Tree). is_leaf y ≡ true) e leafy)))
+      by (vector p d) e = absurd (true≢false (sym (subst (λ (y : Tree). is_leaf y ≡ true) e leafy)))
+
+  -- a reference that was taken is right
+  right-so : (u : State) (r : Reference) → Kept libs own core new u r → IsRight libs own u r
+  right-so u r h = record { code = h.code; stood = h.stood; captured = captured-so r.state.names.number u r.leaf r.label h.leafy h.known h.now }
 
   pub all-right : (u : State) (refs : List Reference) → Each (Kept libs own core new u) refs → Each (IsRight libs own u) refs
   all-right u refs h = each_mapped (Kept libs own core new u) (IsRight libs own u) (right-so u) refs h
 
+  -- so are expressions of keywords
+  right-expression : (e : Expression) → KeptExpression libs own core new e → IsRightExpression libs own e
+  right-expression e h = record { all = h.0; mentions = mentions-named e.code e.references h.0; right = all-right e.state e.references h.1 }
+
+  pub all-expressions : (es : List Expression) → Each (KeptExpression libs own core new) es → Each (IsRightExpression libs own) es
+  all-expressions es h = each_mapped (KeptExpression libs own core new) (IsRightExpression libs own) right-expression es h
+
 pub forms-hygienic : FormsAreHygienic
 forms-hygienic libs own records room place level depth t s u c core new holds held has e =
     let made = told (FormMade libs own core new records place level t s) ((inside records room).form place level depth t s) c u ((all-traced libs own core new records s.names.number held room).form place level depth t s holds has) e in
-    (made.refs, (made.is, record { all = made.all; right = all-right libs own core new u made.refs made.kept }))
+    (made.noted, (made.is, record { all = made.all; mentions = mentions-named c made.noted.references made.all; right = all-right libs own core new u made.noted.references made.kept; expressions = all-expressions libs own core new made.noted.expressions made.expressions; kept = made.told }))

@@ -1,6 +1,9 @@
 pub mod Captured
 pub mod Reference
 pub mod Introduced
+pub mod Namings
+pub mod Noted
+pub mod Templates
 pub mod Expands
 pub mod Whole
 pub mod Records

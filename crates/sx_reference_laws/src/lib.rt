@@ -8,12 +8,26 @@
 //!
 //! Here three identifiers become references: the `t` of the template, twice, which the use of `my-or` introduced, and the `t` that
 //! came in with the form. `specs/Expands` has the relation: which core code comes of a form in a state, form by form, and from which
-//! identifier, in which state, each of its references was made, in the order of their places. `specs/Whole` says that expansion
-//! gives what is so related to the form, that its references mention what these identifiers stood for when they were taken and
+//! identifier, in which state, each of its references was made, in the order of their places. `specs/Noted` has what is noted of
+//! a form so. The expression of a keyword is a form one level up, with nothing in scope: wherever one is bound, in a body or
+//! round expressions, the relation has the expression, the code that was kept, and the references in it. A template has its
+//! pattern variables from identifiers, as code has its references (`specs/Templates`), and they stand in one list with these, by the
+//! places of what names them (`specs/Namings`). `specs/Whole` says that expansion
+//! gives what is so related to the form, that its references name what these identifiers stood for when they were taken and
 //! stand for to the end, and that the two sentences of Dybvig, Hieb and Bruggeman (1992) hold of each: a reference that a use
 //! introduces is captured by no binder but one that the same use introduced or that captured it in the transformer's template, and a
-//! binder that a use introduces captures no references but those that the same use introduced. `specs/Records` says so of the
-//! record of a library.
+//! binder that a use introduces captures no references but those that the same use introduced. Of a keyword's expression it says so
+//! to the end of the expression: a definition behind it may bind an identifier that it has, as in
+//!
+//! ```scheme
+//! (let ()
+//!   (define-syntax two (lambda (form) (list (syntax quote) 2)))    ; here list is that of (rnrs)
+//!   (define list vector)                                           ; and here it would not be
+//!   (two))
+//! ```
+//!
+//! `specs/Records` says so of the record of a library, whose keywords have the expressions that were expanded so, and whose exports
+//! are what the identifiers of their clauses stand for.
 //!
 //! Below it stand the laws of one identifier. Each that an expansion comes to has a history, by the laws of
 //! `sx_fresh_expansion_laws`: it was read or made as a temporary, and then uses introduced it, none of them twice, and frames

@@ -3,3 +3,4 @@ mod Waiting
 mod Items
 mod Agreeing
 mod Rooms
+mod Limits

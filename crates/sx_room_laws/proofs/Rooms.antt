@@ -30,7 +30,7 @@ unfolding inside
 earlier-are rs zero = refl
 earlier-are rs (suc room) = refl
 
-form-is : (rs : List LibRecord) (room : ℕ) (place : Span) (level depth : ℕ) (t : Tree) (s : State) → (inside rs (suc room)).form place level depth t s ≡ form_at (inside rs room) place level depth t s
+pub form-is : (rs : List LibRecord) (room : ℕ) (place : Span) (level depth : ℕ) (t : Tree) (s : State) → (inside rs (suc room)).form place level depth t s ≡ form_at (inside rs room) place level depth t s
 unfolding inside
 form-is rs room place level depth t s = refl
 
@@ -44,7 +44,7 @@ unfolding inside
 case-is rs room place level depth t ids forms s = refl
 
 -- a form that is too deep, in any room
-too-deep-form : (rs : List LibRecord) (room : ℕ) (place : Span) (level depth : ℕ) (t : Tree) (s : State) → nat_lt 600 depth ≡ true → (inside rs room).form place level depth t s ≡ fault_form kind.TooDeep t place s
+pub too-deep-form : (rs : List LibRecord) (room : ℕ) (place : Span) (level depth : ℕ) (t : Tree) (s : State) → nat_lt 600 depth ≡ true → (inside rs room).form place level depth t s ≡ fault_form kind.TooDeep t place s
 unfolding inside form_at
 too-deep-form rs zero place level depth t s deep = refl
 too-deep-form rs (suc room) place level depth t s deep =

@@ -1,5 +1,6 @@
-//! The law. Each function here computes nothing: what it promises is the law.
+//! The laws. Each function here computes nothing: what it promises is the law.
 
+ghost use Rattle.sx_room_laws.specs.Limit.{LimitOfNesting};
 ghost use Rattle.sx_room_laws.specs.Room.{FormsNeedNoMore, ItemsNeedNoMore, CasesNeedNoMore, BodiesNeedNoMore, TopsNeedNoMore};
 
 /// Expansion answers the same in every room in which 600 forms can nest: an expression, a form of a body,
@@ -10,4 +11,10 @@ pub fn room_changes_nothing()
     ensures cases { CasesNeedNoMore }
     ensures bodies { BodiesNeedNoMore }
     ensures tops { TopsNeedNoMore }
+{}
+
+/// At most 600 core forms and applications may stand round a form. With more it is TooDeep, at its place,
+/// whatever form it is; 600 `begin`s in one another expand to what is in them, and 601 don't.
+pub fn limit_of_nesting()
+    ensures { LimitOfNesting }
 {}

@@ -6,13 +6,13 @@
 //! leaves to an implementation: a limit that is told, in `docs/DECISIONS.md`. Room is no part of it.
 //!
 //! ```text
-//! (if #t (if #t (if #t ... 1)))    600 of them expand; with 601 the innermost form is TooDeep
+//! (begin (begin (begin ... 1)))    600 of them expand to 1; with 601 the innermost form, 1, is TooDeep
 //! ```
 //!
-//! The law: a form with so many round it that these and the room make 602 has one answer, whatever the
-//! room is: core code and state, or a fault and its place. So no answer of expansion comes from the end of
-//! the room, and 602, the room that expansion begins with, is enough for each expression, body, library
-//! and program.
+//! The first law is that this is the limit. The second: a form with so many round it that these and the room
+//! make 602 has one answer, whatever the room is: core code and state, or a fault and its place. So no answer
+//! of expansion comes from the end of the room, and 602, the room that expansion begins with, is enough for
+//! each expression, body, library and program.
 #![tactic(auto)]
 
 pub mod laws;

@@ -1,5 +1,5 @@
 -- Before a run, no leaf has a mark: the forms of files have none, and the codes of the texts have no leaves.
-use Rattle.std.proofs.Common.{◌≡◌, ℕ, true, List, [], ◌∷◌, ◌++◌, Option, Some, None, Result, Ok, Err, refl, subst}
+use Rattle.std.proofs.Common.{◌≡◌, ℕ, true, List, [], ◌∷◌, ◌++◌, map, Option, Some, None, Result, Ok, Err, refl, subst}
 use Rattle.std.specs.Prelude.{is_some}
 use Rattle.sx_base.specs.Datum.{PlainDatum, atom, symbol, pair, vector}
 use Rattle.sx_base.specs.declared.fault.Bare.{Bare}
@@ -11,12 +11,13 @@ use Rattle.sx_derived.specs.Derived.{forms_of}
 use Rattle.sx_derived.specs.Derived as of_derived
 use Rattle.sx_derived.specs.Names as derived_names
 use Rattle.sx_eval.specs.Codes.{Codes}
+use Rattle.sx_import.specs.declared.set.NameAt.{NameAt}
 use Rattle.sx_fresh_expansion_laws.specs.RecordMarks.{WasRead}
 use Rattle.sx_fresh_laws.specs.Leaves.{CoreHolds, CoresHold, InitsHold, CasesHold, CodesHold}
-use Rattle.sx_fresh_laws.proofs.Eachs.{each_and}
+use Rattle.sx_fresh_laws.proofs.Eachs.{each_and, each_both}
 use Rattle.sx_fresh_laws.proofs.Trees.{OkHolds, within_holds}
 use Rattle.sx_given_laws.specs.Texts.{written_table}
-use Rattle.sx_library.specs.Library.{placed, tree_at, trees_at}
+use Rattle.sx_library.specs.Library.{export_tree, placed, tree_at, trees_at}
 use Rattle.sx_prelude.specs.Prelude.{at_place, prelude_table}
 use Rattle.sx_prelude_code_laws.proofs.Table.{table-is-written}
 use Rattle.sx_readable_expansion_laws.proofs.Shapes.{then-holds}
@@ -134,3 +135,21 @@ any-data (Err f) = tt
 pub derived-read : (text : List ℕ) → OkHolds (Each WasRead) (forms_of text)
 unfolding forms_of
 derived-read text = then-holds Any (Each WasRead) (data_of derived_names.path text file_nesting) (of_derived.trees []) (any-data (data_of derived_names.path text file_nesting)) (λ ds k. derived-trees [] ds tt)
+
+-- The identifiers that are exported.
+
+abbrev pub ExportsWereRead : List (List ℕ × Tree) → Type 0
+ExportsWereRead es = Each (λ (e : List ℕ × Tree). WasRead e.1) es
+
+pub exports-read : (es : List (List ℕ × NameAt)) → ExportsWereRead (map export_tree es)
+exports-read [] = tt
+exports-read (e ∷ es) = (refl, exports-read es)
+
+export-at-read : (o : Option ℕ) → ExportsWereRead (derived_names.export_at o)
+export-at-read None = tt
+export-at-read (Some n) = (refl, tt)
+
+pub derived-exports-read : (ds : List (Option ℕ)) → ExportsWereRead (derived_names.exports_of ds)
+unfolding derived_names.exports_of
+derived-exports-read [] = tt
+derived-exports-read (d ∷ ds) = each_both (λ (e : List ℕ × Tree). WasRead e.1) (derived_names.export_at d) (derived_names.exports_of ds) (export-at-read d) (derived-exports-read ds)

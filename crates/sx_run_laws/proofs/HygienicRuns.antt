@@ -52,7 +52,7 @@ use Rattle.sx_tree.specs.declared.frame_row.FrameRow.{FrameRow}
 use Rattle.sx_value.specs.Cells.{Each}
 use Rattle.sx_run_laws.specs.Hygienic.{IsNoLeaf, IsHygienicBehind, IsHygienicDerived, PartIsHygienic, PartsAreHygienic, RunsAreHygienic}
 use Rattle.sx_run_laws.proofs.BehindLemmas.{IsNew}
-use Rattle.sx_run_laws.proofs.HygienicForms.{codes-without, forms-read, ok-holds, derived-read}
+use Rattle.sx_run_laws.proofs.HygienicForms.{codes-without, forms-read, ok-holds, derived-read, exports-read, derived-exports-read}
 use Rattle.sx_run_laws.proofs.MadeLemmas.{IsMade, all_made}
 use Rattle.sx_run_laws.proofs.NameLemmas.{IsNamed, named_among}
 use Rattle.sx_run_laws.proofs.PlaceLemmas.{marked_from, first_records, needed_behind, low_behind}
@@ -154,7 +154,7 @@ module _ (prelude : Result Codes Fault) (without : HasNoLeaves prelude) where
               read = read;
               table = table;
               given = e;
-              right = records-hygienic form.name path records names form.version form.name_span (map export_tree form.exports) forms table r new before codes was h;
+              right = records-hygienic form.name path records names form.version form.name_span (map export_tree form.exports) forms table r new before codes was (exports-read form.exports) h;
             },
             events-stay.records form.name path records names form.version form.name_span (map export_tree form.exports) forms table r new before codes was h,
           )
@@ -190,7 +190,7 @@ module _ (prelude : Result Codes Fault) (without : HasNoLeaves prelude) where
           read = read;
           table = table;
           given = given;
-          right = records-hygienic library.Derived derived_names.path [] derived_names.names [] derived_names.start (derived_names.exports_of derived) forms table d derived-new tt codes was h;
+          right = records-hygienic library.Derived derived_names.path [] derived_names.names [] derived_names.start (derived_names.exports_of derived) forms table d derived-new tt codes was (derived-exports-read derived) h;
         },
         events-stay.records library.Derived derived_names.path [] derived_names.names [] derived_names.start (derived_names.exports_of derived) forms table d derived-new tt codes was h,
       )

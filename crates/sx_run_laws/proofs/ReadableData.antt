@@ -32,7 +32,7 @@ use Rattle.sx_value.specs.Cells.{Each}
 read-atom : (n : ℕ) (x : Atom) → IsReadableAtom n x → ReadableAtom x
 read-atom n a.Nil h = tt
 read-atom n (a.Bool b) h = tt
-read-atom n (a.Int z) h = tt
+read-atom n (a.Int z) h = h
 read-atom n (a.Spelt text) h = h
 read-atom n (a.Char c) h = h
 read-atom n (a.Str text) h = h

@@ -12,7 +12,7 @@ use Rattle.sx_core.specs.Core.{PlainCores, none, more, PlainInits, no_init, init
 use Rattle.sx_core.specs.declared.record.LibRecord.{LibRecord}
 use Rattle.sx_core.specs.declared.record.Line.{Line}
 use Rattle.sx_core.specs.declared.record.Line.TheVariants as line
-use Rattle.sx_core_grammar.specs.Laws.{CoreTextIsReadBack, CoreTextTellsItsLines}
+use Rattle.sx_core_grammar.specs.Laws.{IsCoreText, CoreTextIsReadBack, CoreTextTellsItsLines}
 use Rattle.sx_core_grammar.specs.Spellable.{CanBeRead, own_constant, constants}
 use Rattle.sx_core_laws.specs.Parts.{parts, all_parts, init_parts, case_parts, clause_parts}
 use Rattle.sx_core_laws.specs.Records.{line_core}
@@ -41,9 +41,9 @@ use Rattle.sx_load.specs.declared.found.Opened.{Opened}
 use Rattle.sx_load_laws.proofs.OpenLemmas.{Ends, ends_ok}
 use Rattle.sx_load_laws.proofs.RootLemmas.{stand_below}
 use Rattle.sx_outside.specs.Contents.{Paths, at_path, Reading, bytes, longer, absent, read_of}
+use Rattle.sx_plan.specs.Planned.{plan_of}
 use Rattle.sx_prelude.specs.Prelude.{prelude_table}
 use Rattle.sx_reader.specs.Read.{data_of, file_nesting}
-use Rattle.sx_readable_laws.specs.Integers.{IntegersFit}
 use Rattle.sx_readable_laws.specs.Readable.{ReadableDatum, ReadableTree, ReadableCore, ReadableCores, ReadableInits, ReadableCases, ReadableClauses, ReadableLines}
 use Rattle.sx_readable_laws.proofs.Data.{readables-read}
 use Rattle.sx_readable_expansion_laws.specs.Records.{ReadableRecord}
@@ -53,15 +53,15 @@ use Rattle.sx_text_laws.specs.Text.{text_of}
 use Rattle.sx_text_laws.proofs.Closed.{text-known}
 use Rattle.sx_tree.specs.Tree.{Tree}
 use Rattle.sx_value.specs.Cells.{Each}
-use Rattle.sx_run_laws.specs.Readable.{IsReadablePrelude, RunsAreReadable, AllIntegersFit, TextsAreReadBack, TextsTellTheirLines}
+use Rattle.sx_run_laws.specs.Readable.{IsReadablePrelude, RunsAreReadable, ConstantsAreRead, TextsAreReadBack, TextsTellTheirLines}
 use Rattle.sx_run_laws.specs.Run.{IsRun}
-use Rattle.sx_run_laws.specs.Spelled.{run_lines, CanAllBeRead}
+use Rattle.sx_run_laws.specs.Spelled.{run_lines, GivesText}
 use Rattle.sx_run_laws.proofs.ClosedLemmas.{all_standing}
 use Rattle.sx_run_laws.proofs.ReadableData.{Ds, text-data, library-body, program-body, trees-hold}
 use Rattle.sx_run_laws.proofs.ReadableGiven.{prelude-readable, derived-readable}
 use Rattle.sx_run_laws.proofs.RunLemmas.{all_records_stand}
 use Rattle.sx_run_laws.proofs.SpelledLines.{text-lines}
-use Rattle.sx_run_laws.proofs.SpelledRuns.{runs-back, runs-tell}
+use Rattle.sx_run_laws.proofs.SpelledRuns.{CanAllBeRead, core-text}
 use Rattle.sx_run_laws.proofs.UserLemmas.{Nothing, Closes, users_file}
 
 -- What is loaded.
@@ -248,29 +248,31 @@ lines-hold [] h = tt
 lines-hold (line.Define l c ∷ ls) h = (own-constants (parts c) (parts-hold c h.0), lines-hold ls h.1)
 lines-hold (line.Expr c ∷ ls) h = (own-constants (parts c) (parts-hold c h.0), lines-hold ls h.1)
 
--- where their integers have 128 bits, they can be read
-can-be-read : (ds : List PlainDatum) → words.Each ReadableDatum ds → words.Each IntegersFit ds → words.Each CanBeRead ds
-can-be-read [] h f = tt
-can-be-read (d ∷ ds) h f = (readables-read d h.0 f.0, can-be-read ds h.1 f.1)
+can-be-read : (ds : List PlainDatum) → words.Each ReadableDatum ds → words.Each CanBeRead ds
+can-be-read [] h = tt
+can-be-read (d ∷ ds) h = (readables-read d h.0, can-be-read ds h.1)
 
-all-can : (ls : List Line) → words.Each LineHolds ls → AllIntegersFit ls → CanAllBeRead ls
-all-can [] h f = tt
-all-can (l ∷ ls) h f = (can-be-read (constants (line_core l)) h.0 f.0, all-can ls h.1 f.1)
+all-can : (ls : List Line) → words.Each LineHolds ls → CanAllBeRead ls
+all-can [] h = tt
+all-can (l ∷ ls) h = (can-be-read (constants (line_core l)) h.0, all-can ls h.1)
 
-all-read : (files : Paths) (roots : List (List ℕ)) (path : List ℕ) (found : Found) (s : Loading) (records : List LibRecord) (program : LibRecord)
-    → IsRun prelude_table files roots path found s records program → AllIntegersFit (run_lines records program) → CanAllBeRead (run_lines records program)
-all-read files roots path found s records program run fit =
+pub constants-read : ConstantsAreRead
+constants-read files roots path found s records program run =
     let stand = all_records_stand prelude_table files roots path found s records program run in
     let standing = all_standing found s records program stand in
     let readable = runs-readable files roots path found s records program run in
     let lines = text-lines LineHolds records program
     (each-of (λ r. words.Each LineHolds r.run) (text_of records program) (λ r a. lines-hold r.run (each-at ReadableRecord (records ++ program ∷ []) r readable (text-known records program standing r a)).run)) in
-    all-can (run_lines records program) lines fit
+    all-can (run_lines records program) lines
+
+is-text : (files : Paths) (roots : List (List ℕ)) (path : List ℕ) (found : Found) (s : Loading) (records : List LibRecord) (program : LibRecord) (text : List ℕ)
+    → GivesText prelude_table files roots path found s records program text → IsCoreText records (plan_of records program) program text
+is-text files roots path found s records program text h = core-text prelude_table files roots path found s records program text h (constants-read files roots path found s records program h.run)
 
 pub texts-back : CoreTextIsReadBack → TextsAreReadBack
-texts-back back files roots path found s records program text h fit = runs-back back prelude_table files roots path found s records program text h (all-read files roots path found s records program h.run fit)
+texts-back back files roots path found s records program text h = back records (plan_of records program) program text (is-text files roots path found s records program text h)
 
 pub texts-tell : CoreTextTellsItsLines → TextsTellTheirLines
-texts-tell tells files files' roots roots' path path' found found' s s' records records' program program' text h fit k fit' =
-    runs-tell tells prelude_table prelude_table files files' roots roots' path path' found found' s s' records records' program program' text
-    h (all-read files roots path found s records program h.run fit) k (all-read files' roots' path' found' s' records' program' k.run fit')
+texts-tell tells files files' roots roots' path path' found found' s s' records records' program program' text h k =
+    tells records records' (plan_of records program) (plan_of records' program') program program' text
+    (is-text files roots path found s records program text h) (is-text files' roots' path' found' s' records' program' text k)

@@ -10,9 +10,9 @@ use Rattle.sx_core.specs.Labels.{same_label}
 use Rattle.sx_core.specs.References.{binders, mentions, references}
 use Rattle.sx_core.specs.declared.record.LibRecord.{LibRecord}
 use Rattle.sx_core.specs.declared.record.Line.{Line}
-use Rattle.sx_core_grammar.specs.Laws.{IsCoreText, CoreTextIsReadBack, CoreTextTellsItsLines}
+use Rattle.sx_core_grammar.specs.Laws.{IsCoreText}
 use Rattle.sx_core_grammar.specs.Names.{IsPrimitive}
-use Rattle.sx_core_grammar.specs.Spellable.{HasName, IsLineSpellable}
+use Rattle.sx_core_grammar.specs.Spellable.{HasName, IsLineSpellable, CanBeRead, constants}
 use Rattle.sx_core_grammar.proofs.Bound.{names_are_generated}
 use Rattle.sx_core_grammar.proofs.Whole.{spell_lines, whole_checked}
 use Rattle.sx_core_laws.specs.Follows.{line_cores}
@@ -35,7 +35,7 @@ use Rattle.sx_run_laws.specs.Run.{AllStand}
 use Rattle.sx_run_laws.proofs.ClosedLemmas.{each_place, all_standing, runs_are_closed_once}
 use Rattle.sx_run_laws.proofs.RunLemmas.{same_place, all_records_stand}
 use Rattle.sx_run_laws.proofs.UserLemmas.{user_at}
-use Rattle.sx_run_laws.specs.Spelled.{run_names, run_lines, GivesText, CanAllBeRead, RunsAreSpelled, RunsAreReadBack, RunsTellTheirLines}
+use Rattle.sx_run_laws.specs.Spelled.{run_names, run_lines, GivesText, RunsAreSpelled}
 use Rattle.sx_run_laws.proofs.SpelledLines.{text-lines}
 use Rattle.sx_text_laws.specs.Standing.{AreStanding}
 use Rattle.sx_text_laws.specs.Text.{text_of, IsClosedOnce}
@@ -135,18 +135,13 @@ runs-spelled prelude files roots path found s records program text h =
     let spelled = spell_lines (run_names records program) (run_lines records program) (whole_checked records (plan_of records program) program text h.given) spellable in
     record { generated = names_are_generated records (plan_of records program) program; spellable = spellable; spellings = spelled.ds; spelled = spelled.spelled }
 
--- it is core text
-core-text : (prelude : Result Codes Fault) (files : Paths) (roots : List (List ℕ)) (path : List ℕ) (found : Found) (s : Loading) (records : List LibRecord) (program : LibRecord) (text : List ℕ)
+-- each constant of the lines can be read
+abbrev pub CanAllBeRead : List Line → Type 0
+CanAllBeRead lines = Each (λ l. Each CanBeRead (constants (line_core l))) lines
+
+-- then the text is core text
+pub core-text : (prelude : Result Codes Fault) (files : Paths) (roots : List (List ℕ)) (path : List ℕ) (found : Found) (s : Loading) (records : List LibRecord) (program : LibRecord) (text : List ℕ)
     → GivesText prelude files roots path found s records program text → CanAllBeRead (run_lines records program) → IsCoreText records (plan_of records program) program text
 core-text prelude files roots path found s records program text h readable =
     let k = runs-spelled prelude files roots path found s records program text h in
     record { given = h.given; generated = k.generated; spellable = k.spellable; readable = readable }
-
-pub runs-back : CoreTextIsReadBack → RunsAreReadBack
-runs-back back prelude files roots path found s records program text h readable =
-    back records (plan_of records program) program text (core-text prelude files roots path found s records program text h readable)
-
-pub runs-tell : CoreTextTellsItsLines → RunsTellTheirLines
-runs-tell tells prelude prelude' files files' roots roots' path path' found found' s s' records records' program program' text h readable k readable' =
-    tells records records' (plan_of records program) (plan_of records' program') program program' text
-    (core-text prelude files roots path found s records program text h readable) (core-text prelude' files' roots' path' found' s' records' program' text k readable')

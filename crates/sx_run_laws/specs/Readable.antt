@@ -2,10 +2,9 @@
 use Rattle.std.specs.Prelude.{◌≡◌, ℕ, List, [], ◌∷◌, ◌++◌, map, Result, Ok}
 use Rattle.sx_base.specs.declared.fault.Fault.{Fault}
 use Rattle.sx_core.specs.declared.record.LibRecord.{LibRecord}
-use Rattle.sx_core.specs.declared.record.Line.{Line}
 use Rattle.sx_core_grammar.specs.ReadBack.{IsReadBack}
 use Rattle.sx_core_grammar.specs.SameCode.{line_by_names}
-use Rattle.sx_core_grammar.specs.Spellable.{constants}
+use Rattle.sx_core_grammar.specs.Spellable.{CanBeRead, constants}
 use Rattle.sx_core_laws.specs.Records.{line_core}
 use Rattle.sx_core_laws.specs.Words.{Each}
 use Rattle.sx_eval.specs.Codes.{Codes}
@@ -14,7 +13,6 @@ use Rattle.sx_load.specs.declared.found.Loading.{Loading}
 use Rattle.sx_outside.specs.Contents.{Paths}
 use Rattle.sx_prelude.specs.Prelude.{prelude_table}
 use Rattle.sx_readable_expansion_laws.specs.Records.{ReadableRecord}
-use Rattle.sx_readable_laws.specs.Integers.{IntegersFit}
 use Rattle.sx_readable_laws.specs.Readable.{ReadableCodes}
 use Rattle.sx_run_laws.specs.Run.{IsRun}
 use Rattle.sx_run_laws.specs.Spelled.{run_names, run_lines, GivesText}
@@ -32,19 +30,19 @@ abbrev pub RunsAreReadable : Type 0
 RunsAreReadable = (files : Paths) (roots : List (List ℕ)) (path : List ℕ) (found : Found) (s : Loading) (records : List LibRecord) (program : LibRecord)
     → IsRun prelude_table files roots path found s records program → Each ReadableRecord (records ++ program ∷ [])
 
--- 128 bits hold each integer of the lines
-abbrev pub AllIntegersFit : List Line → Type 0
-AllIntegersFit lines = Each (λ l. Each IntegersFit (constants (line_core l))) lines
+-- So each constant in the lines of its text is read back, where some number of forms may be nested.
+abbrev pub ConstantsAreRead : Type 0
+ConstantsAreRead = (files : Paths) (roots : List (List ℕ)) (path : List ℕ) (found : Found) (s : Loading) (records : List LibRecord) (program : LibRecord)
+    → IsRun prelude_table files roots path found s records program → Each (λ l. Each CanBeRead (constants (line_core l))) (run_lines records program)
 
--- So the text of such a run is read back, where its integers have 128 bits.
+-- And the whole text is.
 abbrev pub TextsAreReadBack : Type 0
 TextsAreReadBack = (files : Paths) (roots : List (List ℕ)) (path : List ℕ) (found : Found) (s : Loading) (records : List LibRecord) (program : LibRecord) (text : List ℕ)
-    → GivesText prelude_table files roots path found s records program text → AllIntegersFit (run_lines records program) → IsReadBack (run_names records program) (run_lines records program) text
+    → GivesText prelude_table files roots path found s records program text → IsReadBack (run_names records program) (run_lines records program) text
 
 -- Two such runs with one text have the same lines but for their variables, of which the text tells the names.
 abbrev pub TextsTellTheirLines : Type 0
 TextsTellTheirLines = (files files' : Paths) (roots roots' : List (List ℕ)) (path path' : List ℕ) (found found' : Found) (s s' : Loading)
     (records records' : List LibRecord) (program program' : LibRecord) (text : List ℕ)
-    → GivesText prelude_table files roots path found s records program text → AllIntegersFit (run_lines records program)
-    → GivesText prelude_table files' roots' path' found' s' records' program' text → AllIntegersFit (run_lines records' program')
+    → GivesText prelude_table files roots path found s records program text → GivesText prelude_table files' roots' path' found' s' records' program' text
     → map (line_by_names (run_names records program)) (run_lines records program) ≡ map (line_by_names (run_names records' program')) (run_lines records' program')

@@ -1,15 +1,12 @@
--- The core text of a run: how it is spelled, and what it is read as.
-use Rattle.std.specs.Prelude.{◌≡◌, ℕ, List, map, Result, Ok}
+-- The core text of a run, and how it is spelled.
+use Rattle.std.specs.Prelude.{◌≡◌, ℕ, List, Result, Ok}
 use Rattle.sx_base.specs.Datum.{PlainDatum}
 use Rattle.sx_base.specs.declared.fault.Fault.{Fault}
 use Rattle.sx_core.specs.declared.record.LibRecord.{LibRecord}
 use Rattle.sx_core.specs.declared.record.Line.{Line}
 use Rattle.sx_core_grammar.specs.Lines.{SpellLines, all_lines}
 use Rattle.sx_core_grammar.specs.Names.{AreGenerated}
-use Rattle.sx_core_grammar.specs.ReadBack.{IsReadBack}
-use Rattle.sx_core_grammar.specs.SameCode.{line_by_names}
-use Rattle.sx_core_grammar.specs.Spellable.{IsLineSpellable, CanBeRead, constants}
-use Rattle.sx_core_laws.specs.Records.{line_core}
+use Rattle.sx_core_grammar.specs.Spellable.{IsLineSpellable}
 use Rattle.sx_core_laws.specs.Words.{Each}
 use Rattle.sx_core_text.specs.CoreText.{Names}
 use Rattle.sx_core_text.specs.Whole.{all_names, core_text}
@@ -42,20 +39,3 @@ pub record IsSpelled (names : Names) (lines : List Line) : Type 0 where
 abbrev pub RunsAreSpelled : Type 0
 RunsAreSpelled = (prelude : Result Codes Fault) (files : Paths) (roots : List (List ℕ)) (path : List ℕ) (found : Found) (s : Loading) (records : List LibRecord) (program : LibRecord) (text : List ℕ)
     → GivesText prelude files roots path found s records program text → IsSpelled (run_names records program) (run_lines records program)
-
--- each constant of the lines can be read, where some number of forms may be nested
-abbrev pub CanAllBeRead : List Line → Type 0
-CanAllBeRead lines = Each (λ l. Each CanBeRead (constants (line_core l))) lines
-
-abbrev pub RunsAreReadBack : Type 0
-RunsAreReadBack = (prelude : Result Codes Fault) (files : Paths) (roots : List (List ℕ)) (path : List ℕ) (found : Found) (s : Loading) (records : List LibRecord) (program : LibRecord) (text : List ℕ)
-    → GivesText prelude files roots path found s records program text → CanAllBeRead (run_lines records program)
-    → IsReadBack (run_names records program) (run_lines records program) text
-
--- two runs with one text have the same lines but for their variables, of which the text tells the names
-abbrev pub RunsTellTheirLines : Type 0
-RunsTellTheirLines = (prelude prelude' : Result Codes Fault) (files files' : Paths) (roots roots' : List (List ℕ)) (path path' : List ℕ) (found found' : Found) (s s' : Loading)
-    (records records' : List LibRecord) (program program' : LibRecord) (text : List ℕ)
-    → GivesText prelude files roots path found s records program text → CanAllBeRead (run_lines records program)
-    → GivesText prelude' files' roots' path' found' s' records' program' text → CanAllBeRead (run_lines records' program')
-    → map (line_by_names (run_names records program)) (run_lines records program) ≡ map (line_by_names (run_names records' program')) (run_lines records' program')

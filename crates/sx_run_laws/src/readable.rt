@@ -8,16 +8,18 @@
 //! (name)                                     the constant "ab"
 //! ```
 //!
-//! Were one of them a symbol without characters, a string that isn't UTF-8, or a vector whose elements aren't a list, then no reader would
-//! give it back. The promise: there are none of these in the codes of the texts that this implementation has, nor in the records of a run.
-//! So the whole text of a run is read as `(import (rnrs))` and the data that spell its lines, where its integers have 128 bits.
+//! Were one of them a symbol without characters, a string that isn't UTF-8, an integer of more than 128 bits, or a vector whose elements
+//! aren't a list, then no reader would give it back. The promise: there are none of these in the codes of the texts that this
+//! implementation has, nor in the records of a run. So each constant in the text of a run is read back, and the whole text is read as
+//! `(import (rnrs))` and the data that spell its lines. In particular two runs that give one text have the same lines, but for what a text
+//! doesn't tell.
 //!
 //! Three laws meet here. Only such data are read (sx_round); no evaluation makes others (sx_readable_laws); and no expansion does
 //! (sx_readable_expansion_laws).
 //!
 //! Here are no calls to make: each function stands for the law that it ensures.
 
-ghost use Rattle.sx_run_laws.specs.Readable.{PreludeIsReadable, RunsAreReadable, TextsAreReadBack, TextsTellTheirLines};
+ghost use Rattle.sx_run_laws.specs.Readable.{PreludeIsReadable, RunsAreReadable, ConstantsAreRead, TextsAreReadBack, TextsTellTheirLines};
 
 use sx_core_grammar::{core_text_is_read_back, core_text_tells_its_lines};
 
@@ -26,19 +28,24 @@ pub fn codes_of_texts_can_be_read()
     ensures { PreludeIsReadable }
 {}
 
-/// All constants in the records of a run can be read, but for the size of integers.
+/// All constants in the records of a run can be read.
 pub fn constants_of_a_run_can_be_read()
     ensures { RunsAreReadable }
 {}
 
-/// The text of a run is read as `(import (rnrs))` and one datum for each line, which spells it, where its integers have 128 bits.
+/// Each constant in the lines of a run's text is read back, where some number of forms may be nested.
+pub fn each_constant_is_read()
+    ensures { ConstantsAreRead }
+{}
+
+/// The text of a run is read as `(import (rnrs))` and one datum for each line, which spells it.
 pub fn the_text_of_a_run_is_read_back()
     ensures { TextsAreReadBack }
 {
     core_text_is_read_back();
 }
 
-/// Two runs with one text have the same lines but for their variables, and these have the same names, where integers have 128 bits.
+/// Two runs with one text have the same lines but for their variables, and these have the same names.
 pub fn the_text_of_a_run_tells_its_lines()
     ensures { TextsTellTheirLines }
 {

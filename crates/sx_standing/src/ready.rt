@@ -1,8 +1,8 @@
 //! Records of libraries, whose frames and bindings are ready for all that need them.
 
-ghost use Rattle.std.specs.Prelude.{◌≡◌, ◌∷◌, ◌++◌, [], IfOk, OnOk, OnErr};
+ghost use Rattle.std.specs.Prelude.{◌≡◌, ◌∷◌, ◌++◌, [], map, IfOk, OnOk, OnErr};
 ghost use Rattle.sx_frames.specs.Scope.{adopted};
-ghost use Rattle.sx_standing.specs.Ready.{frames_part, bindings_part, needed_records};
+ghost use Rattle.sx_standing.specs.Ready.{frames_part, bindings_part, needed_records, AreReady};
 ghost use Rattle.sx_standing.specs.Start.{rows_of, bindings_of};
 
 use crate::share::share_library;
@@ -50,39 +50,6 @@ impl Model for ReadyRecords {
     ghost invariant = { λ r. IfSome r.tables (λ t. AreReady r.records.items t.frames.value t.bindings.value) };
 }
 
-/// A part more of a table that no expansion shares.
-fn with_frames(
-    alloc: Global,
-    shared: Rc<SharedFrames>,
-    given: &GivenFrames,
-) -> Result<Rc<SharedFrames>, Memory>
-    ensures { IfOk result (λ s. s.value ≡ shared.value ++ given.now ∷ []) }
-{
-    let Ok(table) = Rc::try_unwrap(shared) else {
-        return Err(Memory);
-    };
-    let mut table = table;
-    table.push(given)?;
-    let shared = Rc::new(alloc, table)?;
-    Ok(shared)
-}
-
-fn with_bindings(
-    alloc: Global,
-    shared: Rc<SharedBindings>,
-    given: &GivenBindings,
-) -> Result<Rc<SharedBindings>, Memory>
-    ensures { IfOk result (λ s. s.value ≡ shared.value ++ given.now ∷ []) }
-{
-    let Ok(table) = Rc::try_unwrap(shared) else {
-        return Err(Memory);
-    };
-    let mut table = table;
-    table.push(given)?;
-    let shared = Rc::new(alloc, table)?;
-    Ok(shared)
-}
-
 /// The frames of a record.
 fn frames_of(alloc: Global, one: &LibRecord) -> Result<GivenFrames, Memory>
     ensures { IfOk result (λ g. g ≡ frames_part one.now) }
@@ -101,15 +68,80 @@ fn bindings_in(alloc: Global, one: &LibRecord) -> Result<GivenBindings, Memory>
     GivenBindings::new(alloc, library, one.bindings.as_slice())
 }
 
-fn with_record(alloc: Global, tables: Tables, one: &LibRecord) -> Result<Tables, Memory>
+/// The frames of all the records, in a table of their own.
+fn frames_anew(alloc: Global, records: &[LibRecord]) -> Result<SharedFrames, Memory>
+    ensures { IfOk result (λ s. s ≡ map frames_part records.now) }
+{
+    let mut table = SharedFrames::new(alloc);
+    for one in records {
+        let given = frames_of(alloc, one)?;
+        table.push(&given)?;
+    }
+    Ok(table)
+}
+
+/// What all the records bind, in a table of its own.
+fn bindings_anew(alloc: Global, records: &[LibRecord]) -> Result<SharedBindings, Memory>
+    ensures { IfOk result (λ s. s ≡ map bindings_part records.now) }
+{
+    let mut table = SharedBindings::new(alloc);
+    for one in records {
+        let bound = bindings_in(alloc, one)?;
+        table.push(&bound)?;
+    }
+    Ok(table)
+}
+
+/// The table of the frames, or one that is made anew while an expansion shares it.
+fn own_frames(
+    alloc: Global,
+    shared: Rc<SharedFrames>,
+    records: &[LibRecord],
+) -> Result<SharedFrames, Memory>
+    requires { shared.value ≡ map frames_part records.now }
+    ensures { IfOk result (λ s. s ≡ shared.value) }
+{
+    match Rc::try_unwrap(shared) {
+        Ok(table) => Ok(table),
+        Err(_) => frames_anew(alloc, records),
+    }
+}
+
+/// The table of what is bound, or one that is made anew while an expansion shares it.
+fn own_bindings(
+    alloc: Global,
+    shared: Rc<SharedBindings>,
+    records: &[LibRecord],
+) -> Result<SharedBindings, Memory>
+    requires { shared.value ≡ map bindings_part records.now }
+    ensures { IfOk result (λ s. s ≡ shared.value) }
+{
+    match Rc::try_unwrap(shared) {
+        Ok(table) => Ok(table),
+        Err(_) => bindings_anew(alloc, records),
+    }
+}
+
+/// The tables of the records, with one more record's part in each.
+fn with_record(
+    alloc: Global,
+    tables: Tables,
+    records: &[LibRecord],
+    one: &LibRecord,
+) -> Result<Tables, Memory>
+    requires { AreReady records.now tables.frames.value tables.bindings.value }
     ensures frames { IfOk result (λ t. t.frames.value ≡ tables.frames.value ++ frames_part one.now ∷ []) }
     ensures bindings { IfOk result (λ t. t.bindings.value ≡ tables.bindings.value ++ bindings_part one.now ∷ []) }
 {
     let given = frames_of(alloc, one)?;
     let bound = bindings_in(alloc, one)?;
     let Tables { frames, bindings } = tables;
-    let frames = with_frames(alloc, frames, &given)?;
-    let bindings = with_bindings(alloc, bindings, &bound)?;
+    let mut frames = own_frames(alloc, frames, records)?;
+    frames.push(&given)?;
+    let frames = Rc::new(alloc, frames)?;
+    let mut bindings = own_bindings(alloc, bindings, records)?;
+    bindings.push(&bound)?;
+    let bindings = Rc::new(alloc, bindings)?;
     Ok(Tables { frames, bindings })
 }
 
@@ -126,10 +158,10 @@ impl ReadyRecords {
         })
     }
 
-    /// Puts a record at the end. Refused as want of memory are a second record of one library, while an
-    /// expansion shares the tables, one with rows of frames that aren't its library's or with labels that
-    /// aren't, one that binds a label twice, and one that has two rows with one frame, symbol and marks. After a
-    /// refusal the records are as before, and all else is refused.
+    /// Puts a record at the end. While an expansion shares the tables, they are made anew. Refused as want of
+    /// memory are a second record of one library, one with rows of frames that aren't its library's or with
+    /// labels that aren't, one that binds a label twice, and one that has two rows with one frame, symbol and
+    /// marks. After a refusal the records are as before, and all else is refused.
     pub fn push(&mut self, alloc: Global, last: LibRecord) -> Result<(), Memory>
         ensures ok { OnOk result (self.new ≡ self.old ++ last ∷ []) }
         ensures err { OnErr result (self.new ≡ self.old) }
@@ -137,7 +169,7 @@ impl ReadyRecords {
         let Some(tables) = self.tables.take() else {
             return Err(Memory);
         };
-        let tables = with_record(alloc, tables, &last)?;
+        let tables = with_record(alloc, tables, &self.records, &last)?;
         self.records.push(last)?;
         self.tables = Some(tables);
         Ok(())

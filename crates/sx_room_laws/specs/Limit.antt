@@ -1,0 +1,44 @@
+-- How deep forms may nest: 600 core forms and applications may stand round a form, and no more (R6RS leaves such limits to an
+-- implementation).
+use Rattle.std.specs.Prelude.{◌≡◌, ◌<◌, ◌≤◌, ℕ, true, false, List, [], ◌∷◌, length, Option, None, Ok}
+use Rattle.sx_base.specs.declared.atom.Atom.{Atom}
+use Rattle.sx_base.specs.declared.fault.FaultKind.TheVariants as kind
+use Rattle.sx_base.specs.declared.span.Span.{Span}
+use Rattle.sx_tree.specs.Tree.{Tree, atom, pair, nil}
+use Rattle.sx_tree.specs.Leaves.{strip}
+use Rattle.sx_core.specs.Core.{quoted}
+use Rattle.sx_core.specs.declared.core_form.CoreForm.TheVariants as core_forms
+use Rattle.sx_core.specs.declared.record.LibRecord.{LibRecord}
+use Rattle.sx_shapes.specs.Lists.{is_leaf, is_nil_atom}
+use Rattle.sx_standing.specs.Standing.{standing_of}
+use Rattle.sx_standing.specs.State.{State, fault_form}
+use Rattle.sx_standing.specs.declared.standing.Standing.TheVariants as standing
+use Rattle.sx_heads.specs.declared.taken.BodyAt.{BodyAt}
+use Rattle.sx_heads.specs.declared.taken.Taken.{Taken}
+use Rattle.sx_expand.specs.Expanding.{expression}
+use Rattle.sx_expand.specs.Expression.{inside}
+
+-- `(begin (begin ... form))`, with a `begin` for each of the spans
+abbrev pub begun : List (Option Span) → Tree → Tree → Tree
+begun [] word form = form
+begun (s ∷ ss) word form = pair s word (pair None (begun ss word form) nil)
+
+-- an identifier that stands for `begin`
+pub record IsBegin (s : State) (word : Tree) : Type 0 where
+  pub leaf : is_leaf word ≡ true
+  pub stands : standing_of s word ≡ standing.Core core_forms.Begin
+
+pub record LimitOfNesting : Type 0 where
+  -- With more round it a form is TooDeep, whatever form it is, at its place, and whatever the room is: an expression,
+  pub expressions : (records : List LibRecord) (room : ℕ) (place : Span) (level depth : ℕ) (t : Tree) (s : State) → 600 < depth → (inside records room).form place level depth t s ≡ fault_form kind.TooDeep t place s
+  -- and a form of a body.
+  pub items : (records : List LibRecord) (room : ℕ) (at : BodyAt) (depth : ℕ) (done : Taken) (t : Tree) (s : State) → 600 < depth → (inside records room).item at depth done t s ≡ fault_form kind.TooDeep t at.place s
+  -- `begin`s round a form make it so much deeper, and nothing else.
+  pub begins : (records : List LibRecord) (place : Span) (level : ℕ) (ss : List (Option Span)) (word t : Tree) (s : State) → IsBegin s word → length ss ≤ 601
+      → expression records place level (begun ss word t) s ≡ (inside records 602).form place level (length ss) t s
+  -- So a constant in 600 of them is taken,
+  pub taken : (records : List LibRecord) (place : Span) (level : ℕ) (ss : List (Option Span)) (word : Tree) (o : Option Span) (a : Atom) (s : State) → IsBegin s word → length ss ≤ 600 → is_nil_atom a ≡ false
+      → expression records place level (begun ss word (atom o a)) s ≡ Ok (quoted (strip (atom o a)), s)
+  -- and any form in 601 of them is TooDeep.
+  pub refused : (records : List LibRecord) (place : Span) (level : ℕ) (ss : List (Option Span)) (word t : Tree) (s : State) → IsBegin s word → length ss ≡ 601
+      → expression records place level (begun ss word t) s ≡ fault_form kind.TooDeep t place s
