@@ -181,6 +181,7 @@ fn kind_of(library: &LibName) -> BodyKind
 
 /// The second pass. What has waited goes as soon as it is done: the forms of a long body and their core code aren't kept
 /// side by side.
+#[tactic(auto, using(crate::proofs::Taking::each_none))]
 fn finish_each<N: Ledger, L: Ledger>(
     state: &mut Expansion,
     waiting: Items<Waiting>,
@@ -233,6 +234,7 @@ fn body_at(state: &Expansion, at: &TopAt) -> Result<BodyAt, Memory>
 }
 
 /// The first pass over forms. Each goes as soon as it is done: a use and what it expands to aren't kept side by side.
+#[tactic(auto, using(crate::proofs::Taking::gather_none))]
 fn splice_each<N: Ledger, L: Ledger>(
     state: &mut Expansion,
     at: &BodyAt,

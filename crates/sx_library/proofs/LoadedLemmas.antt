@@ -24,7 +24,12 @@ module _ {S X : Type 0} (step : S → X → Result S Fault) (left others : List 
 abbrev pub next_found : Result Codes Fault → List LibRecord → Found → Result (List LibRecord) Fault
 next_found prelude records found = expand_next prelude records ([], found)
 
-pub by_value : (prelude : Result Codes Fault) (records : List LibRecord) (rows : List (List ℕ × Found))
+values_alone : (prelude : Result Codes Fault) (records : List LibRecord) (rows : List (List ℕ × Found))
     → turns (next_found prelude) records (map (λ (e : List ℕ × Found). e.1) rows) ≡ turns (expand_next prelude) records rows
-by_value prelude records [] = refl
-by_value prelude records (row ∷ rows) = λ i. expand_next prelude records row >>= (λ rs. by_value prelude rs rows i)
+values_alone prelude records [] = refl
+values_alone prelude records (row ∷ rows) = λ i. expand_next prelude records row >>= (λ rs. values_alone prelude rs rows i)
+
+-- the libraries of a table, without their names, give what the table gives
+pub by_value : (prelude : Result Codes Fault) (records : List LibRecord) (rows : List (List ℕ × Found)) (found : List Found) → found ≡ map (λ (e : List ℕ × Found). e.1) rows
+    → turns (next_found prelude) records found ≡ turns (expand_next prelude) records rows
+by_value prelude records rows found is = ap (turns (next_found prelude) records) is ∙ values_alone prelude records rows

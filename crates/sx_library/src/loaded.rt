@@ -122,6 +122,7 @@ fn expand_program<N: Ledger, L: Ledger>(
 }
 
 // Records, and behind them those of libraries in the order of loading.
+#[tactic(auto, using(crate::proofs::LoadedLemmas::by_value))]
 fn records_behind<N: Ledger, L: Ledger>(
     alloc: Global,
     prelude: &Prelude,
