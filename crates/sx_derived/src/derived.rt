@@ -76,14 +76,14 @@ fn forms_of(alloc: Global, place: &Span, text: &[u8]) -> Result<Items<Syn>, Stop
     trees(alloc, place, &found)
 }
 
-// The derived library before it is expanded.
+// What stands round the forms of the derived library.
 #[derive(Drop)]
 struct Text<'a> {
+    alloc: Global,
     /// Its start.
     place: &'a Span,
     imports: &'a [(Symbol, Label)],
     exports: &'a [(Symbol, Syn)],
-    forms: &'a [Syn],
 }
 
 // An expander behind no records.
@@ -99,49 +99,42 @@ fn expander_of(
     Expander::new(alloc, LibName::Derived, path, &records, &[], names, codes)
 }
 
-// The record of this text.
+// The record of these forms.
 fn record_by<N: Ledger, L: Ledger>(
-    alloc: Global,
     begun: Expander,
     text: &Text,
+    forms: Items<Syn>,
     prims: &PrimTable,
     counts: &mut Counts<N, L>,
 ) -> Result<LibRecord, Stop>
     requires { begun.failed ≡ false }
-    ensures { Gives (λ r. r) result (library_record begun [] [] text.now.place.now text.now.exports.now text.now.forms.now) }
+    ensures { Gives (λ r. r) result (library_record begun [] [] text.now.place.now text.now.exports.now forms) }
 {
     let earlier = Earlier {
         records: &[],
         needs: &[],
     };
     let means = Means { earlier, prims };
-    let version = Items::new(alloc);
-    begun.top(
-        text.forms,
-        text.place,
-        text.exports,
-        version,
-        &means,
-        counts,
-    )
+    let version = Items::new(text.alloc);
+    begun.top(forms, text.place, text.exports, version, &means, counts)
 }
 
-// The record of this text, where this is what the procedures mean that are texts.
+// The record of these forms, where this is what the procedures mean that are texts.
 #[tactic(auto, unfolding(crate::specs::Derived::record_of))]
 fn record_of<N: Ledger, L: Ledger>(
-    alloc: Global,
     codes: IndexMap<CodeNo, Rc<Code>>,
     text: &Text,
+    forms: Items<Syn>,
     prims: &PrimTable,
     counts: &mut Counts<N, L>,
 ) -> Result<LibRecord, Stop>
     requires imports { text.now.imports.now ≡ names }
     requires exports { text.now.exports.now ≡ exports_of derived }
     requires place { text.now.place.now ≡ start }
-    ensures { Gives (λ r. r) result (record_of (table.seen codes.entries) text.now.forms.now) }
+    ensures { Gives (λ r. r) result (record_of (table.seen codes.entries) forms) }
 {
-    let begun = expander_of(alloc, text.imports, codes)?;
-    record_by(alloc, begun, text, prims, counts)
+    let begun = expander_of(text.alloc, text.imports, codes)?;
+    record_by(begun, text, forms, prims, counts)
 }
 
 /// The record of the derived library. It is expanded behind no other.
@@ -159,12 +152,12 @@ pub fn derived_record<N: Ledger, L: Ledger>(
     let exports = exports_of(alloc, &DERIVED)?;
     let codes = implementation.prelude.codes(alloc)?;
     let text = Text {
+        alloc,
         place: &place,
         imports: names.as_slice(),
         exports: exports.as_slice(),
-        forms: forms.as_slice(),
     };
-    record_of(alloc, codes, &text, implementation.primitives, counts)
+    record_of(codes, &text, forms, implementation.primitives, counts)
 }
 
 // The label under which a record exports a name, or another.

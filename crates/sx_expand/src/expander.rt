@@ -131,11 +131,11 @@ impl Expander {
         }
     }
 
-    /// The record of a library or program with this body. The exports are external names, each with the
+    /// The record of a library or program with this body, whose forms go on the way. The exports are external names, each with the
     /// identifier that it stands for.
     pub fn top<N: Ledger, L: Ledger>(
         self,
-        forms: &[Syn],
+        forms: Items<Syn>,
         place: &Span,
         exports: &[(Symbol, Syn)],
         version: Items<u64>,
@@ -143,7 +143,7 @@ impl Expander {
         counts: &mut Counts<N, L>,
     ) -> Result<LibRecord, Stop>
         requires { self.failed ≡ false }
-        ensures { Gives (λ r. r) result (library_record self (earlier_in means.now.earlier) version place.now exports.now forms.now) }
+        ensures { Gives (λ r. r) result (library_record self (earlier_in means.now.earlier) version place.now exports.now forms) }
     {
         let mut state = self.state;
         match body_of(self.path, version, self.frame, place) {

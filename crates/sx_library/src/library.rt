@@ -47,11 +47,11 @@ pub struct Body {
 
 /// A library or a program that is to be expanded.
 #[derive(Drop)]
-pub struct Unexpanded<'a> {
+pub struct Unexpanded {
     /// Of its file.
-    pub path: &'a Symbol,
-    pub form: &'a LibraryForm,
-    pub body: &'a Body,
+    pub path: Symbol,
+    pub form: LibraryForm,
+    pub body: Body,
 }
 
 // What stands in the record of a library beside what the forms of its body give, and these forms.
@@ -61,7 +61,7 @@ struct Text<'a> {
     place: &'a Span,
     version: Items<u64>,
     exports: &'a [(Symbol, Syn)],
-    forms: &'a [Syn],
+    forms: Items<Syn>,
 }
 
 // Where a library comes from: its name, and the path of its file.
@@ -88,25 +88,27 @@ pub fn body_of(
     Ok(Body { names, forms })
 }
 
-/// The record of a library or a program, from its form and its body, behind the records that it needs.
+/// The record of a library or a program, from its form and its body, which goes on the way, behind the records that it needs.
 #[tactic(auto, unfolding(crate::specs::Library::expand_body))]
 pub fn expand_body<N: Ledger, L: Ledger>(
     alloc: Global,
     implementation: &Implementation,
     needed: &Needed,
-    unexpanded: &Unexpanded,
+    unexpanded: Unexpanded,
     counts: &mut Counts<N, L>,
 ) -> Result<LibRecord, Stop>
-    ensures { Gives (λ r. r) result (expand_body (kept implementation.now.prelude) (needed_records needed.now.records.now needed.now.marks.now) unexpanded.now.path.now unexpanded.now.form.now unexpanded.now.body.now) }
+    ensures { Gives (λ r. r) result (expand_body (kept implementation.now.prelude) (needed_records needed.now.records.now needed.now.marks.now) unexpanded.path unexpanded.form unexpanded.body) }
 {
     let exports = export_trees(alloc, &unexpanded.form.exports)?;
     let version = share_version(alloc, unexpanded.form.version.as_slice())?;
-    let begun = expander_of(alloc, &implementation.prelude, needed, unexpanded)?;
+    let begun = expander_of(alloc, &implementation.prelude, needed, &unexpanded)?;
+    let Unexpanded { form, body, .. } = unexpanded;
+    let Body { forms, .. } = body;
     let text = Text {
-        place: &unexpanded.form.name_span,
+        place: &form.name_span,
         version,
         exports: exports.as_slice(),
-        forms: unexpanded.body.forms.as_slice(),
+        forms,
     };
     record_behind(begun, needed, text, implementation.primitives, counts)
 }
@@ -118,7 +120,7 @@ fn expander_of(
     needed: &Needed,
     unexpanded: &Unexpanded,
 ) -> Result<Expander, Stop>
-    ensures given { Gives (λ e. e) result (expander_of (kept prelude.now) unexpanded.now.form.now.name unexpanded.now.path.now (needed_records needed.now.records.now needed.now.marks.now) unexpanded.now.body.now.names) }
+    ensures given { Gives (λ e. e) result (expander_of (kept prelude.now) unexpanded.now.form.name unexpanded.now.path (needed_records needed.now.records.now needed.now.marks.now) unexpanded.now.body.names) }
     ensures ok { IfOk result (λ e. e.failed ≡ false) }
 {
     let name = share_library(alloc, &unexpanded.form.name)?;
@@ -143,7 +145,7 @@ fn record_behind<N: Ledger, L: Ledger>(
     counts: &mut Counts<N, L>,
 ) -> Result<LibRecord, Stop>
     requires { begun.failed ≡ false }
-    ensures { Gives (λ r. r) result (library_record begun (needed_records needed.now.records.now needed.now.marks.now) text.entry.version text.entry.place.now text.entry.exports.now text.entry.forms.now) }
+    ensures { Gives (λ r. r) result (library_record begun (needed_records needed.now.records.now needed.now.marks.now) text.entry.version text.entry.place.now text.entry.exports.now text.entry.forms) }
 {
     let Text {
         place,

@@ -6,6 +6,7 @@ ghost use Rattle.sx_base.specs.Gives.{Gives, Stops};
 ghost use Rattle.sx_prelude.specs.Prelude.{kept};
 ghost use Rattle.sx_import.specs.Turns.{turns};
 ghost use Rattle.sx_forms.specs.Form.{library_body, program_body};
+ghost use Rattle.sx_load.specs.declared.found.Loading.{Loading};
 ghost use Rattle.sx_library.specs.Loaded.{expand_found, expand_next, all_records, planned_text, text_of};
 
 use crate::library::{Unexpanded, body_of, expand_body};
@@ -22,7 +23,7 @@ use sx_derived::derived::derived_record;
 use sx_derived::implementation::Implementation;
 use sx_forms::form::{LibraryForm, library_body, program_body};
 use sx_import::table::Table;
-use sx_load::found::{Found, Loading, Opened};
+use sx_load::found::{Found, Opened};
 use sx_plan::planned::planned;
 use sx_standing::means::Counts;
 
@@ -52,40 +53,36 @@ fn expand_next<N: Ledger, L: Ledger>(
     alloc: Global,
     implementation: &Implementation,
     records: &mut Records,
-    found: &Found,
+    found: Found,
     counts: &mut Counts<N, L>,
 ) -> Result<(), Stop>
-    ensures { Gives (λ _. records.new) result (expand_next (kept implementation.now.prelude) records.old ([], found.now)) }
+    ensures { Gives (λ _. records.new) result (expand_next (kept implementation.now.prelude) records.old ([], found)) }
 {
     let record = expand_one(alloc, implementation, records, found, counts)?;
     records.push(alloc, record)?;
     Ok(())
 }
 
-// The record of a library behind those that it needs.
+// The record of a library behind those that it needs. Its data go once they are syntax objects.
 fn expand_one<N: Ledger, L: Ledger>(
     alloc: Global,
     implementation: &Implementation,
     records: &Records,
-    found: &Found,
+    found: Found,
     counts: &mut Counts<N, L>,
 ) -> Result<LibRecord, Stop>
-    ensures { Gives (λ r. r) result (expand_found (kept implementation.now.prelude) records.now found.now (library_body found.now.opened.«data»)) }
+    ensures { Gives (λ r. r) result (expand_found (kept implementation.now.prelude) records.now found (library_body found.opened.«data»)) }
 {
-    let opened = &found.opened;
     let marks = with_derived(alloc, found.needs.as_slice())?;
     let needed = Needed {
         records,
         marks: marks.as_slice(),
     };
-    let data = library_body(opened.data.as_slice());
-    let body = body_of(alloc, &needed, &opened.form, data)?;
-    let unexpanded = Unexpanded {
-        path: &opened.path,
-        form: &opened.form,
-        body: &body,
-    };
-    expand_body(alloc, implementation, &needed, &unexpanded, counts)
+    let data = library_body(found.opened.data.as_slice());
+    let body = body_of(alloc, &needed, &found.opened.form, data)?;
+    let (path, form) = without_data(found);
+    let unexpanded = Unexpanded { path, form, body };
+    expand_body(alloc, implementation, &needed, unexpanded, counts)
 }
 
 // The record of a program behind those that it needs. Its data go once they are syntax objects.
@@ -106,29 +103,23 @@ fn expand_program<N: Ledger, L: Ledger>(
     let data = program_body(found.opened.data.as_slice());
     let body = body_of(alloc, &needed, &found.opened.form, data)?;
     let (path, form) = without_data(found);
-    let unexpanded = Unexpanded {
-        path: &path,
-        form: &form,
-        body: &body,
-    };
-    expand_body(alloc, implementation, &needed, &unexpanded, counts)
+    let unexpanded = Unexpanded { path, form, body };
+    expand_body(alloc, implementation, &needed, unexpanded, counts)
 }
 
 // Records, and behind them those of libraries in the order of loading.
+#[tactic(auto, using(crate::proofs::LoadedLemmas::by_value))]
 fn records_behind<N: Ledger, L: Ledger>(
     alloc: Global,
     implementation: &Implementation,
     records: Records,
-    libraries: &Table<Found>,
+    libraries: Table<Found>,
     counts: &mut Counts<N, L>,
 ) -> Result<Records, Stop>
-    ensures { Gives (λ rs. rs) result (turns (expand_next (kept implementation.now.prelude)) records libraries.now) }
+    ensures { Gives (λ rs. rs) result (turns (expand_next (kept implementation.now.prelude)) records libraries) }
 {
     let mut records = records;
-    for place in 0..libraries.size() {
-        let Some((_, found)) = libraries.at(place) else {
-            return Err(Stop::Memory);
-        };
+    for found in libraries.into_values() {
         expand_next(alloc, implementation, &mut records, found, counts)?;
     }
     Ok(records)
@@ -138,10 +129,10 @@ fn records_behind<N: Ledger, L: Ledger>(
 fn all_records<N: Ledger, L: Ledger>(
     alloc: Global,
     implementation: &Implementation,
-    libraries: &Table<Found>,
+    libraries: Table<Found>,
     counts: &mut Counts<N, L>,
 ) -> Result<Records, Stop>
-    ensures { Gives (λ rs. rs) result (all_records (kept implementation.now.prelude) libraries.now) }
+    ensures { Gives (λ rs. rs) result (all_records (kept implementation.now.prelude) libraries) }
 {
     let derived = derived_record(alloc, implementation, counts)?;
     let records = Records::of_one(alloc, derived)?;
@@ -156,19 +147,19 @@ fn planned_text(alloc: Global, records: &[LibRecord], program: &LibRecord) -> Re
     core_text(alloc, records, &plan, program)
 }
 
-/// The core text of a program that was loaded, or the first fault of a library or of the program. The program's data go
+/// The core text of a program that was loaded, or the first fault of a library or of the program. The data of each file go
 /// once they are syntax objects.
 #[tactic(auto, unfolding(crate::specs::Loaded::text_of))]
 pub fn program_text<N: Ledger, L: Ledger>(
     alloc: Global,
     implementation: &Implementation,
     found: Found,
-    loading: &Loading,
+    libraries: Table<Found>,
     counts: &mut Counts<N, L>,
 ) -> Result<String, Stop>
-    ensures { Gives string_bytes result (text_of (kept implementation.now.prelude) (Ok (found, loading.now))) }
+    ensures { (l : Loading) → l.done ≡ libraries → Gives string_bytes result (text_of (kept implementation.now.prelude) (Ok (found, l))) }
 {
-    let records = all_records(alloc, implementation, &loading.done, counts)?;
+    let records = all_records(alloc, implementation, libraries, counts)?;
     let program = expand_program(alloc, implementation, &records, found, counts)?;
     let records = records.into_records();
     planned_text(alloc, &records, &program)
@@ -179,13 +170,13 @@ pub fn program_text<N: Ledger, L: Ledger>(
 pub fn first_fault<N: Ledger, L: Ledger>(
     alloc: Global,
     implementation: &Implementation,
-    loading: &Loading,
+    libraries: Table<Found>,
     fault: Fault,
     counts: &mut Counts<N, L>,
 ) -> Stop
-    ensures { Stops result (text_of (kept implementation.now.prelude) (Err (loading.now, fault))) }
+    ensures { (l : Loading) → l.done ≡ libraries → Stops result (text_of (kept implementation.now.prelude) (Err (l, fault))) }
 {
-    match all_records(alloc, implementation, &loading.done, counts) {
+    match all_records(alloc, implementation, libraries, counts) {
         Ok(_) => Stop::Fault(fault),
         Err(stop) => stop,
     }

@@ -16,5 +16,6 @@
 
 pub mod extent;
 mod form;
+pub mod keywords;
 pub mod partial;
 pub mod step;

@@ -7,7 +7,8 @@ ghost use Rattle.sx_machine.specs.Form.{byte_of};
 ghost use Rattle.sx_machine.specs.Step.{list_with, bytes_with, deliver, tail_of, ended, closed, nested, opened, opened_bytes, dot_in, dotted, step, finish};
 
 use crate::extent::{Extent, fault_at, span_at};
-use crate::form::{abbreviated, byte_of, bytevector, constant, joined, named, nil, vector};
+use crate::form::{abbreviated, byte_of, bytevector, constant, exact, joined, named, nil, vector};
+use crate::keywords::Keywords;
 use crate::partial::{Partial, Parts, State, Tail};
 use std::alloc::Global;
 use sx_base::datum::Datum;
@@ -21,6 +22,7 @@ use sx_lexer::token::{Bracket, Lexeme, Token};
 pub fn step(
     alloc: Global,
     file: &Symbol,
+    keywords: &Keywords,
     nesting: u32,
     state: State,
     lexeme: Lexeme,
@@ -34,7 +36,7 @@ pub fn step(
             let parts = Parts::List(bracket, Items::new(alloc), Tail::Absent);
             opened(alloc, file, nesting, state, parts, at)
         }
-        Token::Close(bracket) => closed(alloc, file, state, bracket, at),
+        Token::Close(bracket) => closed(alloc, file, keywords, state, bracket, at),
         Token::OpenVector => {
             let parts = Parts::Vector(Items::new(alloc));
             opened(alloc, file, nesting, state, parts, at)
@@ -47,11 +49,11 @@ pub fn step(
         Token::Dot => dotted(alloc, file, state, at),
         Token::Atom(value) => {
             let datum = constant(file, value, at)?;
-            deliver(alloc, file, state, datum, at)
+            deliver(alloc, file, keywords, state, datum, at)
         }
         Token::Symbol(name) => {
             let datum = named(file, name, at)?;
-            deliver(alloc, file, state, datum, at)
+            deliver(alloc, file, keywords, state, datum, at)
         }
     }
 }
@@ -61,7 +63,7 @@ pub fn finish(alloc: Global, file: &Symbol, mut state: State) -> Result<Vec<Datu
     ensures { Gives (λ v. v.items) result (finish file.now state.stack state.done) }
 {
     match state.stack.pop() {
-        None => Ok(state.done.into_vec()),
+        None => Ok(exact(state.done)),
         Some(form) => {
             let fault = fault_at(alloc, file, FaultKind::Unclosed, form.opening)?;
             Err(Stop::Fault(fault))
@@ -142,6 +144,7 @@ fn opened_bytes(
 fn deliver(
     alloc: Global,
     file: &Symbol,
+    keywords: &Keywords,
     mut state: State,
     mut datum: Datum,
     mut at: Extent,
@@ -189,7 +192,7 @@ fn deliver(
             }
             Parts::Abbreviation(kind) => {
                 let all = through(opening, at);
-                datum = abbreviated(alloc, file, kind, opening, datum, all)?;
+                datum = abbreviated(alloc, file, keywords, kind, opening, datum, all)?;
                 at = all;
             }
             Parts::Skipped => return Ok(state),
@@ -255,6 +258,7 @@ fn bytes_with(
 fn closed(
     alloc: Global,
     file: &Symbol,
+    keywords: &Keywords,
     mut state: State,
     bracket: Bracket,
     at: Extent,
@@ -267,7 +271,7 @@ fn closed(
     };
     let all = through(form.opening, at);
     let datum = ended(alloc, file, form.parts, bracket, at, all)?;
-    deliver(alloc, file, state, datum, all)
+    deliver(alloc, file, keywords, state, datum, all)
 }
 
 /// The datum that a close ends. The close stands at `at`, the datum at `all`.

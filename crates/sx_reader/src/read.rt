@@ -8,12 +8,14 @@ ghost use Rattle.sx_reader.specs.FirstFault.{OnFault, IsFaultOf};
 ghost use Rattle.sx_reader.specs.Read.{data_of, file_nesting, most_nesting};
 ghost use Rattle.sx_reader.specs.Spells.{Spells};
 
+use crate::names::Names;
 use std::alloc::Global;
 use sx_base::datum::Datum;
 use sx_base::fault::Stop;
 use sx_base::symbol::Symbol;
 use sx_lexer::start::start_of;
 use sx_lexer::tokens::next_lexeme;
+use sx_machine::keywords::Keywords;
 use sx_machine::partial::State;
 use sx_machine::step::{finish, step};
 
@@ -67,6 +69,25 @@ fn read_lexemes(
     ensures spelled { IfOk result (λ v. Spells file.now bytes.now nesting v.items) }
     ensures refused { OnFault result (IsFaultOf file.now bytes.now nesting) }
 {
+    let keywords = Keywords::new(alloc)?;
+    let mut names = Names::new(alloc);
+    read_sharing(alloc, file, bytes, nesting, &keywords, &mut names)
+}
+
+/// As `read_lexemes`, with symbols that data can share.
+fn read_sharing(
+    alloc: Global,
+    file: &Symbol,
+    bytes: &[u8],
+    nesting: u32,
+    keywords: &Keywords,
+    names: &mut Names,
+) -> Result<Vec<Datum>, Stop>
+    requires { length bytes.now < 2 ^ 32 }
+    ensures gives { Gives (λ v. v.items) result (data_of file.now bytes.now nesting) }
+    ensures spelled { IfOk result (λ v. Spells file.now bytes.now nesting v.items) }
+    ensures refused { OnFault result (IsFaultOf file.now bytes.now nesting) }
+{
     let mut state = State::new(alloc);
     let mut at = start_of(alloc, file, bytes)?;
     loop {
@@ -74,6 +95,7 @@ fn read_lexemes(
             return finish(alloc, file, state);
         };
         at = lexeme.to;
-        state = step(alloc, file, nesting, state, lexeme)?;
+        let shared = names.with_shared(lexeme)?;
+        state = step(alloc, file, keywords, nesting, state, shared)?;
     }
 }

@@ -110,10 +110,10 @@ fn source_of<'a>(sources: &'a [Source], path: &Symbol) -> &'a [u8]
 }
 
 // The line of a fault, whose place is that in the file that it names.
-fn line_of(alloc: Global, loading: &Loading, fault: &Fault) -> Result<String, Memory>
-    ensures { IfOk result (λ line. string_bytes line ≡ fault_line fault.now (source_of loading.now.sources fault.now.span.file)) }
+fn line_of(alloc: Global, sources: &[Source], fault: &Fault) -> Result<String, Memory>
+    ensures { IfOk result (λ line. string_bytes line ≡ fault_line fault.now (source_of sources.now fault.now.span.file)) }
 {
-    let source = source_of(loading.sources.as_slice(), &fault.span.file);
+    let source = source_of(sources, &fault.span.file);
     fault_line(alloc, fault, source)
 }
 
@@ -138,8 +138,8 @@ fn prelude<N: Ledger, L: Ledger>(
 
 // What was loaded, and whether a report on it is asked for.
 #[derive(Drop)]
-struct Loaded<'a> {
-    loading: &'a Loading,
+struct Loaded {
+    loading: Loading,
     report: bool,
 }
 
@@ -147,20 +147,24 @@ struct Loaded<'a> {
 fn of_found<N: Ledger, L: Ledger>(
     alloc: Global,
     implementation: &Implementation,
-    loaded: &Loaded,
+    loaded: Loaded,
     found: Found,
     counts: &mut Counts<N, L>,
 ) -> Result<Prepared, Unfinished>
     requires { kept implementation.now.prelude ≡ prelude_table }
-    ensures gives { Prepares result (of_loaded loaded.now.report (Ok (found, loaded.now.loading.now))) }
+    ensures gives { Prepares result (of_loaded loaded.report (Ok (found, loaded.loading))) }
     ensures unread { result ≢ Err Unfinished.Read }
 {
-    match program_text(alloc, implementation, found, loaded.loading, counts) {
-        Ok(text) => {
-            let report = report_if(alloc, loaded.report, loaded.loading)?;
-            Ok(Prepared { text, report })
-        }
-        Err(Stop::Fault(fault)) => Err(Unfinished::Line(line_of(alloc, loaded.loading, &fault)?)),
+    let Loaded { loading, report } = loaded;
+    let report = report_if(alloc, report, &loading)?;
+    let Loading { done, sources, .. } = loading;
+    match program_text(alloc, implementation, found, done, counts) {
+        Ok(text) => Ok(Prepared { text, report }),
+        Err(Stop::Fault(fault)) => Err(Unfinished::Line(line_of(
+            alloc,
+            sources.as_slice(),
+            &fault,
+        )?)),
         Err(Stop::Memory) => Err(Unfinished::Memory),
     }
 }
@@ -169,16 +173,17 @@ fn of_found<N: Ledger, L: Ledger>(
 fn of_fault<N: Ledger, L: Ledger>(
     alloc: Global,
     implementation: &Implementation,
-    loaded: &Loaded,
+    loaded: Loaded,
     fault: Fault,
     counts: &mut Counts<N, L>,
 ) -> Result<Prepared, Unfinished>
     requires { kept implementation.now.prelude ≡ prelude_table }
-    ensures gives { Prepares result (of_loaded loaded.now.report (Err (loaded.now.loading.now, fault))) }
+    ensures gives { Prepares result (of_loaded loaded.report (Err (loaded.loading, fault))) }
     ensures unread { result ≢ Err Unfinished.Read }
 {
-    match first_fault(alloc, implementation, loaded.loading, fault, counts) {
-        Stop::Fault(fault) => Err(Unfinished::Line(line_of(alloc, loaded.loading, &fault)?)),
+    let Loading { done, sources, .. } = loaded.loading;
+    match first_fault(alloc, implementation, done, fault, counts) {
+        Stop::Fault(fault) => Err(Unfinished::Line(line_of(alloc, sources.as_slice(), &fault)?)),
         Stop::Memory => Err(Unfinished::Memory),
     }
 }
@@ -205,12 +210,12 @@ fn of_job<F: Files, N: Ledger, L: Ledger>(
         &mut loading,
     );
     let loaded = Loaded {
-        loading: &loading,
+        loading,
         report: job.report,
     };
     match came {
-        Ok(found) => of_found(alloc, implementation, &loaded, found, counts),
-        Err(Halt::Fault(fault)) => of_fault(alloc, implementation, &loaded, fault, counts),
+        Ok(found) => of_found(alloc, implementation, loaded, found, counts),
+        Err(Halt::Fault(fault)) => of_fault(alloc, implementation, loaded, fault, counts),
         Err(Halt::Read) => Err(Unfinished::Read),
         Err(Halt::Memory) => Err(Unfinished::Memory),
     }

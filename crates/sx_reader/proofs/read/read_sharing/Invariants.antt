@@ -4,7 +4,7 @@ use Rattle.sx_lexer.specs.Tokens.{next_lexeme}
 use Rattle.sx_reader.specs.Read.{data_of}
 use Rattle.sx_reader.proofs.Taken.{Taken}
 use Rattle.sx_reader.proofs.Turns.{Comes}
-use Rattle.sx_reader.proofs.read.read_lexemes.Given as goal
+use Rattle.sx_reader.proofs.read.read_sharing.Given as goal
 
 abbrev pub invariant-loop-state : goal.invariant-loop-state
 invariant-loop-state l = record {
