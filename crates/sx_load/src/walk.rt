@@ -18,7 +18,6 @@ use std::alloc::Global;
 use sx_base::fault::{FaultKind, Stop};
 use sx_base::items::Items;
 use sx_base::memory::Memory;
-use sx_base::symbol::Symbol;
 use sx_file_names::file::file_of;
 use sx_forms::version::version_fits;
 use sx_import::set::ImportSet;
