@@ -6,8 +6,8 @@ ghost use Rattle.sx_base.specs.declared.atom.Atom.TheVariants as atoms;
 ghost use Rattle.sx_machine.specs.Extent.{span_at};
 ghost use Rattle.sx_machine.specs.Form.{joined, abbreviated, byte_of_int, byte_of};
 
+use crate::context::SourceContext;
 use crate::extent::{Extent, span_at};
-use crate::keywords::Keywords;
 use std::alloc::Global;
 use sx_base::atom::Atom;
 use sx_base::bytes::Bytes;
@@ -109,22 +109,20 @@ pub fn bytevector(file: &Symbol, bytes: Items<u8>, at: Extent) -> Result<Datum, 
 /// The list that an abbreviation with its datum is. The symbol stands at the prefix, the list at the
 /// whole.
 pub fn abbreviated(
-    alloc: Global,
-    file: &Symbol,
-    keywords: &Keywords,
+    context: &SourceContext,
     abbreviation: Abbreviation,
     prefix: Extent,
     datum: Datum,
     all: Extent,
 ) -> Result<Datum, Memory>
-    ensures { IfOk result (λ d. d ≡ abbreviated file.now abbreviation prefix datum all) }
+    ensures { IfOk result (λ d. d ≡ abbreviated context.now.file.now abbreviation prefix datum all) }
 {
-    let keyword = named(file, keywords.shared(abbreviation)?, prefix)?;
-    let mut items = Vec::with_capacity(alloc, 2)?;
+    let keyword = named(context.file, context.keywords.shared(abbreviation)?, prefix)?;
+    let mut items = Vec::with_capacity(context.alloc, 2)?;
     items.push(keyword)?;
     items.push(datum)?;
-    let span = span_at(file, all)?;
-    joined(alloc, span, Items::from_vec(items), nil())
+    let span = span_at(context.file, all)?;
+    joined(context.alloc, span, Items::from_vec(items), nil())
 }
 
 /// The byte that a datum is in a bytevector.

@@ -15,6 +15,7 @@ use sx_base::fault::Stop;
 use sx_base::symbol::Symbol;
 use sx_lexer::start::start_of;
 use sx_lexer::tokens::next_lexeme;
+use sx_machine::context::SourceContext;
 use sx_machine::keywords::Keywords;
 use sx_machine::partial::State;
 use sx_machine::step::{finish, step};
@@ -71,31 +72,34 @@ fn read_lexemes(
 {
     let keywords = Keywords::new(alloc)?;
     let mut names = Names::new(alloc);
-    read_sharing(alloc, file, bytes, nesting, &keywords, &mut names)
+    let context = SourceContext {
+        alloc,
+        file,
+        keywords: &keywords,
+        nesting,
+    };
+    read_sharing(&context, bytes, &mut names)
 }
 
 /// As `read_lexemes`, with symbols that data can share.
 fn read_sharing(
-    alloc: Global,
-    file: &Symbol,
+    context: &SourceContext,
     bytes: &[u8],
-    nesting: u32,
-    keywords: &Keywords,
     names: &mut Names,
 ) -> Result<Vec<Datum>, Stop>
     requires { length bytes.now < 2 ^ 32 }
-    ensures gives { Gives (λ v. v.items) result (data_of file.now bytes.now nesting) }
-    ensures spelled { IfOk result (λ v. Spells file.now bytes.now nesting v.items) }
-    ensures refused { OnFault result (IsFaultOf file.now bytes.now nesting) }
+    ensures gives { Gives (λ v. v.items) result (data_of context.now.file.now bytes.now context.now.nesting) }
+    ensures spelled { IfOk result (λ v. Spells context.now.file.now bytes.now context.now.nesting v.items) }
+    ensures refused { OnFault result (IsFaultOf context.now.file.now bytes.now context.now.nesting) }
 {
-    let mut state = State::new(alloc);
-    let mut at = start_of(alloc, file, bytes)?;
+    let mut state = State::new(context.alloc);
+    let mut at = start_of(context.alloc, context.file, bytes)?;
     loop {
-        let Some(lexeme) = next_lexeme(alloc, file, bytes, at)? else {
-            return finish(alloc, file, state);
+        let Some(lexeme) = next_lexeme(context.alloc, context.file, bytes, at)? else {
+            return finish(context, state);
         };
         at = lexeme.to;
         let shared = names.with_shared(lexeme)?;
-        state = step(alloc, file, keywords, nesting, state, shared)?;
+        state = step(context, state, shared)?;
     }
 }
