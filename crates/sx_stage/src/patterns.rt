@@ -22,7 +22,7 @@ impl Stage {
             literals,
             place,
         };
-        compile_pattern(&context, form, &mut self.world.names)
+        compile_pattern(&context, form, &mut self.world.store.names)
     }
 
     /// It is `BadPattern` at the first literal that is no identifier, or is an ellipsis or an underscore.
