@@ -22,6 +22,9 @@ use sx_core::code::Core;
 use sx_shapes::at::place_of;
 use sx_shapes::lists::is_id;
 use sx_shapes::shape::BindingSpec;
+use sx_stage::context::StageContext;
+use sx_stage::earlier::Earlier;
+use sx_stage::uses::MacroUse;
 use sx_syntax::syn::Syn;
 
 impl Expansion {
@@ -69,17 +72,22 @@ impl Expansion {
         ensures { GivesAfter (λ t. t) result self.new (use_keyword (earlier_in means.now.earlier) place.now form.now label.now frame self.old) }
     {
         let expression = self.macro_expression(label)?;
-        self.stage.used(
-            &means.earlier,
+        let earlier = Earlier {
+            records: means.earlier.records,
+            needs: means.earlier.needs,
+        };
+        let context = StageContext {
+            earlier,
+            prims: means.prims,
             place,
+        };
+        let one = MacroUse {
             form,
             label,
-            &expression,
+            expression: &expression,
             frame,
-            means.prims,
-            counts.nodes,
-            counts.steps,
-        )
+        };
+        self.stage.used(&context, one, counts.nodes, counts.steps)
     }
 
     /// Whether an assignment to a keyword is a use of it.
@@ -94,14 +102,17 @@ impl Expansion {
         ensures { GivesAfter (λ b. b) result self.new (asks_variable (earlier_in means.now.earlier) place.now label.now self.old) }
     {
         let expression = self.macro_expression(label)?;
-        self.stage.is_variable_transformer(
-            &means.earlier,
+        let earlier = Earlier {
+            records: means.earlier.records,
+            needs: means.earlier.needs,
+        };
+        let context = StageContext {
+            earlier,
+            prims: means.prims,
             place,
-            label,
-            &expression,
-            means.prims,
-            counts.steps,
-        )
+        };
+        self.stage
+            .is_variable_transformer(&context, label, &expression, counts.steps)
     }
 
     fn put_keyword(&mut self, label: &Label, level: u32) -> Result<(), Stop>
@@ -192,13 +203,16 @@ impl Expansion {
     ) -> Result<(), Stop>
         ensures { GivesAfter (λ _. tt) result self.new (finish_keyword (earlier_in means.now.earlier) place.now label.now code self.old) }
     {
-        self.stage.finish_keyword(
-            &means.earlier,
+        let earlier = Earlier {
+            records: means.earlier.records,
+            needs: means.earlier.needs,
+        };
+        let context = StageContext {
+            earlier,
+            prims: means.prims,
             place,
-            label,
-            code,
-            means.prims,
-            counts.steps,
-        )
+        };
+        self.stage
+            .finish_keyword(&context, label, code, counts.steps)
     }
 }
