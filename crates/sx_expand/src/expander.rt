@@ -30,6 +30,7 @@ use sx_core::record::LibRecord;
 use sx_standing::expansion::Expansion;
 use sx_standing::means::{Counts, Means};
 use sx_standing::ready::ReadyRecords;
+use sx_standing::start::Environment;
 use sx_syntax::syn::Syn;
 
 /// The state of one library's expansion, and whether a call was refused. After a refusal it is of no use.
@@ -165,7 +166,12 @@ fn begun(
 ) -> Result<Expander, Memory>
     ensures { IfOk result (λ e. e ≡ ready name path (needed_records needs.now earlier.now) imports.now (table.seen codes.entries)) }
 {
-    let state = Expansion::start(alloc, name, earlier, needs, imports, codes)?;
+    let environment = Environment {
+        earlier,
+        needs,
+        imports,
+    };
+    let state = Expansion::start(alloc, name, &environment, codes)?;
     let frame = state.first_frame()?;
     Ok(Expander {
         state,

@@ -27,7 +27,7 @@ use sx_core::code::{Code, Core, CoreNode, Init, Lambda};
 use sx_heads::depth::{MOST_ROUND, deeper};
 use sx_heads::plan::Plan;
 use sx_shapes::shape::{BindingSpec, FormalIds, LambdaCase};
-use sx_standing::binders::BoundSpec;
+use sx_standing::binders::{BinderContext, BoundSpec};
 use sx_standing::expansion::Expansion;
 use sx_standing::means::Counts;
 use sx_syntax::syn::Syn;
@@ -511,7 +511,12 @@ pub fn lambda_case<M: Transformers, N: Ledger, L: Ledger>(
 {
     let outer = state.in_scope();
     let frame = state.fresh_frame()?;
-    let formals = state.bind_formals(&frame, place, level, ids)?;
+    let binders = BinderContext {
+        frame: &frame,
+        place,
+        level,
+    };
+    let formals = state.bind_formals(&binders, ids)?;
     let forms = stamp_all(state.alloc(), &frame, forms, counts.nodes)?;
     let body = body(
         state,
@@ -581,7 +586,12 @@ fn letrec_form<M: Transformers, N: Ledger, L: Ledger>(
 {
     let outer = state.in_scope();
     let frame = state.fresh_frame()?;
-    let bound = state.bind_specs(&frame, place, level, specs)?;
+    let binders = BinderContext {
+        frame: &frame,
+        place,
+        level,
+    };
+    let bound = state.bind_specs(&binders, specs)?;
     let inits = all_inits(
         state,
         &frame,

@@ -19,7 +19,7 @@ use sx_core::core_form::CoreForm;
 use sx_shapes::forms::shape;
 use sx_shapes::lists::is_id;
 use sx_shapes::shape::{BindingSpec, Shape};
-use sx_standing::binders::BoundSpec;
+use sx_standing::binders::{BinderContext, BoundSpec};
 use sx_standing::expansion::{Expansion, symbol_in};
 use sx_standing::standing::{Role, Standing, is_keyword, role_of};
 use sx_syntax::syn::{Opened, Syn};
@@ -187,7 +187,12 @@ fn define(
     if taken.has_expression && !is_mixed(at.kind) {
         return Err(state.fault_form(FaultKind::DefinitionPlace, form, &at.place));
     }
-    let label = state.bind_variable(&at.frame, &at.place, at.level, is_top(at.kind), id)?;
+    let binders = BinderContext {
+        frame: &at.frame,
+        place: &at.place,
+        level: at.level,
+    };
+    let label = state.bind_variable(&binders, is_top(at.kind), id)?;
     in_time(state, at, taken, id)?;
     Ok(label)
 }
@@ -206,7 +211,12 @@ pub fn define_keyword(
     if taken.has_expression && !is_mixed(at.kind) {
         return Err(state.fault_form(FaultKind::DefinitionPlace, form, &at.place));
     }
-    let bound = state.bind_keyword(&at.frame, &at.place, at.level, spec)?;
+    let binders = BinderContext {
+        frame: &at.frame,
+        place: &at.place,
+        level: at.level,
+    };
+    let bound = state.bind_keyword(&binders, spec)?;
     keyword_in_time(state, at, taken, &spec.id)?;
     Ok(bound)
 }

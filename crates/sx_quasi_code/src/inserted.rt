@@ -25,6 +25,7 @@ use sx_core::template::Template;
 use sx_pattern::compile::PatternVariable;
 use sx_quasi::quasi_syntax::{Insert, QuasiSyntax};
 use sx_shapes::at::place_of;
+use sx_standing::binders::BinderContext;
 use sx_standing::expansion::Expansion;
 use sx_syntax::syn::Syn;
 
@@ -179,7 +180,12 @@ fn bind_inserts(
 ) -> Result<(), Stop>
     ensures { GivesAfter (λ _. tt) result state.new (bind_inserts frame.now place.now level variables.now state.old) }
 {
-    state.bind_pattern(frame, place, level, variables)?;
+    let binders = BinderContext {
+        frame,
+        place,
+        level,
+    };
+    state.bind_pattern(&binders, variables)?;
     let dots = dots(state.alloc())?;
     let ellipsis = ellipsis(state.alloc())?;
     state.bind_row(frame, &dots, &ellipsis, place)

@@ -9,11 +9,12 @@ ghost use Rattle.sx_scope.specs.Stands.{stands};
 ghost use Rattle.sx_tree.specs.Tree.{is_pair};
 ghost use Rattle.sx_template.specs.Compile.{compiled};
 
+use crate::binders::BinderContext;
 use crate::expansion::Expansion;
 use crate::in_scope::InScope;
 use sx_base::fault::{FaultKind, Stop};
 use sx_base::memory::Memory;
-use sx_base::name::{FrameNo, Label};
+use sx_base::name::Label;
 use sx_base::span::Span;
 use sx_core::binding::Binding;
 use sx_core::template::{Item, Template, TemplateNode};
@@ -82,29 +83,25 @@ impl Expansion {
     #[tactic(auto, unfolding(crate::specs::Patterns::bind_pattern_variable))]
     fn bind_pattern_variable(
         &mut self,
-        frame: &FrameNo,
-        place: &Span,
-        level: u32,
+        context: &BinderContext,
         variable: &PatternVariable,
     ) -> Result<(), Stop>
-        ensures { GivesAfter (λ _. tt) result self.new (bind_pattern_variable frame.now place.now level variable.now self.old) }
+        ensures { GivesAfter (λ _. tt) result self.new (bind_pattern_variable context.now.frame.now context.now.place.now context.now.level variable.now self.old) }
     {
-        self.bind_row(frame, &variable.id, &variable.label, place)?;
-        self.put_pattern_variable(&variable.label, level, variable.depth)
+        self.bind_row(context.frame, &variable.id, &variable.label, context.place)?;
+        self.put_pattern_variable(&variable.label, context.level, variable.depth)
     }
 
-    /// Binds the variables of a pattern in a frame.
+    /// Binds the variables of a pattern.
     pub fn bind_pattern(
         &mut self,
-        frame: &FrameNo,
-        place: &Span,
-        level: u32,
+        context: &BinderContext,
         variables: &[PatternVariable],
     ) -> Result<(), Stop>
-        ensures { GivesAfter (λ _. tt) result self.new (bind_pattern frame.now place.now level variables.now self.old) }
+        ensures { GivesAfter (λ _. tt) result self.new (bind_pattern context.now.frame.now context.now.place.now context.now.level variables.now self.old) }
     {
         for variable in variables {
-            self.bind_pattern_variable(frame, place, level, variable)?;
+            self.bind_pattern_variable(context, variable)?;
         }
         Ok(())
     }
