@@ -132,8 +132,8 @@ impl Expander {
         }
     }
 
-    /// The record of a library or program with this body, whose forms go on the way. The exports are external names, each with the
-    /// identifier that it stands for.
+    /// The record of a library or program with this body, whose forms go on the way. The exports are external names,
+    /// each with the identifier that it stands for.
     pub fn top<N: Ledger, L: Ledger>(
         self,
         forms: Items<Syn>,

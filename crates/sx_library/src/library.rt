@@ -88,7 +88,8 @@ pub fn body_of(
     Ok(Body { names, forms })
 }
 
-/// The record of a library or a program, from its form and its body, which goes on the way, behind the records that it needs.
+/// The record of a library or a program, from its form and its body, which goes on the way, behind the records that
+/// it needs.
 #[tactic(auto, unfolding(crate::specs::Library::expand_body))]
 pub fn expand_body<N: Ledger, L: Ledger>(
     alloc: Global,

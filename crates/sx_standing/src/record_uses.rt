@@ -79,7 +79,8 @@ impl Expansion {
         Ok(left)
     }
 
-    /// What comes of a use of a record form. Its faults are those of `record_forms`. The uses are counted by the caller; nothing is evaluated.
+    /// What comes of a use of a record form. Its faults are those of `record_forms`. The uses are counted by the
+    /// caller; nothing is evaluated.
     #[tactic(auto, unfolding(crate::specs::RecordUses::use_record))]
     pub fn use_record<N: Ledger>(
         &mut self,
