@@ -12,6 +12,7 @@ ghost use Rattle.sx_tree.specs.Leaves.{strip};
 ghost use Rattle.sx_heads.specs.declared.plan.Plan.TheVariants as plans;
 ghost use Rattle.sx_heads.specs.Plan.{done, plan_of, list_plan, by_head, keyword_plan, with_shape, shape_plan, application, in_sequence, assign, is_star, is_letrec_syntax, keywords_plan, operand_plan, reference, refer, variable_at, constant, target_by, target_variable};
 
+use crate::context::FormContext;
 use sx_base::atom::Atom;
 use sx_base::fault::{FaultKind, Stop};
 use sx_base::items::Items;
@@ -63,15 +64,6 @@ pub enum Plan {
     Use(KeywordUse),
     /// An assignment to a keyword, and its target: a use if the keyword is a variable transformer.
     SetUse(Label, Syn),
-}
-
-/// A form, and what is known round it.
-#[derive(Drop)]
-struct FormContext<'a> {
-    form: &'a Syn,
-    /// Where a form without a span stands.
-    place: &'a Span,
-    level: u32,
 }
 
 /// Whether it is `letrec*`.

@@ -17,6 +17,7 @@ use sx_base::memory::Memory;
 use sx_base::span::Span;
 use sx_base::steps::Steps;
 use sx_core::code::Core;
+use sx_heads::context::FormContext;
 use sx_quasi::plan::Quasi;
 use sx_quasi::quasi::quasi;
 use sx_quasi::quasi_syntax::{QuasiContext, QuasiSyntax, quasi_syntax};
@@ -101,35 +102,31 @@ pub fn parts_of(
 
 fn syntax_code<N: Ledger>(
     state: &mut Expansion,
-    form: &Syn,
+    context: &FormContext,
     quasi: &QuasiSyntax,
     codes: Vec<Core>,
-    place: &Span,
-    level: u32,
     nodes: &mut Steps<N>,
 ) -> Result<Core, Stop>
-    ensures { GivesAfter (λ c. c) result state.new (syntax_code place.now level form.now quasi.now codes.items quasi.now.inserts state.old) }
+    ensures { GivesAfter (λ c. c) result state.new (syntax_code context.now.place.now context.now.level context.now.form.now quasi.now codes.items quasi.now.inserts state.old) }
 {
     if quasi.inserts.as_slice().is_empty() {
-        return plain_instance(state, form, quasi, place, level);
+        return plain_instance(state, context, quasi);
     }
-    inserted(state, form, quasi, codes, place, level, nodes)
+    inserted(state, context, quasi, codes, nodes)
 }
 
 /// The code of a form, whose parts have these codes. A fault of the template of a `quasisyntax` form is at its part.
 pub fn code_of<N: Ledger>(
     state: &mut Expansion,
-    form: &Syn,
+    context: &FormContext,
     quasi: &QuasiForm,
     codes: Vec<Core>,
-    place: &Span,
-    level: u32,
     nodes: &mut Steps<N>,
 ) -> Result<Core, Stop>
-    ensures { GivesAfter (λ c. c) result state.new (code_of place.now level form.now quasi.now codes.items state.old) }
+    ensures { GivesAfter (λ c. c) result state.new (code_of context.now.place.now context.now.level context.now.form.now quasi.now codes.items state.old) }
 {
     match quasi {
         QuasiForm::Quote(plan) => Ok(plan_code(state.alloc(), plan, codes)?),
-        QuasiForm::Syntax(quasi) => syntax_code(state, form, quasi, codes, place, level, nodes),
+        QuasiForm::Syntax(quasi) => syntax_code(state, context, quasi, codes, nodes),
     }
 }

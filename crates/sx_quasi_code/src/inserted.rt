@@ -22,6 +22,7 @@ use sx_core::code::{Clause, Core, CoreNode};
 use sx_core::core_form::CoreForm;
 use sx_core::pattern::{Elements, Pattern, PatternNode, Repeated};
 use sx_core::template::Template;
+use sx_heads::context::FormContext;
 use sx_pattern::compile::PatternVariable;
 use sx_quasi::quasi_syntax::{Insert, QuasiSyntax};
 use sx_shapes::at::place_of;
@@ -191,23 +192,34 @@ fn bind_inserts(
     state.bind_row(frame, &dots, &ellipsis, place)
 }
 
+// What a form of `quasisyntax` comes to, with the codes of its inserts.
+#[derive(Drop)]
+struct Inserts<'a> {
+    quasi: &'a QuasiSyntax,
+    codes: Vec<Core>,
+}
+
 fn inserted_in<N: Ledger>(
     state: &mut Expansion,
-    form: &Syn,
-    quasi: &QuasiSyntax,
-    codes: Vec<Core>,
+    context: &FormContext,
+    inserts: Inserts,
     frame: FrameNo,
-    place: &Span,
-    level: u32,
     nodes: &mut Steps<N>,
 ) -> Result<Core, Stop>
-    ensures { GivesAfter (λ c. c) result state.new (inserted_in place.now level form.now quasi.now codes.items frame state.old) }
+    ensures { GivesAfter (λ c. c) result state.new (inserted_in context.now.place.now context.now.level context.now.form.now inserts.entry.quasi.now inserts.entry.codes.items frame state.old) }
 {
+    let Inserts { quasi, codes } = inserts;
     let variables = insert_variables(state, quasi.inserts.as_slice())?;
-    bind_inserts(state, &frame, variables.as_slice(), place, level)?;
+    bind_inserts(
+        state,
+        &frame,
+        variables.as_slice(),
+        context.place,
+        context.level,
+    )?;
     let template = quasi.template.stamp(state.alloc(), frame, nodes)?;
-    let template = state.template(&template, place, level)?;
-    let span = place_of(form, place)?;
+    let template = state.template(&template, context.place, context.level)?;
+    let span = place_of(context.form, context.place)?;
     Ok(match_of(state.alloc(), variables.as_slice(), template, span, codes)?)
 }
 
@@ -215,18 +227,17 @@ fn inserted_in<N: Ledger>(
 #[tactic(auto, unfolding(crate::specs::Inserted::inserted))]
 pub(crate) fn inserted<N: Ledger>(
     state: &mut Expansion,
-    form: &Syn,
+    context: &FormContext,
     quasi: &QuasiSyntax,
     codes: Vec<Core>,
-    place: &Span,
-    level: u32,
     nodes: &mut Steps<N>,
 ) -> Result<Core, Stop>
-    ensures { GivesAfter (λ c. c) result state.new (inserted place.now level form.now quasi.now codes.items state.old) }
+    ensures { GivesAfter (λ c. c) result state.new (inserted context.now.place.now context.now.level context.now.form.now quasi.now codes.items state.old) }
 {
     let outer = state.in_scope();
     let frame = state.fresh_frame()?;
-    let core = inserted_in(state, form, quasi, codes, frame, place, level, nodes)?;
+    let inserts = Inserts { quasi, codes };
+    let core = inserted_in(state, context, inserts, frame, nodes)?;
     state.cut_scope(outer);
     Ok(core)
 }
@@ -234,15 +245,13 @@ pub(crate) fn inserted<N: Ledger>(
 /// The code of a form without inserts.
 pub(crate) fn plain_instance(
     state: &mut Expansion,
-    form: &Syn,
+    context: &FormContext,
     quasi: &QuasiSyntax,
-    place: &Span,
-    level: u32,
 ) -> Result<Core, Stop>
-    ensures { GivesAfter (λ c. c) result state.new (plain_instance place.now level form.now quasi.now state.old) }
+    ensures { GivesAfter (λ c. c) result state.new (plain_instance context.now.place.now context.now.level context.now.form.now quasi.now state.old) }
 {
-    let template = state.template(&quasi.template, place, level)?;
-    let span = place_of(form, place)?;
+    let template = state.template(&quasi.template, context.place, context.level)?;
+    let span = place_of(context.form, context.place)?;
     Ok(Core {
         node: CoreNode::Syntax(template, span),
     })
