@@ -13,7 +13,7 @@ use sx_base::fault::BareStop;
 use sx_base::library::LibName;
 use sx_base::memory::Memory;
 use sx_base::name::Names;
-use sx_base::op::Op;
+use sx_base::op::{Op, names};
 use sx_base::steps::Steps;
 use sx_eval::eval::{Resources, call};
 use sx_prims::table::PrimTable;
@@ -36,19 +36,19 @@ struct Row {
 /// `car`, which costs nothing, and `length`, which costs the pairs of its list.
 const ROWS: [Row; 3] = [
     Row {
-        op: 51,
+        op: names::CAR,
         fuel: 0,
         fault: 0,
         number: 1,
     },
     Row {
-        op: 120,
+        op: names::LENGTH,
         fuel: 2,
         fault: 0,
         number: 2,
     },
     Row {
-        op: 120,
+        op: names::LENGTH,
         fuel: 1,
         fault: 38,
         number: 0,
