@@ -18,9 +18,15 @@ use sx_ops::raised::raising;
 use sx_ops::strings::{number_strings, string_comparisons, strings};
 use sx_ops::syntax::{identifiers, temporaries};
 use sx_outside::{HostFiles, HostSink};
+use sx_prims::rows::{
+    APPENDED, BASICS, CHARACTERS, DATA, EQUALITY, GATHERED, IDENTIFIERS, INDEXED, LISTS,
+    NUMBER_STRINGS, NUMBERS, PARTS, RAISING, STRING_COMPARISONS, STRINGS, TEMPORARIES, TREES,
+    UNPACKED,
+};
 use sx_prims::table::{PrimRow, PrimTable};
 use sx_run::status::Status;
 use sx_run::top;
+use sx_run::top::Outside;
 use sx_standing::means::Counts;
 
 // The rows with one more.
@@ -39,19 +45,13 @@ fn run_both<'a, N: Ledger, L: Ledger>(
     steps: &'a mut Steps<L>,
 ) -> Result<Status, Memory> {
     let alloc = rt.alloc();
-    let mut files = HostFiles::new(alloc, rt.clone()?);
-    let mut out = HostSink::new(rt.stdout());
-    let mut err = HostSink::new(rt.stderr());
+    let mut outside = Outside {
+        files: HostFiles::new(alloc, rt.clone()?),
+        out: HostSink::new(rt.stdout()),
+        err: HostSink::new(rt.stderr()),
+    };
     let mut counts = Counts { nodes, steps };
-    Ok(top::run(
-        alloc,
-        words,
-        &mut files,
-        &mut out,
-        &mut err,
-        prims,
-        &mut counts,
-    ))
+    Ok(top::run(alloc, words, &mut outside, prims, &mut counts))
 }
 
 fn run_counted<N: Ledger, L: Ledger>(
@@ -82,24 +82,36 @@ fn run_with(rt: &HostRuntime, words: &[String], rows: Vec<PrimRow>) -> Result<St
 // The primitives are boxed here, since a call that handed boxes back would hide what they hold.
 fn run_boxed(rt: &HostRuntime, alloc: Global, words: &[String]) -> Result<Status, Memory> {
     let rows = Vec::new(alloc);
-    let rows = with_row(rows, PrimRow::new(0, Box::new(alloc, basics)?))?;
-    let rows = with_row(rows, PrimRow::new(1, Box::new(alloc, numbers)?))?;
-    let rows = with_row(rows, PrimRow::new(2, Box::new(alloc, characters)?))?;
-    let rows = with_row(rows, PrimRow::new(3, Box::new(alloc, parts)?))?;
-    let rows = with_row(rows, PrimRow::new(4, Box::new(alloc, gathered)?))?;
-    let rows = with_row(rows, PrimRow::new(5, Box::new(alloc, lists)?))?;
-    let rows = with_row(rows, PrimRow::new(6, Box::new(alloc, appended)?))?;
-    let rows = with_row(rows, PrimRow::new(7, Box::new(alloc, indexed)?))?;
-    let rows = with_row(rows, PrimRow::new(8, Box::new(alloc, unpacked)?))?;
-    let rows = with_row(rows, PrimRow::new(9, Box::new(alloc, strings)?))?;
-    let rows = with_row(rows, PrimRow::new(10, Box::new(alloc, number_strings)?))?;
-    let rows = with_row(rows, PrimRow::new(11, Box::new(alloc, string_comparisons)?))?;
-    let rows = with_row(rows, PrimRow::new(12, Box::new(alloc, equality)?))?;
-    let rows = with_row(rows, PrimRow::new(13, Box::new(alloc, identifiers)?))?;
-    let rows = with_row(rows, PrimRow::new(14, Box::new(alloc, data)?))?;
-    let rows = with_row(rows, PrimRow::new(15, Box::new(alloc, trees)?))?;
-    let rows = with_row(rows, PrimRow::new(16, Box::new(alloc, temporaries)?))?;
-    let rows = with_row(rows, PrimRow::new(17, Box::new(alloc, raising)?))?;
+    let rows = with_row(rows, PrimRow::new(BASICS, Box::new(alloc, basics)?))?;
+    let rows = with_row(rows, PrimRow::new(NUMBERS, Box::new(alloc, numbers)?))?;
+    let rows = with_row(rows, PrimRow::new(CHARACTERS, Box::new(alloc, characters)?))?;
+    let rows = with_row(rows, PrimRow::new(PARTS, Box::new(alloc, parts)?))?;
+    let rows = with_row(rows, PrimRow::new(GATHERED, Box::new(alloc, gathered)?))?;
+    let rows = with_row(rows, PrimRow::new(LISTS, Box::new(alloc, lists)?))?;
+    let rows = with_row(rows, PrimRow::new(APPENDED, Box::new(alloc, appended)?))?;
+    let rows = with_row(rows, PrimRow::new(INDEXED, Box::new(alloc, indexed)?))?;
+    let rows = with_row(rows, PrimRow::new(UNPACKED, Box::new(alloc, unpacked)?))?;
+    let rows = with_row(rows, PrimRow::new(STRINGS, Box::new(alloc, strings)?))?;
+    let rows = with_row(
+        rows,
+        PrimRow::new(NUMBER_STRINGS, Box::new(alloc, number_strings)?),
+    )?;
+    let rows = with_row(
+        rows,
+        PrimRow::new(STRING_COMPARISONS, Box::new(alloc, string_comparisons)?),
+    )?;
+    let rows = with_row(rows, PrimRow::new(EQUALITY, Box::new(alloc, equality)?))?;
+    let rows = with_row(
+        rows,
+        PrimRow::new(IDENTIFIERS, Box::new(alloc, identifiers)?),
+    )?;
+    let rows = with_row(rows, PrimRow::new(DATA, Box::new(alloc, data)?))?;
+    let rows = with_row(rows, PrimRow::new(TREES, Box::new(alloc, trees)?))?;
+    let rows = with_row(
+        rows,
+        PrimRow::new(TEMPORARIES, Box::new(alloc, temporaries)?),
+    )?;
+    let rows = with_row(rows, PrimRow::new(RAISING, Box::new(alloc, raising)?))?;
     run_with(rt, words, rows)
 }
 

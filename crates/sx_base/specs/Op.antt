@@ -4,13 +4,15 @@ use Rattle.std.specs.Borrow.{Bor}
 use Rattle.std.specs.Cmp.Lexicographic.{pointwise}
 use Rattle.std.proofs.Common.{get_or}
 use Rattle.sx_base.specs.OpNames.{op_names}
+use Rattle.sx_base.specs.declared.op.TheConstants.{NAME_COUNT}
+use Rattle.sx_base.specs.declared.op.names.TheConstants as names
 
 abbrev pub now_all : List (Bor (List ℕ)) → List (List ℕ)
 now_all texts = map (λ (text : Bor (List ℕ)). text.now) texts
 
 -- how many names there are: an op is the number of one
 abbrev pub name_count : ℕ
-name_count = 301
+name_count = NAME_COUNT
 
 -- the text at a place of a table, and no text past the last
 abbrev pub text_at : List (Bor (List ℕ)) → ℕ → List ℕ
@@ -32,4 +34,6 @@ op_named text = place_from 0 text op_names
 -- `quote` to `identifier-syntax`, `when` to `case-lambda`, `syntax-case`, `syntax`, `with-syntax` to
 -- `unsyntax-splicing`, and `define-record-type` to `parent-rtd`
 abbrev pub is_keyword : ℕ → Bool
-is_keyword n = nat_le n 28 || (nat_le 211 n && nat_le n 214) || n == 216 || n == 217 || (nat_le 224 n && nat_le n 227) || (nat_le 289 n && nat_le n 300)
+is_keyword n =
+    nat_le n names.IDENTIFIER_SYNTAX || (nat_le names.WHEN n && nat_le n names.CASE_LAMBDA) || n == names.SYNTAX_CASE || n == names.SYNTAX
+    || (nat_le names.WITH_SYNTAX n && nat_le n names.UNSYNTAX_SPLICING) || (nat_le names.DEFINE_RECORD_TYPE n && nat_le n names.PARENT_RTD)

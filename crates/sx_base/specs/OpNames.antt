@@ -1,307 +1,311 @@
--- The names of all libraries that this implementation gives, written out: R6RS 11, then the chapters of the libraries report.
-use Rattle.std.specs.Prelude.{ℕ, List, [], ◌∷◌, codes}
+-- The names of all libraries that this implementation gives, each with its number: R6RS 11, then the chapters of the libraries report.
+use Rattle.std.specs.Prelude.{ℕ, List, [], ◌∷◌, map, codes}
+use Rattle.sx_base.specs.declared.op.names.TheConstants as names
+
+abbrev pub op_rows : List (ℕ × List ℕ)
+op_rows =
+    (names.QUOTE, codes "quote") ∷
+    (names.LAMBDA, codes "lambda") ∷
+    (names.IF, codes "if") ∷
+    (names.SET_BANG, codes "set!") ∷
+    (names.BEGIN, codes "begin") ∷
+    (names.LETREC, codes "letrec") ∷
+    (names.LETREC_STAR, codes "letrec*") ∷
+    (names.DEFINE, codes "define") ∷
+    (names.DEFINE_SYNTAX, codes "define-syntax") ∷
+    (names.LET_SYNTAX, codes "let-syntax") ∷
+    (names.LETREC_SYNTAX, codes "letrec-syntax") ∷
+    (names.QUASIQUOTE, codes "quasiquote") ∷
+    (names.ELSE, codes "else") ∷
+    (names.ARROW, codes "=>") ∷
+    (names.ELLIPSIS, codes "...") ∷
+    (names.UNDERSCORE, codes "_") ∷
+    (names.UNQUOTE, codes "unquote") ∷
+    (names.UNQUOTE_SPLICING, codes "unquote-splicing") ∷
+    (names.LET, codes "let") ∷
+    (names.LET_STAR, codes "let*") ∷
+    (names.LET_VALUES, codes "let-values") ∷
+    (names.LET_STAR_VALUES, codes "let*-values") ∷
+    (names.AND, codes "and") ∷
+    (names.OR, codes "or") ∷
+    (names.COND, codes "cond") ∷
+    (names.CASE, codes "case") ∷
+    (names.ASSERT, codes "assert") ∷
+    (names.SYNTAX_RULES, codes "syntax-rules") ∷
+    (names.IDENTIFIER_SYNTAX, codes "identifier-syntax") ∷
+    (names.TIMES, codes "*") ∷
+    (names.PLUS, codes "+") ∷
+    (names.MINUS, codes "-") ∷
+    (names.DIVIDED_BY, codes "/") ∷
+    (names.LESS, codes "<") ∷
+    (names.AT_MOST, codes "<=") ∷
+    (names.EQUAL, codes "=") ∷
+    (names.GREATER, codes ">") ∷
+    (names.AT_LEAST, codes ">=") ∷
+    (names.ABS, codes "abs") ∷
+    (names.ACOS, codes "acos") ∷
+    (names.ANGLE, codes "angle") ∷
+    (names.APPEND, codes "append") ∷
+    (names.APPLY, codes "apply") ∷
+    (names.ASIN, codes "asin") ∷
+    (names.ASSERTION_VIOLATION, codes "assertion-violation") ∷
+    (names.ATAN, codes "atan") ∷
+    (names.BOOLEAN_EQUAL, codes "boolean=?") ∷
+    (names.IS_BOOLEAN, codes "boolean?") ∷
+    (names.CALL_WITH_CURRENT_CONTINUATION, codes "call-with-current-continuation") ∷
+    (names.CALL_WITH_VALUES, codes "call-with-values") ∷
+    (names.CALL_CC, codes "call/cc") ∷
+    (names.CAR, codes "car") ∷
+    (names.CDR, codes "cdr") ∷
+    (names.CAAR, codes "caar") ∷
+    (names.CADR, codes "cadr") ∷
+    (names.CDAR, codes "cdar") ∷
+    (names.CDDR, codes "cddr") ∷
+    (names.CAAAR, codes "caaar") ∷
+    (names.CAADR, codes "caadr") ∷
+    (names.CADAR, codes "cadar") ∷
+    (names.CADDR, codes "caddr") ∷
+    (names.CDAAR, codes "cdaar") ∷
+    (names.CDADR, codes "cdadr") ∷
+    (names.CDDAR, codes "cddar") ∷
+    (names.CDDDR, codes "cdddr") ∷
+    (names.CAAAAR, codes "caaaar") ∷
+    (names.CAAADR, codes "caaadr") ∷
+    (names.CAADAR, codes "caadar") ∷
+    (names.CAADDR, codes "caaddr") ∷
+    (names.CADAAR, codes "cadaar") ∷
+    (names.CADADR, codes "cadadr") ∷
+    (names.CADDAR, codes "caddar") ∷
+    (names.CADDDR, codes "cadddr") ∷
+    (names.CDAAAR, codes "cdaaar") ∷
+    (names.CDAADR, codes "cdaadr") ∷
+    (names.CDADAR, codes "cdadar") ∷
+    (names.CDADDR, codes "cdaddr") ∷
+    (names.CDDAAR, codes "cddaar") ∷
+    (names.CDDADR, codes "cddadr") ∷
+    (names.CDDDAR, codes "cdddar") ∷
+    (names.CDDDDR, codes "cddddr") ∷
+    (names.CEILING, codes "ceiling") ∷
+    (names.CHAR_TO_INTEGER, codes "char->integer") ∷
+    (names.CHAR_AT_MOST, codes "char<=?") ∷
+    (names.CHAR_LESS, codes "char<?") ∷
+    (names.CHAR_EQUAL, codes "char=?") ∷
+    (names.CHAR_AT_LEAST, codes "char>=?") ∷
+    (names.CHAR_GREATER, codes "char>?") ∷
+    (names.IS_CHAR, codes "char?") ∷
+    (names.IS_COMPLEX, codes "complex?") ∷
+    (names.CONS, codes "cons") ∷
+    (names.COS, codes "cos") ∷
+    (names.DENOMINATOR, codes "denominator") ∷
+    (names.DIV, codes "div") ∷
+    (names.DIV_AND_MOD, codes "div-and-mod") ∷
+    (names.DIV0, codes "div0") ∷
+    (names.DIV0_AND_MOD0, codes "div0-and-mod0") ∷
+    (names.DYNAMIC_WIND, codes "dynamic-wind") ∷
+    (names.IS_EQ, codes "eq?") ∷
+    (names.IS_EQUAL, codes "equal?") ∷
+    (names.IS_EQV, codes "eqv?") ∷
+    (names.ERROR, codes "error") ∷
+    (names.IS_EVEN, codes "even?") ∷
+    (names.EXACT, codes "exact") ∷
+    (names.EXACT_INTEGER_SQRT, codes "exact-integer-sqrt") ∷
+    (names.IS_EXACT, codes "exact?") ∷
+    (names.EXP, codes "exp") ∷
+    (names.EXPT, codes "expt") ∷
+    (names.IS_FINITE, codes "finite?") ∷
+    (names.FLOOR, codes "floor") ∷
+    (names.FOR_EACH, codes "for-each") ∷
+    (names.GCD, codes "gcd") ∷
+    (names.IMAG_PART, codes "imag-part") ∷
+    (names.INEXACT, codes "inexact") ∷
+    (names.IS_INEXACT, codes "inexact?") ∷
+    (names.IS_INFINITE, codes "infinite?") ∷
+    (names.INTEGER_TO_CHAR, codes "integer->char") ∷
+    (names.IS_INTEGER_VALUED, codes "integer-valued?") ∷
+    (names.IS_INTEGER, codes "integer?") ∷
+    (names.LCM, codes "lcm") ∷
+    (names.LENGTH, codes "length") ∷
+    (names.LIST, codes "list") ∷
+    (names.LIST_TO_STRING, codes "list->string") ∷
+    (names.LIST_TO_VECTOR, codes "list->vector") ∷
+    (names.LIST_REF, codes "list-ref") ∷
+    (names.LIST_TAIL, codes "list-tail") ∷
+    (names.IS_LIST, codes "list?") ∷
+    (names.LOG, codes "log") ∷
+    (names.MAGNITUDE, codes "magnitude") ∷
+    (names.MAKE_POLAR, codes "make-polar") ∷
+    (names.MAKE_RECTANGULAR, codes "make-rectangular") ∷
+    (names.MAKE_STRING, codes "make-string") ∷
+    (names.MAKE_VECTOR, codes "make-vector") ∷
+    (names.MAP, codes "map") ∷
+    (names.MAX, codes "max") ∷
+    (names.MIN, codes "min") ∷
+    (names.MOD, codes "mod") ∷
+    (names.MOD0, codes "mod0") ∷
+    (names.IS_NAN, codes "nan?") ∷
+    (names.IS_NEGATIVE, codes "negative?") ∷
+    (names.NOT, codes "not") ∷
+    (names.IS_NULL, codes "null?") ∷
+    (names.NUMBER_TO_STRING, codes "number->string") ∷
+    (names.IS_NUMBER, codes "number?") ∷
+    (names.NUMERATOR, codes "numerator") ∷
+    (names.IS_ODD, codes "odd?") ∷
+    (names.IS_PAIR, codes "pair?") ∷
+    (names.IS_POSITIVE, codes "positive?") ∷
+    (names.IS_PROCEDURE, codes "procedure?") ∷
+    (names.IS_RATIONAL_VALUED, codes "rational-valued?") ∷
+    (names.IS_RATIONAL, codes "rational?") ∷
+    (names.RATIONALIZE, codes "rationalize") ∷
+    (names.REAL_PART, codes "real-part") ∷
+    (names.IS_REAL_VALUED, codes "real-valued?") ∷
+    (names.IS_REAL, codes "real?") ∷
+    (names.REVERSE, codes "reverse") ∷
+    (names.ROUND, codes "round") ∷
+    (names.SIN, codes "sin") ∷
+    (names.SQRT, codes "sqrt") ∷
+    (names.STRING, codes "string") ∷
+    (names.STRING_TO_LIST, codes "string->list") ∷
+    (names.STRING_TO_NUMBER, codes "string->number") ∷
+    (names.STRING_TO_SYMBOL, codes "string->symbol") ∷
+    (names.STRING_APPEND, codes "string-append") ∷
+    (names.STRING_COPY, codes "string-copy") ∷
+    (names.STRING_FOR_EACH, codes "string-for-each") ∷
+    (names.STRING_LENGTH, codes "string-length") ∷
+    (names.STRING_REF, codes "string-ref") ∷
+    (names.STRING_AT_MOST, codes "string<=?") ∷
+    (names.STRING_LESS, codes "string<?") ∷
+    (names.STRING_EQUAL, codes "string=?") ∷
+    (names.STRING_AT_LEAST, codes "string>=?") ∷
+    (names.STRING_GREATER, codes "string>?") ∷
+    (names.IS_STRING, codes "string?") ∷
+    (names.SUBSTRING, codes "substring") ∷
+    (names.SYMBOL_TO_STRING, codes "symbol->string") ∷
+    (names.SYMBOL_EQUAL, codes "symbol=?") ∷
+    (names.IS_SYMBOL, codes "symbol?") ∷
+    (names.TAN, codes "tan") ∷
+    (names.TRUNCATE, codes "truncate") ∷
+    (names.VALUES, codes "values") ∷
+    (names.VECTOR, codes "vector") ∷
+    (names.VECTOR_TO_LIST, codes "vector->list") ∷
+    (names.VECTOR_FILL_BANG, codes "vector-fill!") ∷
+    (names.VECTOR_FOR_EACH, codes "vector-for-each") ∷
+    (names.VECTOR_LENGTH, codes "vector-length") ∷
+    (names.VECTOR_MAP, codes "vector-map") ∷
+    (names.VECTOR_REF, codes "vector-ref") ∷
+    (names.VECTOR_SET_BANG, codes "vector-set!") ∷
+    (names.IS_VECTOR, codes "vector?") ∷
+    (names.IS_ZERO, codes "zero?") ∷
+    (names.FIND, codes "find") ∷
+    (names.FOR_ALL, codes "for-all") ∷
+    (names.EXISTS, codes "exists") ∷
+    (names.FILTER, codes "filter") ∷
+    (names.PARTITION, codes "partition") ∷
+    (names.FOLD_LEFT, codes "fold-left") ∷
+    (names.FOLD_RIGHT, codes "fold-right") ∷
+    (names.REMP, codes "remp") ∷
+    (names.REMOVE, codes "remove") ∷
+    (names.REMV, codes "remv") ∷
+    (names.REMQ, codes "remq") ∷
+    (names.MEMP, codes "memp") ∷
+    (names.MEMBER, codes "member") ∷
+    (names.MEMV, codes "memv") ∷
+    (names.MEMQ, codes "memq") ∷
+    (names.ASSP, codes "assp") ∷
+    (names.ASSOC, codes "assoc") ∷
+    (names.ASSV, codes "assv") ∷
+    (names.ASSQ, codes "assq") ∷
+    (names.CONS_STAR, codes "cons*") ∷
+    (names.WHEN, codes "when") ∷
+    (names.UNLESS, codes "unless") ∷
+    (names.DO, codes "do") ∷
+    (names.CASE_LAMBDA, codes "case-lambda") ∷
+    (names.MAKE_VARIABLE_TRANSFORMER, codes "make-variable-transformer") ∷
+    (names.SYNTAX_CASE, codes "syntax-case") ∷
+    (names.SYNTAX, codes "syntax") ∷
+    (names.IS_IDENTIFIER, codes "identifier?") ∷
+    (names.BOUND_IDENTIFIER_EQUAL, codes "bound-identifier=?") ∷
+    (names.FREE_IDENTIFIER_EQUAL, codes "free-identifier=?") ∷
+    (names.SYNTAX_TO_DATUM, codes "syntax->datum") ∷
+    (names.DATUM_TO_SYNTAX, codes "datum->syntax") ∷
+    (names.GENERATE_TEMPORARIES, codes "generate-temporaries") ∷
+    (names.WITH_SYNTAX, codes "with-syntax") ∷
+    (names.QUASISYNTAX, codes "quasisyntax") ∷
+    (names.UNSYNTAX, codes "unsyntax") ∷
+    (names.UNSYNTAX_SPLICING, codes "unsyntax-splicing") ∷
+    (names.SYNTAX_VIOLATION, codes "syntax-violation") ∷
+    (names.WITH_EXCEPTION_HANDLER, codes "with-exception-handler") ∷
+    (names.RAISE, codes "raise") ∷
+    (names.RAISE_CONTINUABLE, codes "raise-continuable") ∷
+    (names.CALL_WITH_INPUT_FILE, codes "call-with-input-file") ∷
+    (names.CALL_WITH_OUTPUT_FILE, codes "call-with-output-file") ∷
+    (names.CLOSE_INPUT_PORT, codes "close-input-port") ∷
+    (names.CLOSE_OUTPUT_PORT, codes "close-output-port") ∷
+    (names.CURRENT_ERROR_PORT, codes "current-error-port") ∷
+    (names.CURRENT_INPUT_PORT, codes "current-input-port") ∷
+    (names.CURRENT_OUTPUT_PORT, codes "current-output-port") ∷
+    (names.DISPLAY, codes "display") ∷
+    (names.EOF_OBJECT, codes "eof-object") ∷
+    (names.IS_EOF_OBJECT, codes "eof-object?") ∷
+    (names.IS_INPUT_PORT, codes "input-port?") ∷
+    (names.NEWLINE, codes "newline") ∷
+    (names.OPEN_INPUT_FILE, codes "open-input-file") ∷
+    (names.OPEN_OUTPUT_FILE, codes "open-output-file") ∷
+    (names.IS_OUTPUT_PORT, codes "output-port?") ∷
+    (names.PEEK_CHAR, codes "peek-char") ∷
+    (names.READ, codes "read") ∷
+    (names.READ_CHAR, codes "read-char") ∷
+    (names.WITH_INPUT_FROM_FILE, codes "with-input-from-file") ∷
+    (names.WITH_OUTPUT_TO_FILE, codes "with-output-to-file") ∷
+    (names.WRITE, codes "write") ∷
+    (names.WRITE_CHAR, codes "write-char") ∷
+    (names.MAKE_EQ_HASHTABLE, codes "make-eq-hashtable") ∷
+    (names.MAKE_EQV_HASHTABLE, codes "make-eqv-hashtable") ∷
+    (names.MAKE_HASHTABLE, codes "make-hashtable") ∷
+    (names.IS_HASHTABLE, codes "hashtable?") ∷
+    (names.HASHTABLE_SIZE, codes "hashtable-size") ∷
+    (names.HASHTABLE_REF, codes "hashtable-ref") ∷
+    (names.HASHTABLE_SET_BANG, codes "hashtable-set!") ∷
+    (names.HASHTABLE_DELETE_BANG, codes "hashtable-delete!") ∷
+    (names.IS_HASHTABLE_CONTAINS, codes "hashtable-contains?") ∷
+    (names.HASHTABLE_UPDATE_BANG, codes "hashtable-update!") ∷
+    (names.HASHTABLE_COPY, codes "hashtable-copy") ∷
+    (names.HASHTABLE_CLEAR_BANG, codes "hashtable-clear!") ∷
+    (names.HASHTABLE_KEYS, codes "hashtable-keys") ∷
+    (names.HASHTABLE_ENTRIES, codes "hashtable-entries") ∷
+    (names.HASHTABLE_EQUIVALENCE_FUNCTION, codes "hashtable-equivalence-function") ∷
+    (names.HASHTABLE_HASH_FUNCTION, codes "hashtable-hash-function") ∷
+    (names.IS_HASHTABLE_MUTABLE, codes "hashtable-mutable?") ∷
+    (names.EQUAL_HASH, codes "equal-hash") ∷
+    (names.STRING_HASH, codes "string-hash") ∷
+    (names.STRING_CI_HASH, codes "string-ci-hash") ∷
+    (names.SYMBOL_HASH, codes "symbol-hash") ∷
+    (names.LIST_SORT, codes "list-sort") ∷
+    (names.VECTOR_SORT, codes "vector-sort") ∷
+    (names.VECTOR_SORT_BANG, codes "vector-sort!") ∷
+    (names.IS_FILE_EXISTS, codes "file-exists?") ∷
+    (names.DELETE_FILE, codes "delete-file") ∷
+    (names.COMMAND_LINE, codes "command-line") ∷
+    (names.EXIT, codes "exit") ∷
+    (names.MAKE_RECORD_TYPE_DESCRIPTOR, codes "make-record-type-descriptor") ∷
+    (names.IS_RECORD_TYPE_DESCRIPTOR, codes "record-type-descriptor?") ∷
+    (names.MAKE_RECORD_CONSTRUCTOR_DESCRIPTOR, codes "make-record-constructor-descriptor") ∷
+    (names.RECORD_CONSTRUCTOR, codes "record-constructor") ∷
+    (names.RECORD_PREDICATE, codes "record-predicate") ∷
+    (names.RECORD_ACCESSOR, codes "record-accessor") ∷
+    (names.RECORD_MUTATOR, codes "record-mutator") ∷
+    (names.DEFINE_RECORD_TYPE, codes "define-record-type") ∷
+    (names.RECORD_TYPE_DESCRIPTOR, codes "record-type-descriptor") ∷
+    (names.RECORD_CONSTRUCTOR_DESCRIPTOR, codes "record-constructor-descriptor") ∷
+    (names.FIELDS, codes "fields") ∷
+    (names.MUTABLE, codes "mutable") ∷
+    (names.IMMUTABLE, codes "immutable") ∷
+    (names.PARENT, codes "parent") ∷
+    (names.PROTOCOL, codes "protocol") ∷
+    (names.SEALED, codes "sealed") ∷
+    (names.OPAQUE, codes "opaque") ∷
+    (names.NONGENERATIVE, codes "nongenerative") ∷
+    (names.PARENT_RTD, codes "parent-rtd") ∷
+    []
 
 abbrev pub op_names : List (List ℕ)
-op_names =
-    codes "quote" ∷
-    codes "lambda" ∷
-    codes "if" ∷
-    codes "set!" ∷
-    codes "begin" ∷
-    codes "letrec" ∷
-    codes "letrec*" ∷
-    codes "define" ∷
-    codes "define-syntax" ∷
-    codes "let-syntax" ∷
-    codes "letrec-syntax" ∷
-    codes "quasiquote" ∷
-    codes "else" ∷
-    codes "=>" ∷
-    codes "..." ∷
-    codes "_" ∷
-    codes "unquote" ∷
-    codes "unquote-splicing" ∷
-    codes "let" ∷
-    codes "let*" ∷
-    codes "let-values" ∷
-    codes "let*-values" ∷
-    codes "and" ∷
-    codes "or" ∷
-    codes "cond" ∷
-    codes "case" ∷
-    codes "assert" ∷
-    codes "syntax-rules" ∷
-    codes "identifier-syntax" ∷
-    codes "*" ∷
-    codes "+" ∷
-    codes "-" ∷
-    codes "/" ∷
-    codes "<" ∷
-    codes "<=" ∷
-    codes "=" ∷
-    codes ">" ∷
-    codes ">=" ∷
-    codes "abs" ∷
-    codes "acos" ∷
-    codes "angle" ∷
-    codes "append" ∷
-    codes "apply" ∷
-    codes "asin" ∷
-    codes "assertion-violation" ∷
-    codes "atan" ∷
-    codes "boolean=?" ∷
-    codes "boolean?" ∷
-    codes "call-with-current-continuation" ∷
-    codes "call-with-values" ∷
-    codes "call/cc" ∷
-    codes "car" ∷
-    codes "cdr" ∷
-    codes "caar" ∷
-    codes "cadr" ∷
-    codes "cdar" ∷
-    codes "cddr" ∷
-    codes "caaar" ∷
-    codes "caadr" ∷
-    codes "cadar" ∷
-    codes "caddr" ∷
-    codes "cdaar" ∷
-    codes "cdadr" ∷
-    codes "cddar" ∷
-    codes "cdddr" ∷
-    codes "caaaar" ∷
-    codes "caaadr" ∷
-    codes "caadar" ∷
-    codes "caaddr" ∷
-    codes "cadaar" ∷
-    codes "cadadr" ∷
-    codes "caddar" ∷
-    codes "cadddr" ∷
-    codes "cdaaar" ∷
-    codes "cdaadr" ∷
-    codes "cdadar" ∷
-    codes "cdaddr" ∷
-    codes "cddaar" ∷
-    codes "cddadr" ∷
-    codes "cdddar" ∷
-    codes "cddddr" ∷
-    codes "ceiling" ∷
-    codes "char->integer" ∷
-    codes "char<=?" ∷
-    codes "char<?" ∷
-    codes "char=?" ∷
-    codes "char>=?" ∷
-    codes "char>?" ∷
-    codes "char?" ∷
-    codes "complex?" ∷
-    codes "cons" ∷
-    codes "cos" ∷
-    codes "denominator" ∷
-    codes "div" ∷
-    codes "div-and-mod" ∷
-    codes "div0" ∷
-    codes "div0-and-mod0" ∷
-    codes "dynamic-wind" ∷
-    codes "eq?" ∷
-    codes "equal?" ∷
-    codes "eqv?" ∷
-    codes "error" ∷
-    codes "even?" ∷
-    codes "exact" ∷
-    codes "exact-integer-sqrt" ∷
-    codes "exact?" ∷
-    codes "exp" ∷
-    codes "expt" ∷
-    codes "finite?" ∷
-    codes "floor" ∷
-    codes "for-each" ∷
-    codes "gcd" ∷
-    codes "imag-part" ∷
-    codes "inexact" ∷
-    codes "inexact?" ∷
-    codes "infinite?" ∷
-    codes "integer->char" ∷
-    codes "integer-valued?" ∷
-    codes "integer?" ∷
-    codes "lcm" ∷
-    codes "length" ∷
-    codes "list" ∷
-    codes "list->string" ∷
-    codes "list->vector" ∷
-    codes "list-ref" ∷
-    codes "list-tail" ∷
-    codes "list?" ∷
-    codes "log" ∷
-    codes "magnitude" ∷
-    codes "make-polar" ∷
-    codes "make-rectangular" ∷
-    codes "make-string" ∷
-    codes "make-vector" ∷
-    codes "map" ∷
-    codes "max" ∷
-    codes "min" ∷
-    codes "mod" ∷
-    codes "mod0" ∷
-    codes "nan?" ∷
-    codes "negative?" ∷
-    codes "not" ∷
-    codes "null?" ∷
-    codes "number->string" ∷
-    codes "number?" ∷
-    codes "numerator" ∷
-    codes "odd?" ∷
-    codes "pair?" ∷
-    codes "positive?" ∷
-    codes "procedure?" ∷
-    codes "rational-valued?" ∷
-    codes "rational?" ∷
-    codes "rationalize" ∷
-    codes "real-part" ∷
-    codes "real-valued?" ∷
-    codes "real?" ∷
-    codes "reverse" ∷
-    codes "round" ∷
-    codes "sin" ∷
-    codes "sqrt" ∷
-    codes "string" ∷
-    codes "string->list" ∷
-    codes "string->number" ∷
-    codes "string->symbol" ∷
-    codes "string-append" ∷
-    codes "string-copy" ∷
-    codes "string-for-each" ∷
-    codes "string-length" ∷
-    codes "string-ref" ∷
-    codes "string<=?" ∷
-    codes "string<?" ∷
-    codes "string=?" ∷
-    codes "string>=?" ∷
-    codes "string>?" ∷
-    codes "string?" ∷
-    codes "substring" ∷
-    codes "symbol->string" ∷
-    codes "symbol=?" ∷
-    codes "symbol?" ∷
-    codes "tan" ∷
-    codes "truncate" ∷
-    codes "values" ∷
-    codes "vector" ∷
-    codes "vector->list" ∷
-    codes "vector-fill!" ∷
-    codes "vector-for-each" ∷
-    codes "vector-length" ∷
-    codes "vector-map" ∷
-    codes "vector-ref" ∷
-    codes "vector-set!" ∷
-    codes "vector?" ∷
-    codes "zero?" ∷
-    codes "find" ∷
-    codes "for-all" ∷
-    codes "exists" ∷
-    codes "filter" ∷
-    codes "partition" ∷
-    codes "fold-left" ∷
-    codes "fold-right" ∷
-    codes "remp" ∷
-    codes "remove" ∷
-    codes "remv" ∷
-    codes "remq" ∷
-    codes "memp" ∷
-    codes "member" ∷
-    codes "memv" ∷
-    codes "memq" ∷
-    codes "assp" ∷
-    codes "assoc" ∷
-    codes "assv" ∷
-    codes "assq" ∷
-    codes "cons*" ∷
-    codes "when" ∷
-    codes "unless" ∷
-    codes "do" ∷
-    codes "case-lambda" ∷
-    codes "make-variable-transformer" ∷
-    codes "syntax-case" ∷
-    codes "syntax" ∷
-    codes "identifier?" ∷
-    codes "bound-identifier=?" ∷
-    codes "free-identifier=?" ∷
-    codes "syntax->datum" ∷
-    codes "datum->syntax" ∷
-    codes "generate-temporaries" ∷
-    codes "with-syntax" ∷
-    codes "quasisyntax" ∷
-    codes "unsyntax" ∷
-    codes "unsyntax-splicing" ∷
-    codes "syntax-violation" ∷
-    codes "with-exception-handler" ∷
-    codes "raise" ∷
-    codes "raise-continuable" ∷
-    codes "call-with-input-file" ∷
-    codes "call-with-output-file" ∷
-    codes "close-input-port" ∷
-    codes "close-output-port" ∷
-    codes "current-error-port" ∷
-    codes "current-input-port" ∷
-    codes "current-output-port" ∷
-    codes "display" ∷
-    codes "eof-object" ∷
-    codes "eof-object?" ∷
-    codes "input-port?" ∷
-    codes "newline" ∷
-    codes "open-input-file" ∷
-    codes "open-output-file" ∷
-    codes "output-port?" ∷
-    codes "peek-char" ∷
-    codes "read" ∷
-    codes "read-char" ∷
-    codes "with-input-from-file" ∷
-    codes "with-output-to-file" ∷
-    codes "write" ∷
-    codes "write-char" ∷
-    codes "make-eq-hashtable" ∷
-    codes "make-eqv-hashtable" ∷
-    codes "make-hashtable" ∷
-    codes "hashtable?" ∷
-    codes "hashtable-size" ∷
-    codes "hashtable-ref" ∷
-    codes "hashtable-set!" ∷
-    codes "hashtable-delete!" ∷
-    codes "hashtable-contains?" ∷
-    codes "hashtable-update!" ∷
-    codes "hashtable-copy" ∷
-    codes "hashtable-clear!" ∷
-    codes "hashtable-keys" ∷
-    codes "hashtable-entries" ∷
-    codes "hashtable-equivalence-function" ∷
-    codes "hashtable-hash-function" ∷
-    codes "hashtable-mutable?" ∷
-    codes "equal-hash" ∷
-    codes "string-hash" ∷
-    codes "string-ci-hash" ∷
-    codes "symbol-hash" ∷
-    codes "list-sort" ∷
-    codes "vector-sort" ∷
-    codes "vector-sort!" ∷
-    codes "file-exists?" ∷
-    codes "delete-file" ∷
-    codes "command-line" ∷
-    codes "exit" ∷
-    codes "make-record-type-descriptor" ∷
-    codes "record-type-descriptor?" ∷
-    codes "make-record-constructor-descriptor" ∷
-    codes "record-constructor" ∷
-    codes "record-predicate" ∷
-    codes "record-accessor" ∷
-    codes "record-mutator" ∷
-    codes "define-record-type" ∷
-    codes "record-type-descriptor" ∷
-    codes "record-constructor-descriptor" ∷
-    codes "fields" ∷
-    codes "mutable" ∷
-    codes "immutable" ∷
-    codes "parent" ∷
-    codes "protocol" ∷
-    codes "sealed" ∷
-    codes "opaque" ∷
-    codes "nongenerative" ∷
-    codes "parent-rtd" ∷
-    []
+op_names = map (λ (row : ℕ × List ℕ). row.1) op_rows

@@ -1,5 +1,8 @@
 //! The names that this implementation gives, by number.
 
+pub mod laws;
+pub mod names;
+
 ghost use Rattle.std.specs.Prelude.{◌≡◌, ◌<◌, length, option_map, IfSome};
 ghost use Rattle.sx_base.specs.Op.{name_count, op_text, text_at, op_named, is_keyword, place_from, now_all};
 
@@ -322,12 +325,12 @@ impl Op {
         ensures { result ≡ is_keyword self.now.0 }
     {
         let n = self.0;
-        n <= 28
-            || (211 <= n && n <= 214)
-            || n == 216
-            || n == 217
-            || (224 <= n && n <= 227)
-            || (289 <= n && n <= 300)
+        n <= names::IDENTIFIER_SYNTAX
+            || (names::WHEN <= n && n <= names::CASE_LAMBDA)
+            || n == names::SYNTAX_CASE
+            || n == names::SYNTAX
+            || (names::WITH_SYNTAX <= n && n <= names::UNSYNTAX_SPLICING)
+            || (names::DEFINE_RECORD_TYPE <= n && n <= names::PARENT_RTD)
     }
 }
 

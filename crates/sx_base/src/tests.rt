@@ -5,7 +5,7 @@ use crate::fault_line::fault_line;
 use crate::items::Items;
 use crate::library::LibName;
 use crate::name::Names;
-use crate::op::{Op, op_text};
+use crate::op::{NAME_COUNT, Op, op_text};
 use crate::place::place_of;
 use crate::span::Span;
 use crate::symbol::Symbol;
@@ -110,7 +110,7 @@ fn ops_are_numbered_in_the_order_of_the_libraries(rt: HostRuntime) {
         (300, "parent-rtd"),
     ];
     for (number, name) in names {
-        if number < 301 {
+        if number < NAME_COUNT {
             assert_eq!(rt; op_text(&Op(number)), name);
         }
     }

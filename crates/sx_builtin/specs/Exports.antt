@@ -4,14 +4,17 @@ use Rattle.sx_base.specs.Op.{op_text}
 use Rattle.sx_base.specs.declared.library.LibName.{LibName}
 use Rattle.sx_base.specs.declared.library.LibName.TheVariants as name
 use Rattle.sx_base.specs.declared.name.Label.{Label}
+use Rattle.sx_base.specs.declared.op.names.TheConstants as names
 use Rattle.sx_builtin.specs.declared.library.Library.{Library}
 use Rattle.sx_builtin.specs.Libraries.{library_named, library_numbers}
 
--- the definitions of the derived library, in order, each with the number of its name where it is exported:
--- `syntax-rules let let* and or cond`, `case-clauses` for itself alone, `case when unless with-syntax do
--- let*-values`, `lv-formals` and `lv-clauses` for itself alone, `let-values assert identifier-syntax`
+-- the definitions of the derived library, in order, each with the number of its name where it is exported; those of `case-clauses`,
+-- `lv-formals` and `lv-clauses` it has for itself alone
 abbrev pub derived : List (Option ℕ)
-derived = Some 27 ∷ Some 18 ∷ Some 19 ∷ Some 22 ∷ Some 23 ∷ Some 24 ∷ None ∷ Some 25 ∷ Some 211 ∷ Some 212 ∷ Some 224 ∷ Some 213 ∷ Some 21 ∷ None ∷ None ∷ Some 20 ∷ Some 26 ∷ Some 28 ∷ []
+derived =
+    Some names.SYNTAX_RULES ∷ Some names.LET ∷ Some names.LET_STAR ∷ Some names.AND ∷ Some names.OR ∷ Some names.COND ∷
+    None ∷ Some names.CASE ∷ Some names.WHEN ∷ Some names.UNLESS ∷ Some names.WITH_SYNTAX ∷ Some names.DO ∷
+    Some names.LET_STAR_VALUES ∷ None ∷ None ∷ Some names.LET_VALUES ∷ Some names.ASSERT ∷ Some names.IDENTIFIER_SYNTAX ∷ []
 
 abbrev pub is_number : ℕ → Option ℕ → Bool
 is_number n None = false

@@ -4,6 +4,7 @@ use Rattle.std.specs.Borrow.{Bor}
 use Rattle.std.specs.Cmp.Lexicographic.{pointwise}
 use Rattle.std.specs.List.{find, flat_map, list_any}
 use Rattle.sx_base.specs.Op.{name_count}
+use Rattle.sx_base.specs.declared.op.names.TheConstants as names
 use Rattle.sx_builtin.specs.declared.library.Library.{Library}
 use Rattle.sx_builtin.specs.declared.library.Library.TheVariants as l
 use Rattle.sx_builtin.specs.declared.library.Run.{Run}
@@ -26,26 +27,26 @@ library_parts l.Programs = codes "rnrs" ∷ codes "programs" ∷ []
 library_parts l.RecordsProcedural = codes "rnrs" ∷ codes "records" ∷ codes "procedural" ∷ []
 library_parts l.RecordsSyntactic = codes "rnrs" ∷ codes "records" ∷ codes "syntactic" ∷ []
 
--- from one number up to another
+-- from one name up to before another
 abbrev pub run : ℕ → ℕ → Run
 run from to = record { from = from; to = to }
 
 -- `(rnrs)` has what all the others have but the two on records; `(rnrs syntax-case)` has `...` and `_`
 -- of `(rnrs base)` besides its own
 abbrev pub library_runs : Library → List Run
-library_runs l.Rnrs = run 0 282 ∷ []
-library_runs l.Base = run 0 191 ∷ []
-library_runs l.Lists = run 191 211 ∷ []
-library_runs l.Control = run 211 215 ∷ []
-library_runs l.SyntaxCase = run 215 229 ∷ run 14 16 ∷ []
-library_runs l.Exceptions = run 229 232 ∷ []
-library_runs l.IoSimple = run 232 254 ∷ []
-library_runs l.Hashtables = run 254 275 ∷ []
-library_runs l.Sorting = run 275 278 ∷ []
-library_runs l.Files = run 278 280 ∷ []
-library_runs l.Programs = run 280 282 ∷ []
-library_runs l.RecordsProcedural = run 282 289 ∷ []
-library_runs l.RecordsSyntactic = run 289 name_count ∷ []
+library_runs l.Rnrs = run names.QUOTE names.MAKE_RECORD_TYPE_DESCRIPTOR ∷ []
+library_runs l.Base = run names.QUOTE names.FIND ∷ []
+library_runs l.Lists = run names.FIND names.WHEN ∷ []
+library_runs l.Control = run names.WHEN names.MAKE_VARIABLE_TRANSFORMER ∷ []
+library_runs l.SyntaxCase = run names.MAKE_VARIABLE_TRANSFORMER names.WITH_EXCEPTION_HANDLER ∷ run names.ELLIPSIS names.UNQUOTE ∷ []
+library_runs l.Exceptions = run names.WITH_EXCEPTION_HANDLER names.CALL_WITH_INPUT_FILE ∷ []
+library_runs l.IoSimple = run names.CALL_WITH_INPUT_FILE names.MAKE_EQ_HASHTABLE ∷ []
+library_runs l.Hashtables = run names.MAKE_EQ_HASHTABLE names.LIST_SORT ∷ []
+library_runs l.Sorting = run names.LIST_SORT names.IS_FILE_EXISTS ∷ []
+library_runs l.Files = run names.IS_FILE_EXISTS names.COMMAND_LINE ∷ []
+library_runs l.Programs = run names.COMMAND_LINE names.MAKE_RECORD_TYPE_DESCRIPTOR ∷ []
+library_runs l.RecordsProcedural = run names.MAKE_RECORD_TYPE_DESCRIPTOR names.DEFINE_RECORD_TYPE ∷ []
+library_runs l.RecordsSyntactic = run names.DEFINE_RECORD_TYPE name_count ∷ []
 
 abbrev pub has_parts : List (List ℕ) → List (List ℕ) → Bool
 has_parts given parts = pointwise (pointwise ◌==◌) given parts

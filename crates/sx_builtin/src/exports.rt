@@ -14,30 +14,30 @@ use sx_base::items::Items;
 use sx_base::library::LibName;
 use sx_base::memory::Memory;
 use sx_base::name::{Label, Name};
-use sx_base::op::{Op, op_text};
+use sx_base::op::{Op, names, op_text};
 use sx_base::symbol::Symbol;
 
 /// The definitions of the derived library, in order, each with the number of its name where it is
 /// exported. `case-clauses`, `lv-formals` and `lv-clauses` are not.
 pub const DERIVED: [Option<u16>; 18] = [
-    Some(27),
-    Some(18),
-    Some(19),
-    Some(22),
-    Some(23),
-    Some(24),
+    Some(names::SYNTAX_RULES),
+    Some(names::LET),
+    Some(names::LET_STAR),
+    Some(names::AND),
+    Some(names::OR),
+    Some(names::COND),
     None,
-    Some(25),
-    Some(211),
-    Some(212),
-    Some(224),
-    Some(213),
-    Some(21),
+    Some(names::CASE),
+    Some(names::WHEN),
+    Some(names::UNLESS),
+    Some(names::WITH_SYNTAX),
+    Some(names::DO),
+    Some(names::LET_STAR_VALUES),
     None,
     None,
-    Some(20),
-    Some(26),
-    Some(28),
+    Some(names::LET_VALUES),
+    Some(names::ASSERT),
+    Some(names::IDENTIFIER_SYNTAX),
 ];
 
 // The libraries that labels are named by.

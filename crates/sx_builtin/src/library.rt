@@ -3,7 +3,7 @@
 ghost use Rattle.std.specs.Prelude.{◌≡◌};
 ghost use Rattle.sx_builtin.specs.Libraries.{library_parts, library_runs, library_named, has_parts, first_with, now_parts};
 
-use sx_base::op::NAME_COUNT;
+use sx_base::op::{NAME_COUNT, names};
 use sx_base::symbol::Symbol;
 
 /// A library that this implementation gives.
@@ -25,12 +25,82 @@ pub enum Library {
     RecordsSyntactic,
 }
 
-/// Names in a row, from one number up to another.
+/// Names in a row, from one number up to before another.
 #[derive(Clone, Copy, Debug)]
 pub struct Run {
     pub from: u16,
     pub to: u16,
 }
+
+const RNRS: Run = Run {
+    from: names::QUOTE,
+    to: names::MAKE_RECORD_TYPE_DESCRIPTOR,
+};
+
+const BASE: Run = Run {
+    from: names::QUOTE,
+    to: names::FIND,
+};
+
+const LISTS: Run = Run {
+    from: names::FIND,
+    to: names::WHEN,
+};
+
+const CONTROL: Run = Run {
+    from: names::WHEN,
+    to: names::MAKE_VARIABLE_TRANSFORMER,
+};
+
+const SYNTAX_CASE: Run = Run {
+    from: names::MAKE_VARIABLE_TRANSFORMER,
+    to: names::WITH_EXCEPTION_HANDLER,
+};
+
+const ELLIPSIS_AND_UNDERSCORE: Run = Run {
+    from: names::ELLIPSIS,
+    to: names::UNQUOTE,
+};
+
+const EXCEPTIONS: Run = Run {
+    from: names::WITH_EXCEPTION_HANDLER,
+    to: names::CALL_WITH_INPUT_FILE,
+};
+
+const IO_SIMPLE: Run = Run {
+    from: names::CALL_WITH_INPUT_FILE,
+    to: names::MAKE_EQ_HASHTABLE,
+};
+
+const HASHTABLES: Run = Run {
+    from: names::MAKE_EQ_HASHTABLE,
+    to: names::LIST_SORT,
+};
+
+const SORTING: Run = Run {
+    from: names::LIST_SORT,
+    to: names::IS_FILE_EXISTS,
+};
+
+const FILES: Run = Run {
+    from: names::IS_FILE_EXISTS,
+    to: names::COMMAND_LINE,
+};
+
+const PROGRAMS: Run = Run {
+    from: names::COMMAND_LINE,
+    to: names::MAKE_RECORD_TYPE_DESCRIPTOR,
+};
+
+const RECORDS_PROCEDURAL: Run = Run {
+    from: names::MAKE_RECORD_TYPE_DESCRIPTOR,
+    to: names::DEFINE_RECORD_TYPE,
+};
+
+const RECORDS_SYNTACTIC: Run = Run {
+    from: names::DEFINE_RECORD_TYPE,
+    to: NAME_COUNT,
+};
 
 const LIBRARIES: [Library; 13] = [
     Library::Rnrs,
@@ -82,22 +152,19 @@ impl Library {
         ensures { result.now ≡ library_runs self }
     {
         match self {
-            Library::Rnrs => &[Run { from: 0, to: 282 }],
-            Library::Base => &[Run { from: 0, to: 191 }],
-            Library::Lists => &[Run { from: 191, to: 211 }],
-            Library::Control => &[Run { from: 211, to: 215 }],
-            Library::SyntaxCase => &[Run { from: 215, to: 229 }, Run { from: 14, to: 16 }],
-            Library::Exceptions => &[Run { from: 229, to: 232 }],
-            Library::IoSimple => &[Run { from: 232, to: 254 }],
-            Library::Hashtables => &[Run { from: 254, to: 275 }],
-            Library::Sorting => &[Run { from: 275, to: 278 }],
-            Library::Files => &[Run { from: 278, to: 280 }],
-            Library::Programs => &[Run { from: 280, to: 282 }],
-            Library::RecordsProcedural => &[Run { from: 282, to: 289 }],
-            Library::RecordsSyntactic => &[Run {
-                from: 289,
-                to: NAME_COUNT,
-            }],
+            Library::Rnrs => &[RNRS],
+            Library::Base => &[BASE],
+            Library::Lists => &[LISTS],
+            Library::Control => &[CONTROL],
+            Library::SyntaxCase => &[SYNTAX_CASE, ELLIPSIS_AND_UNDERSCORE],
+            Library::Exceptions => &[EXCEPTIONS],
+            Library::IoSimple => &[IO_SIMPLE],
+            Library::Hashtables => &[HASHTABLES],
+            Library::Sorting => &[SORTING],
+            Library::Files => &[FILES],
+            Library::Programs => &[PROGRAMS],
+            Library::RecordsProcedural => &[RECORDS_PROCEDURAL],
+            Library::RecordsSyntactic => &[RECORDS_SYNTACTIC],
         }
     }
 }

@@ -3,7 +3,7 @@
 ghost use Rattle.std.specs.Prelude.{◌≡◌, option_map};
 ghost use Rattle.sx_builtin.specs.Prelude.{prelude_text};
 
-use sx_base::op::Op;
+use sx_base::op::{Op, names};
 
 pub const MAP: &[u8] = br#"(letrec ((one (lambda (f l) (if (null? l) '()
        (cons (f (car l)) (one f (cdr l))))))
@@ -48,16 +48,16 @@ pub fn prelude_source(op: Op) -> Option<&'static [u8]>
     ensures { option_map (λ text. text.now) result ≡ prelude_text op.0 }
 {
     match op.0 {
-        110 => Some(FOR_EACH),
-        133 => Some(MAP),
-        191 => Some(FIND),
-        192 => Some(FOR_ALL),
-        193 => Some(EXISTS),
-        194 => Some(FILTER),
-        196 => Some(FOLD_LEFT),
-        197 => Some(FOLD_RIGHT),
-        198 => Some(REMP),
-        202 => Some(MEMP),
+        names::FOR_EACH => Some(FOR_EACH),
+        names::MAP => Some(MAP),
+        names::FIND => Some(FIND),
+        names::FOR_ALL => Some(FOR_ALL),
+        names::EXISTS => Some(EXISTS),
+        names::FILTER => Some(FILTER),
+        names::FOLD_LEFT => Some(FOLD_LEFT),
+        names::FOLD_RIGHT => Some(FOLD_RIGHT),
+        names::REMP => Some(REMP),
+        names::MEMP => Some(MEMP),
         _ => None,
     }
 }

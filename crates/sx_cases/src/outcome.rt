@@ -9,18 +9,14 @@ use sx_outside::{MemFiles, MemSink};
 use sx_prims::table::PrimTable;
 use sx_run::status::Status;
 use sx_run::top;
+use sx_run::top::Outside;
 use sx_standing::means::Counts;
 
 /// How many bytes a stream takes. No case has as many to be written.
 const ROOM: usize = 65_536;
 
 // Files and streams in memory.
-#[derive(Drop)]
-struct Outside {
-    files: MemFiles,
-    out: MemSink,
-    err: MemSink,
-}
+type InMemory = Outside<MemFiles, MemSink, MemSink>;
 
 // How a run ended, and what it wrote.
 #[derive(Drop)]
@@ -36,25 +32,7 @@ fn stream(alloc: Global, fails: Vec<(u64, usize)>) -> Result<MemSink, Memory> {
     Ok(stream)
 }
 
-fn run_over<N: Ledger, L: Ledger>(
-    alloc: Global,
-    words: &[String],
-    prims: &PrimTable,
-    outside: &mut Outside,
-    counts: &mut Counts<N, L>,
-) -> Status {
-    top::run(
-        alloc,
-        words,
-        &mut outside.files,
-        &mut outside.out,
-        &mut outside.err,
-        prims,
-        counts,
-    )
-}
-
-fn end_of(alloc: Global, status: Status, outside: &Outside) -> Result<End, AllocError> {
+fn end_of(alloc: Global, status: Status, outside: &InMemory) -> Result<End, AllocError> {
     Ok(End {
         status,
         out: String::from_utf8_lossy(alloc, outside.out.bytes())?,
@@ -93,7 +71,7 @@ pub fn outcome<N: Ledger, L: Ledger>(
         out: stream(alloc, fails.outs)?,
         err: stream(alloc, fails.errs)?,
     };
-    let status = run_over(alloc, &words, prims, &mut outside, counts);
+    let status = top::run(alloc, &words, &mut outside, prims, counts);
     let end = end_of(alloc, status, &outside)?;
     Ok(shown(alloc, is_told, end)?)
 }

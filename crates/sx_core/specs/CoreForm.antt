@@ -1,5 +1,6 @@
 -- The keywords that expansion itself knows, by place and by their number in the table of names.
 use Rattle.std.specs.Prelude.{ℕ, List, [], ◌∷◌, Option, Some, None, slice_get, ◌==◌, if◌then◌else◌}
+use Rattle.sx_base.specs.declared.op.names.TheConstants as names
 use Rattle.sx_core.specs.declared.core_form.CoreForm.{CoreForm}
 use Rattle.sx_core.specs.declared.core_form.CoreForm.TheVariants as form
 use Rattle.sx_core.specs.declared.core_form.TheConstants.{CORE_FORMS}
@@ -43,42 +44,42 @@ place form.Nongenerative = 34
 place form.ParentRtd = 35
 
 abbrev pub number : CoreForm → ℕ
-number form.Quote = 0
-number form.Lambda = 1
-number form.CaseLambda = 214
-number form.If = 2
-number form.Set = 3
-number form.Begin = 4
-number form.Letrec = 5
-number form.LetrecStar = 6
-number form.Define = 7
-number form.DefineSyntax = 8
-number form.LetSyntax = 9
-number form.LetrecSyntax = 10
-number form.Quasiquote = 11
-number form.Syntax = 217
-number form.Quasisyntax = 225
-number form.SyntaxCase = 216
-number form.Else = 12
-number form.Arrow = 13
-number form.Ellipsis = 14
-number form.Underscore = 15
-number form.Unquote = 16
-number form.UnquoteSplicing = 17
-number form.Unsyntax = 226
-number form.UnsyntaxSplicing = 227
-number form.DefineRecordType = 289
-number form.RecordTypeDescriptor = 290
-number form.RecordConstructorDescriptor = 291
-number form.Fields = 292
-number form.Mutable = 293
-number form.Immutable = 294
-number form.Parent = 295
-number form.Protocol = 296
-number form.Sealed = 297
-number form.Opaque = 298
-number form.Nongenerative = 299
-number form.ParentRtd = 300
+number form.Quote = names.QUOTE
+number form.Lambda = names.LAMBDA
+number form.CaseLambda = names.CASE_LAMBDA
+number form.If = names.IF
+number form.Set = names.SET_BANG
+number form.Begin = names.BEGIN
+number form.Letrec = names.LETREC
+number form.LetrecStar = names.LETREC_STAR
+number form.Define = names.DEFINE
+number form.DefineSyntax = names.DEFINE_SYNTAX
+number form.LetSyntax = names.LET_SYNTAX
+number form.LetrecSyntax = names.LETREC_SYNTAX
+number form.Quasiquote = names.QUASIQUOTE
+number form.Syntax = names.SYNTAX
+number form.Quasisyntax = names.QUASISYNTAX
+number form.SyntaxCase = names.SYNTAX_CASE
+number form.Else = names.ELSE
+number form.Arrow = names.ARROW
+number form.Ellipsis = names.ELLIPSIS
+number form.Underscore = names.UNDERSCORE
+number form.Unquote = names.UNQUOTE
+number form.UnquoteSplicing = names.UNQUOTE_SPLICING
+number form.Unsyntax = names.UNSYNTAX
+number form.UnsyntaxSplicing = names.UNSYNTAX_SPLICING
+number form.DefineRecordType = names.DEFINE_RECORD_TYPE
+number form.RecordTypeDescriptor = names.RECORD_TYPE_DESCRIPTOR
+number form.RecordConstructorDescriptor = names.RECORD_CONSTRUCTOR_DESCRIPTOR
+number form.Fields = names.FIELDS
+number form.Mutable = names.MUTABLE
+number form.Immutable = names.IMMUTABLE
+number form.Parent = names.PARENT
+number form.Protocol = names.PROTOCOL
+number form.Sealed = names.SEALED
+number form.Opaque = names.OPAQUE
+number form.Nongenerative = names.NONGENERATIVE
+number form.ParentRtd = names.PARENT_RTD
 
 abbrev pub at_place : ℕ → Option CoreForm
 at_place n = slice_get CORE_FORMS n

@@ -1,5 +1,6 @@
 -- Small examples, of what each test takes and of what it refuses.
 use Rattle.std.specs.Prelude.{◌≡◌, ℕ, Bool, true, false, List, [], ◌∷◌, Option, None, Some, codes, pos}
+use Rattle.sx_base.specs.Op.{name_count}
 use Rattle.sx_base.specs.Datum as datum
 use Rattle.sx_base.specs.declared.atom.Atom.TheVariants as a
 use Rattle.sx_base.specs.declared.library.LibName.{LibName}
@@ -8,6 +9,7 @@ use Rattle.sx_base.specs.declared.name.CodeNo.{CodeNo}
 use Rattle.sx_base.specs.declared.name.Label.{Label}
 use Rattle.sx_base.specs.declared.op.Op.{Op}
 use Rattle.sx_base.specs.declared.span.Span.{Span}
+use Rattle.sx_base.specs.declared.op.names.TheConstants as names
 use Rattle.sx_tree.specs.Context.{blank}
 use Rattle.sx_tree.specs.Tree as tree
 use Rattle.sx_core.specs.Core.{PlainCore, quoted, variable, primitive, assignment, sequence, procedure, letrec, instance, matching}
@@ -97,8 +99,8 @@ pub record WellMadeExamples : Type 0 where
   pub two_cases : is_well_made [] (procedure (code_number 0) (taking x one (taking y one no_case)) true) ≡ false
   pub case_lambda : is_well_made [] (procedure (code_number 0) (taking x one (taking y one no_case)) false) ≡ true
   -- the last op, and one past it
-  pub last_op : is_well_made [] (op 300) ≡ true
-  pub past_ops : is_well_made [] (op 301) ≡ false
+  pub last_op : is_well_made [] (op names.PARENT_RTD) ≡ true
+  pub past_ops : is_well_made [] (op name_count) ≡ false
   -- one label of two binders, and one number of two codes
   pub bound_twice : is_well_made [] (both (lambda 0 x one) (lambda 1 x one)) ≡ false
   pub numbered_twice : is_well_made [] (both (lambda 0 x one) (lambda 0 y one)) ≡ false
@@ -179,8 +181,8 @@ pub record FollowsExamples : Type 0 where
   -- an export of its own, of an earlier record, of a name that is given, and of none
   pub exported : follows defines_z [] ≡ true
   pub reexported : follows (recorded library.Program ((codes "z", z) ∷ []) [] [] []) (defines_z ∷ []) ≡ true
-  pub given_export : follows (recorded library.Program ((codes "car", label_of library.Core 300) ∷ []) [] [] []) [] ≡ true
-  pub derived_export : follows (recorded library.Program ((codes "let", label_of library.Core 18) ∷ []) [] [] []) [] ≡ false
+  pub given_export : follows (recorded library.Program ((codes "car", label_of library.Core names.PARENT_RTD) ∷ []) [] [] []) [] ≡ true
+  pub derived_export : follows (recorded library.Program ((codes "let", label_of library.Core names.LET) ∷ []) [] [] []) [] ≡ false
   pub unknown_export : follows (recorded library.Program ((codes "z", z) ∷ []) [] [] []) [] ≡ false
   pub exported_twice : follows (recorded library.Program ((codes "z", z) ∷ (codes "z", z) ∷ []) [] [] []) (defines_z ∷ []) ≡ false
   -- the libraries that it mentions

@@ -12,6 +12,7 @@ ghost use Rattle.sx_prelude.specs.Prelude.{kept};
 ghost use Rattle.sx_derived.specs.Names.{path, start, names, exports_of};
 ghost use Rattle.sx_derived.specs.Derived.{tree_at, trees, forms_of, record_of, derived_record, label_or, relabelled_in};
 
+use crate::implementation::Implementation;
 use crate::names::{exports_of, names, path, start};
 use indexmap::IndexMap;
 use std::alloc::Global;
@@ -30,7 +31,6 @@ use sx_builtin::exports::DERIVED;
 use sx_core::code::Code;
 use sx_core::record::LibRecord;
 use sx_expand::expander::Expander;
-use sx_prelude::prelude::Prelude;
 use sx_prims::table::PrimTable;
 use sx_reader::read::read_all;
 use sx_stage::earlier::Earlier;
@@ -76,6 +76,16 @@ fn forms_of(alloc: Global, place: &Span, text: &[u8]) -> Result<Items<Syn>, Stop
     trees(alloc, place, &found)
 }
 
+// What stands round the forms of the derived library.
+#[derive(Drop)]
+struct Text<'a> {
+    alloc: Global,
+    /// Its start.
+    place: &'a Span,
+    imports: &'a [(Symbol, Label)],
+    exports: &'a [(Symbol, Syn)],
+}
+
 // An expander behind no records.
 fn expander_of(
     alloc: Global,
@@ -91,71 +101,63 @@ fn expander_of(
 
 // The record of these forms.
 fn record_by<N: Ledger, L: Ledger>(
-    alloc: Global,
     begun: Expander,
-    exports: &[(Symbol, Syn)],
-    forms: &[Syn],
-    place: &Span,
+    text: &Text,
+    forms: Items<Syn>,
     prims: &PrimTable,
     counts: &mut Counts<N, L>,
 ) -> Result<LibRecord, Stop>
     requires { begun.failed ≡ false }
-    ensures { Gives (λ r. r) result (library_record begun [] [] place.now exports.now forms.now) }
+    ensures { Gives (λ r. r) result (library_record begun [] [] text.now.place.now text.now.exports.now forms) }
 {
     let earlier = Earlier {
         records: &[],
         needs: &[],
     };
     let means = Means { earlier, prims };
-    begun.top(forms, place, exports, Items::new(alloc), &means, counts)
+    let version = Items::new(text.alloc);
+    begun.top(forms, text.place, text.exports, version, &means, counts)
 }
 
 // The record of these forms, where this is what the procedures mean that are texts.
 #[tactic(auto, unfolding(crate::specs::Derived::record_of))]
 fn record_of<N: Ledger, L: Ledger>(
-    alloc: Global,
     codes: IndexMap<CodeNo, Rc<Code>>,
-    imports: &[(Symbol, Label)],
-    exports: &[(Symbol, Syn)],
-    forms: &[Syn],
-    place: &Span,
+    text: &Text,
+    forms: Items<Syn>,
     prims: &PrimTable,
     counts: &mut Counts<N, L>,
 ) -> Result<LibRecord, Stop>
-    requires imports { imports.now ≡ names }
-    requires exports { exports.now ≡ exports_of derived }
-    requires place { place.now ≡ start }
-    ensures { Gives (λ r. r) result (record_of (table.seen codes.entries) forms.now) }
+    requires imports { text.now.imports.now ≡ names }
+    requires exports { text.now.exports.now ≡ exports_of derived }
+    requires place { text.now.place.now ≡ start }
+    ensures { Gives (λ r. r) result (record_of (table.seen codes.entries) forms) }
 {
-    let begun = expander_of(alloc, imports, codes)?;
-    record_by(alloc, begun, exports, forms, place, prims, counts)
+    let begun = expander_of(text.alloc, text.imports, codes)?;
+    record_by(begun, text, forms, prims, counts)
 }
 
 /// The record of the derived library. It is expanded behind no other.
 #[tactic(auto, unfolding(crate::specs::Derived::derived_record))]
 pub fn derived_record<N: Ledger, L: Ledger>(
     alloc: Global,
-    prelude: &Prelude,
-    prims: &PrimTable,
+    implementation: &Implementation,
     counts: &mut Counts<N, L>,
 ) -> Result<LibRecord, Stop>
-    ensures { Gives (λ r. r) result (derived_record (kept prelude.now)) }
+    ensures { Gives (λ r. r) result (derived_record (kept implementation.now.prelude)) }
 {
     let place = start(alloc)?;
     let forms = forms_of(alloc, &place, derived_source())?;
     let names = names(alloc)?;
     let exports = exports_of(alloc, &DERIVED)?;
-    let codes = prelude.codes(alloc)?;
-    record_of(
+    let codes = implementation.prelude.codes(alloc)?;
+    let text = Text {
         alloc,
-        codes,
-        names.as_slice(),
-        exports.as_slice(),
-        forms.as_slice(),
-        &place,
-        prims,
-        counts,
-    )
+        place: &place,
+        imports: names.as_slice(),
+        exports: exports.as_slice(),
+    };
+    record_of(codes, &text, forms, implementation.primitives, counts)
 }
 
 // The label under which a record exports a name, or another.

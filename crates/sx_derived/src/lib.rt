@@ -16,4 +16,5 @@
 #![tactic(auto)]
 
 pub mod derived;
+pub mod implementation;
 pub mod names;

@@ -6,10 +6,11 @@ use Rattle.sx_base.specs.declared.atom.Atom.TheVariants as a
 use Rattle.sx_base.specs.declared.fault.Bare.{Bare}
 use Rattle.sx_base.specs.declared.fault.FaultKind.{FaultKind}
 use Rattle.sx_base.specs.declared.fault.FaultKind.TheVariants as kind
+use Rattle.sx_base.specs.declared.op.names.TheConstants as names
 use Rattle.sx_core.specs.Template as template
 use Rattle.sx_core.specs.Template.{PlainTemplate, PlainItems}
 use Rattle.sx_frames.specs.Scope.{Scope}
-use Rattle.sx_tree.specs.Measures.{within, fits}
+use Rattle.sx_tree.specs.Measures.{within, fits, max_height}
 use Rattle.sx_tree.specs.Tree.{Tree, vector_of, list_of}
 use Rattle.sx_value.specs.Cells.{vector_at, string_at}
 use Rattle.sx_value.specs.FromDatum.{pairs_stored, vector_stored}
@@ -35,6 +36,7 @@ use Rattle.sx_prims.specs.Syntax.{identifier, identifier_made, temporaries_made}
 use Rattle.sx_prims.specs.declared.made.Made.{Made}
 use Rattle.sx_prims.specs.declared.made.Made.TheVariants as made
 use Rattle.sx_prims.specs.declared.primitive.Primitive.{Primitive}
+use Rattle.sx_prims.specs.declared.rows.TheConstants as rows
 use Rattle.sx_template.specs.Binds.{Binds, Absent}
 use Rattle.sx_template.specs.Instance as instances
 use Rattle.sx_template.specs.Lengths.{agree, or_none}
@@ -121,7 +123,7 @@ others-tree (Err f) h = h
 others-tree_by : (op : ℕ) (cells : List Cell) (x : Value) (o : Option Tree) → Others (tree_by op cells x o)
 others-tree_by op cells x None = tt
 others-tree_by op cells x (Some id) =
-    others-if (is_datum cells x) (tree_made (grown_to 1000 id cells x)) (Err (refused op)) (others-tree (grown_to 1000 id cells x) (others-grown 1000 id cells x)) tt
+    others-if (is_datum cells x) (tree_made (grown_to max_height id cells x)) (Err (refused op)) (others-tree (grown_to max_height id cells x) (others-grown max_height id cells x)) tt
 
 others-syntax : (op : ℕ) (args : List Value) (cells : List Cell) → Others (syntax_answer op args cells)
 unfolding syntax_answer
@@ -137,29 +139,29 @@ other-if false f g h k = k
 others-raised : (op : ℕ) (args : List Value) (cells : List Cell) → IsOther (raised_fault op args cells).kind
 unfolding raised_fault
 others-raised op [] cells = tt
-others-raised op (x ∷ []) cells = other-if (op == 230) (raised []) (refused op) tt tt
+others-raised op (x ∷ []) cells = other-if (op == names.RAISE) (raised []) (refused op) tt tt
 others-raised op (who ∷ message ∷ rest) cells = other-if (is_who who) (raised (word_of (string_of cells message))) (refused op) tt tt
 
 others-row : (row op : ℕ) (args : List Value) (cells : List Cell) (frames : Scope) → Others (row_answer row op args cells frames)
 unfolding row_answer
 others-row row op args cells frames =
-    others-if (row == 0) _ _ (others-made op (basic_made op args cells))
-    (others-if (row == 1) _ _ (others-made op (number_made op args))
-    (others-if (row == 2) _ _ (others-made op (character_made op args))
-    (others-if (row == 3) _ _ (others-made op (part_made op args cells))
-    (others-if (row == 4) _ _ (others-made op (gathered_made op args))
-    (others-if (row == 5) _ _ (others-made op (list_made op args cells))
-    (others-if (row == 6) _ _ (others-made op (appended_made args cells))
-    (others-if (row == 7) _ _ (others-made op (indexed_made op args cells))
-    (others-if (row == 8) _ _ (others-made op (unpacked_made op args cells))
-    (others-if (row == 9) _ _ (others-made op (string_made op args cells))
-    (others-if (row == 10) _ _ (others-made op (digits_made args))
-    (others-if (row == 11) _ _ (others-made op (strings_made op args cells))
-    (others-if (row == 12) _ _ (others-made op (equal_made op args cells))
-    (others-if (row == 13) _ _ (others-made op (identifier_made op args frames))
-    (others-if (row == 14) _ _ (others-datum op args cells)
-    (others-if (row == 15) _ _ (others-syntax op args cells)
-    (others-if (row == 16) _ _ (others-made op (temporaries_made args cells)) (others-raised op args cells)))))))))))))))))
+    others-if (row == rows.BASICS) _ _ (others-made op (basic_made op args cells))
+    (others-if (row == rows.NUMBERS) _ _ (others-made op (number_made op args))
+    (others-if (row == rows.CHARACTERS) _ _ (others-made op (character_made op args))
+    (others-if (row == rows.PARTS) _ _ (others-made op (part_made op args cells))
+    (others-if (row == rows.GATHERED) _ _ (others-made op (gathered_made op args))
+    (others-if (row == rows.LISTS) _ _ (others-made op (list_made op args cells))
+    (others-if (row == rows.APPENDED) _ _ (others-made op (appended_made args cells))
+    (others-if (row == rows.INDEXED) _ _ (others-made op (indexed_made op args cells))
+    (others-if (row == rows.UNPACKED) _ _ (others-made op (unpacked_made op args cells))
+    (others-if (row == rows.STRINGS) _ _ (others-made op (string_made op args cells))
+    (others-if (row == rows.NUMBER_STRINGS) _ _ (others-made op (digits_made args))
+    (others-if (row == rows.STRING_COMPARISONS) _ _ (others-made op (strings_made op args cells))
+    (others-if (row == rows.EQUALITY) _ _ (others-made op (equal_made op args cells))
+    (others-if (row == rows.IDENTIFIERS) _ _ (others-made op (identifier_made op args frames))
+    (others-if (row == rows.DATA) _ _ (others-datum op args cells)
+    (others-if (row == rows.TREES) _ _ (others-syntax op args cells)
+    (others-if (row == rows.TEMPORARIES) _ _ (others-made op (temporaries_made args cells)) (others-raised op args cells)))))))))))))))))
 
 others-answer_by : (p : Option Primitive) (op : ℕ) (args : List Value) (cells : List Cell) (frames : Scope) → Others (answer_by p op args cells frames)
 others-answer_by None op args cells frames = tt

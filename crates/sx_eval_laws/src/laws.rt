@@ -2,7 +2,7 @@
 
 ghost use Rattle.std.specs.Prelude.{◌≡◌, Some, codes};
 ghost use Rattle.sx_base.specs.Op.{op_named};
-ghost use Rattle.sx_eval.specs.declared.spread.TheConstants.{APPLY};
+ghost use Rattle.sx_base.specs.declared.op.names.TheConstants as names;
 ghost use Rattle.sx_eval_laws.specs.Kept.{ExpressionsEndLater, CallsEndLater, LibrariesEndLater};
 ghost use Rattle.sx_eval_laws.specs.MoreFuel.{MoreIsLeft, LeftIsNotNeeded, SpentWhereMoreIsNeeded, FuelFalls, Unrolls, AnyDepth};
 ghost use Rattle.sx_eval_laws.specs.Runs.{Everywhere};
@@ -46,5 +46,5 @@ pub fn old_cells_are_kept()
 
 /// The op that is called on the elements of its last argument is the one of the name `apply`.
 pub fn apply_is_by_name()
-    ensures { op_named (codes "apply") ≡ Some APPLY }
+    ensures { op_named (codes "apply") ≡ Some names.APPLY }
 {}

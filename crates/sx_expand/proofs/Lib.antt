@@ -1,3 +1,4 @@
 pub mod Bodies
-pub mod Steps
 pub mod Settling
+pub mod Steps
+pub mod Taking

@@ -24,7 +24,7 @@ use Rattle.sx_heads.specs.declared.taken.Taken.{Taken}
 use Rattle.sx_heads.specs.declared.taken.Waiting.{Waiting}
 use Rattle.sx_heads.specs.declared.taken.Waits.{Waits}
 use Rattle.sx_heads.specs.declared.taken.Waits.TheVariants as waits
-use Rattle.sx_heads.specs.Depth.{deeper}
+use Rattle.sx_heads.specs.Depth.{deeper, most_round}
 use Rattle.sx_expand.specs.Inside.{Inside}
 use Rattle.sx_expand.specs.Keywords.{define_syntax, with_keywords}
 use Rattle.sx_expand.specs.Settle.{settle_item}
@@ -51,7 +51,7 @@ perform_settled go depth p = perform_item go p.1.at depth p.0 p.1.form p.1.item
 
 -- takes a form of a body
 unfoldable pub item : Inside → BodyAt → ℕ → Taken → Tree → Does Taken
-item go at depth done t s = if nat_lt 600 depth then fault_form kind.TooDeep t at.place s else after (settle_item go.earlier at depth done t s) (perform_settled go depth)
+item go at depth done t s = if nat_lt most_round depth then fault_form kind.TooDeep t at.place s else after (settle_item go.earlier at depth done t s) (perform_settled go depth)
 
 -- The second pass.
 

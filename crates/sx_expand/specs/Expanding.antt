@@ -15,7 +15,7 @@ use Rattle.sx_eval.specs.Codes.{Codes}
 use Rattle.sx_standing.specs.State.{State, state_code, Does}
 use Rattle.sx_standing.specs.Start.{started, first_frame}
 use Rattle.sx_expand.specs.Body.{body}
-use Rattle.sx_expand.specs.Expression.{inside}
+use Rattle.sx_expand.specs.Expression.{inside, full_room}
 use Rattle.sx_expand.specs.Top.{record_in, top}
 use Rattle.sx_expand.specs.declared.top.TopAt.{TopAt}
 
@@ -34,9 +34,9 @@ expanding_code =
 abbrev pub ready : LibName → List ℕ → List LibRecord → List (List ℕ × Label) → Codes → Expanding
 ready library path records imports codes = record { state = started library records imports codes; frame = first_frame library; path = path; failed = false }
 
--- an expression that no form stands round, behind these records; 602 forms never nest
+-- an expression that no form stands round, behind these records
 abbrev pub expression : List LibRecord → Span → ℕ → Tree → Does PlainCore
-expression rs place level t = (inside rs 602).form place level 0 t
+expression rs place level t = (inside rs full_room).form place level 0 t
 
 -- a form that has no span
 abbrev pub nowhere : Tree
@@ -44,11 +44,11 @@ nowhere = atom None Nil
 
 -- the body of a procedure that no form stands round, at a place
 abbrev pub lambda_body : List LibRecord → Span → ℕ → List Tree → Does PlainCore
-lambda_body rs place level forms = body (inside rs 602) place level 0 nowhere forms
+lambda_body rs place level forms = body (inside rs full_room) place level 0 nowhere forms
 
 abbrev pub body_of : Expanding → List ℕ → Span → TopAt
 body_of e version place = record { path = e.path; version = version; frame = e.frame; place = place }
 
 -- the record of a library or program with these exports and forms, behind these records
 abbrev pub library_record : Expanding → List LibRecord → List ℕ → Span → List (List ℕ × Tree) → List Tree → Result LibRecord Fault
-library_record e rs version place exports forms = record_in (top (inside rs 602) (body_of e version place) exports forms e.state)
+library_record e rs version place exports forms = record_in (top (inside rs full_room) (body_of e version place) exports forms e.state)

@@ -21,7 +21,7 @@ use Rattle.sx_standing.specs.State.{Does, fresh, fresh_frame, fault_form}
 use Rattle.sx_standing.specs.InScope.{within}
 use Rattle.sx_standing.specs.Binders.{bind_specs, bind_formals}
 use Rattle.sx_standing.specs.Patterns.{pattern_of, check_literals, bind_pattern}
-use Rattle.sx_heads.specs.Depth.{deeper}
+use Rattle.sx_heads.specs.Depth.{deeper, most_round}
 use Rattle.sx_expand.specs.Inside.{Inside}
 use Rattle.sx_expand.specs.Body.{body, item, sequence_of}
 use Rattle.sx_expand.specs.Keywords.{with_keywords}
@@ -143,11 +143,15 @@ perform go place level depth t (plans.SetUse l id) = fault_form kind.BadForm t p
 abbrev pub perform_settled : Inside → ℕ → ℕ → Settled → Does PlainCore
 perform_settled go level depth d = perform go d.place level depth d.form d.plan
 
--- at most 600 forms may stand round one
+-- at most so many forms may stand round one
 unfoldable pub form_at : Inside → Span → ℕ → ℕ → Tree → Does PlainCore
-form_at go place level depth t s = if nat_lt 600 depth then fault_form kind.TooDeep t place s else after (settle go.earlier place level t s) (perform_settled go level depth)
+form_at go place level depth t s = if nat_lt most_round depth then fault_form kind.TooDeep t place s else after (settle go.earlier place level t s) (perform_settled go level depth)
 
--- what is done with forms inside which so many more may nest, behind these records; 602 are enough
+-- in so much room no form is refused but for its depth
+abbrev pub full_room : ℕ
+full_room = most_round + 2
+
+-- what is done with forms inside which so many more may nest, behind these records
 unfoldable pub inside : List LibRecord → ℕ → Inside
 inside rs zero = record {
   earlier = rs;

@@ -88,7 +88,7 @@ fn body_core(alloc: Global, lines: Vec<Line>) -> Result<Core, Memory>
 
 /// Forms of a body, in order.
 #[cycle(form)]
-pub(crate) fn splice<M: Transformers, N: Ledger, L: Ledger>(
+fn splice<M: Transformers, N: Ledger, L: Ledger>(
     state: &mut Expansion,
     at: &BodyAt,
     depth: u16,
@@ -108,7 +108,7 @@ pub(crate) fn splice<M: Transformers, N: Ledger, L: Ledger>(
 
 #[cycle(form)]
 #[tactic(auto, using(crate::proofs::Steps::item_step, crate::proofs::Steps::item_too_deep))]
-fn item<M: Transformers, N: Ledger, L: Ledger>(
+pub(crate) fn item<M: Transformers, N: Ledger, L: Ledger>(
     state: &mut Expansion,
     at: &BodyAt,
     depth: u16,
@@ -230,7 +230,7 @@ fn value_of<M: Transformers, N: Ledger, L: Ledger>(
 
 #[cycle(form)]
 #[tactic(auto, unfolding(crate::specs::Body::finish_as))]
-fn finish_one<M: Transformers, N: Ledger, L: Ledger>(
+pub(crate) fn finish_one<M: Transformers, N: Ledger, L: Ledger>(
     state: &mut Expansion,
     waiting: &Waiting,
     level: u32,
@@ -282,7 +282,7 @@ fn finish_one<M: Transformers, N: Ledger, L: Ledger>(
 
 /// The second pass.
 #[cycle(form)]
-pub(crate) fn finish_all<M: Transformers, N: Ledger, L: Ledger>(
+fn finish_all<M: Transformers, N: Ledger, L: Ledger>(
     state: &mut Expansion,
     waiting: &[Waiting],
     level: u32,

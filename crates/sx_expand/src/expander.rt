@@ -30,6 +30,7 @@ use sx_core::record::LibRecord;
 use sx_standing::expansion::Expansion;
 use sx_standing::means::{Counts, Means};
 use sx_standing::ready::ReadyRecords;
+use sx_standing::start::Environment;
 use sx_syntax::syn::Syn;
 
 /// The state of one library's expansion, and whether a call was refused. After a refusal it is of no use.
@@ -131,11 +132,11 @@ impl Expander {
         }
     }
 
-    /// The record of a library or program with this body. The exports are external names, each with the
-    /// identifier that it stands for.
+    /// The record of a library or program with this body, whose forms go on the way. The exports are external names,
+    /// each with the identifier that it stands for.
     pub fn top<N: Ledger, L: Ledger>(
         self,
-        forms: &[Syn],
+        forms: Items<Syn>,
         place: &Span,
         exports: &[(Symbol, Syn)],
         version: Items<u64>,
@@ -143,7 +144,7 @@ impl Expander {
         counts: &mut Counts<N, L>,
     ) -> Result<LibRecord, Stop>
         requires { self.failed ≡ false }
-        ensures { Gives (λ r. r) result (library_record self (earlier_in means.now.earlier) version place.now exports.now forms.now) }
+        ensures { Gives (λ r. r) result (library_record self (earlier_in means.now.earlier) version place.now exports.now forms) }
     {
         let mut state = self.state;
         match body_of(self.path, version, self.frame, place) {
@@ -165,7 +166,12 @@ fn begun(
 ) -> Result<Expander, Memory>
     ensures { IfOk result (λ e. e ≡ ready name path (needed_records needs.now earlier.now) imports.now (table.seen codes.entries)) }
 {
-    let state = Expansion::start(alloc, name, earlier, needs, imports, codes)?;
+    let environment = Environment {
+        earlier,
+        needs,
+        imports,
+    };
+    let state = Expansion::start(alloc, name, &environment, codes)?;
     let frame = state.first_frame()?;
     Ok(Expander {
         state,

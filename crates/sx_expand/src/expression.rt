@@ -27,7 +27,7 @@ use sx_core::code::{Code, Core, CoreNode, Init, Lambda};
 use sx_heads::depth::{MOST_ROUND, deeper};
 use sx_heads::plan::Plan;
 use sx_shapes::shape::{BindingSpec, FormalIds, LambdaCase};
-use sx_standing::binders::BoundSpec;
+use sx_standing::binders::{BinderContext, BoundSpec};
 use sx_standing::expansion::Expansion;
 use sx_standing::means::Counts;
 use sx_syntax::syn::Syn;
@@ -48,11 +48,21 @@ pub(crate) fn sequence_of(parts: Vec<Core>) -> Core
     }
 }
 
+/// No elements, with room for so many where there is memory. A list that grows keeps room for four at least.
+pub(crate) fn with_room<T>(alloc: Global, count: usize) -> Vec<T>
+    ensures { result.items ≡ [] }
+{
+    match Vec::with_capacity(alloc, count) {
+        Ok(items) => items,
+        Err(_) => Vec::new(alloc),
+    }
+}
+
 /// A procedure of one case.
 pub(crate) fn procedure_of_case(alloc: Global, number: CodeNo, case: Lambda) -> Result<Core, Memory>
     ensures { IfOk result (λ c. c ≡ procedure number (cases (case ∷ [])) true) }
 {
-    let mut cases = Vec::new(alloc);
+    let mut cases = Vec::with_capacity(alloc, 1)?;
     cases.push(case)?;
     let code = Rc::new(
         alloc,
@@ -388,7 +398,7 @@ fn in_order<M: Transformers, N: Ledger, L: Ledger>(
 ) -> Result<Vec<Core>, Stop>
     ensures { GivesAfter (λ c. c.items) result state.new (in_order (inside (M.records means.now) room) place.now level depth forms.now state.old) }
 {
-    let mut done = Vec::new(state.alloc());
+    let mut done = with_room(state.alloc(), forms.len());
     for form in forms {
         let core = expression(state, form, place, level, depth, means, counts, room)?;
         done.push(core)?;
@@ -463,7 +473,7 @@ fn all_cases<M: Transformers, N: Ledger, L: Ledger>(
 ) -> Result<Vec<Lambda>, Stop>
     ensures { GivesAfter (λ c. c.items) result state.new (all_cases (inside (M.records means.now) room) place.now level depth form.now cases.now state.old) }
 {
-    let mut done = Vec::new(state.alloc());
+    let mut done = with_room(state.alloc(), cases.len());
     for case in cases {
         let one = lambda_case(
             state,
@@ -501,7 +511,12 @@ pub fn lambda_case<M: Transformers, N: Ledger, L: Ledger>(
 {
     let outer = state.in_scope();
     let frame = state.fresh_frame()?;
-    let formals = state.bind_formals(&frame, place, level, ids)?;
+    let binders = BinderContext {
+        frame: &frame,
+        place,
+        level,
+    };
+    let formals = state.bind_formals(&binders, ids)?;
     let forms = stamp_all(state.alloc(), &frame, forms, counts.nodes)?;
     let body = body(
         state,
@@ -571,7 +586,12 @@ fn letrec_form<M: Transformers, N: Ledger, L: Ledger>(
 {
     let outer = state.in_scope();
     let frame = state.fresh_frame()?;
-    let bound = state.bind_specs(&frame, place, level, specs)?;
+    let binders = BinderContext {
+        frame: &frame,
+        place,
+        level,
+    };
+    let bound = state.bind_specs(&binders, specs)?;
     let inits = all_inits(
         state,
         &frame,
@@ -616,7 +636,7 @@ fn all_inits<M: Transformers, N: Ledger, L: Ledger>(
 ) -> Result<Vec<Init>, Stop>
     ensures { GivesAfter (λ c. c.items) result state.new (all_inits (inside (M.records means.now) room) place.now level depth frame.now bound.now state.old) }
 {
-    let mut done = Vec::new(state.alloc());
+    let mut done = with_room(state.alloc(), bound.len());
     for one in bound {
         let init = one_init(state, frame, one, place, level, depth, means, counts, room)?;
         done.push(init)?;

@@ -20,7 +20,7 @@ use sx_heads::items::define_keyword;
 use sx_heads::taken::{BodyAt, Taken};
 use sx_shapes::at::place_of;
 use sx_shapes::shape::BindingSpec;
-use sx_standing::binders::BoundSpec;
+use sx_standing::binders::{BinderContext, BoundSpec};
 use sx_standing::expansion::Expansion;
 use sx_standing::means::Counts;
 use sx_syntax::syn::Syn;
@@ -128,7 +128,12 @@ fn keywords<M: Transformers, N: Ledger, L: Ledger>(
 ) -> Result<(), Stop>
     ensures { GivesAfter (λ _. tt) result state.new (keywords (inside (M.records means.now) room) place.now level depth recursive specs.now frame.now state.old) }
 {
-    let bound = state.bind_keywords(frame, place, level, specs)?;
+    let binders = BinderContext {
+        frame,
+        place,
+        level,
+    };
+    let bound = state.bind_keywords(&binders, specs)?;
     all_keywords(
         state,
         recursive,

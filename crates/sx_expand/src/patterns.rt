@@ -12,6 +12,7 @@ use sx_base::name::FrameNo;
 use sx_base::span::Span;
 use sx_core::code::{Clause, Core, CoreNode};
 use sx_shapes::shape::PatternCase;
+use sx_standing::binders::BinderContext;
 use sx_standing::expansion::Expansion;
 use sx_standing::means::Counts;
 use sx_syntax::syn::Syn;
@@ -59,7 +60,12 @@ fn pattern_clause<M: Transformers, N: Ledger, L: Ledger>(
     let outer = state.in_scope();
     let frame = state.fresh_frame()?;
     let compiled = state.pattern(&case.pattern, literals, place)?;
-    state.bind_pattern(&frame, place, level, compiled.variables.as_slice())?;
+    let binders = BinderContext {
+        frame: &frame,
+        place,
+        level,
+    };
+    state.bind_pattern(&binders, compiled.variables.as_slice())?;
     let fender = fender(
         state,
         &frame,

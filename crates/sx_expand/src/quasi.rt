@@ -11,6 +11,7 @@ use std::sync::ledger::Ledger;
 use sx_base::fault::Stop;
 use sx_base::span::Span;
 use sx_core::code::Core;
+use sx_heads::context::FormContext;
 use sx_quasi::word::Family;
 use sx_quasi_code::form::{code_of, form_of, parts_of};
 use sx_quasi_code::parts::Part;
@@ -60,5 +61,6 @@ pub(crate) fn quasi_form<M: Transformers, N: Ledger, L: Ledger>(
     let quasi = form_of(state, form, which, template, place)?;
     let parts = parts_of(state.alloc(), form, &quasi, depth)?;
     let cores = parts_in_order(state, parts.as_slice(), place, level, means, counts, room)?;
-    code_of(state, form, &quasi, cores, place, level, counts.nodes)
+    let context = FormContext { form, place, level };
+    code_of(state, &context, &quasi, cores, counts.nodes)
 }

@@ -17,6 +17,7 @@ use sx_heads::taken::{BodyAt, Taken};
 use sx_shapes::at::place_of;
 use sx_standing::expansion::Expansion;
 use sx_standing::means::Counts;
+use sx_standing::uses::UsedForm;
 use sx_syntax::syn::Syn;
 
 /// What a form asks for: its plan, or a use of a keyword.
@@ -63,7 +64,10 @@ fn used_form<M: Transformers, N: Ledger, L: Ledger>(
 {
     match keyword {
         KeywordUse::Macro(label) => means.use_keyword(state, form, place, label, frame, counts),
-        KeywordUse::Record(which) => state.use_record(form, *which, frame, place, counts.nodes),
+        KeywordUse::Record(which) => {
+            let used = UsedForm { form, frame, place };
+            state.use_record(used, *which, counts.nodes)
+        }
     }
 }
 

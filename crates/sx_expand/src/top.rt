@@ -4,11 +4,12 @@ ghost use Rattle.std.specs.Prelude.{◌≡◌, [], IfOk, OnOk};
 ghost use Rattle.sx_base.specs.Act.{GivesAfter};
 ghost use Rattle.sx_base.specs.Gives.{Gives};
 ghost use Rattle.sx_stage.specs.Libraries.{earlier_in};
-ghost use Rattle.sx_expand.specs.Expression.{inside};
+ghost use Rattle.sx_expand.specs.Body.{finish_all, splice};
+ghost use Rattle.sx_expand.specs.Expression.{inside, full_room};
 ghost use Rattle.sx_expand.specs.Top.{export, all_exports, exports, with_label_of, with_labels_of, code_of, with_lines_of, refs_of, record_of, record_in, kind_of, body_at, first_pass, finished, top};
 
-use crate::body::{finish_all, splice};
-use crate::expression::stamp_all;
+use crate::body::{finish_one, item};
+use crate::expression::{stamp_all, with_room};
 use crate::inside::ROOM;
 use crate::libraries::Libraries;
 use std::alloc::Global;
@@ -25,7 +26,7 @@ use sx_core::code::Core;
 use sx_core::record::{LibRecord, Line};
 use sx_core::references::references;
 use sx_heads::kept::KeptHeads;
-use sx_heads::taken::{BodyAt, BodyKind, Taken};
+use sx_heads::taken::{BodyAt, BodyKind, Taken, Waiting};
 use sx_standing::expansion::Expansion;
 use sx_standing::means::{Counts, Means};
 use sx_standing::share::share_library;
@@ -178,20 +179,43 @@ fn kind_of(library: &LibName) -> BodyKind
     }
 }
 
+/// The second pass. What has waited goes as soon as it is done: the forms of a long body and their core code aren't kept
+/// side by side.
+#[tactic(auto, using(crate::proofs::Taking::each_none))]
+fn finish_each<N: Ledger, L: Ledger>(
+    state: &mut Expansion,
+    waiting: Items<Waiting>,
+    means: &Means,
+    counts: &mut Counts<N, L>,
+) -> Result<Vec<Line>, Stop>
+    ensures { GivesAfter (λ v. v.items) result state.new (finish_all (inside (earlier_in means.now.earlier) full_room) 0 waiting state.old) }
+{
+    let waiting = waiting.into_vec();
+    let mut lines = with_room(state.alloc(), waiting.len());
+    let mut left = waiting.into_iter();
+    while let Some(one) = left.next() {
+        let line = finish_one(state, &one, 0, means, counts, ROOM)?;
+        lines.push(line)?;
+    }
+    Ok(lines)
+}
+
 /// What comes after the first pass.
 #[tactic(auto, unfolding(crate::specs::Top::finished))]
 fn finished<N: Ledger, L: Ledger>(
     state: &mut Expansion,
     at: TopAt,
     list: &[(Symbol, Syn)],
-    taken: &Taken,
+    taken: Taken,
     means: &Means,
     counts: &mut Counts<N, L>,
 ) -> Result<LibRecord, Stop>
-    ensures { Gives (λ r. r) result (record_in (finished (inside (earlier_in means.now.earlier) 602) at list.now taken.now state.old)) }
+    ensures { Gives (λ r. r) result (record_in (finished (inside (earlier_in means.now.earlier) full_room) at list.now taken state.old)) }
 {
     let exports = exports(state, &at, list, counts.nodes)?;
-    let lines = finish_all(state, taken.waiting.as_slice(), 0, means, counts, ROOM)?;
+    let Taken { waiting, kept, .. } = taken;
+    drop(kept);
+    let lines = finish_each(state, waiting, means, counts)?;
     Ok(record_of(state, at, exports, lines)?)
 }
 
@@ -209,18 +233,38 @@ fn body_at(state: &Expansion, at: &TopAt) -> Result<BodyAt, Memory>
     })
 }
 
+/// The first pass over forms. Each goes as soon as it is done: a use and what it expands to aren't kept side by side.
+#[tactic(auto, using(crate::proofs::Taking::gather_none))]
+fn splice_each<N: Ledger, L: Ledger>(
+    state: &mut Expansion,
+    at: &BodyAt,
+    taken: &mut Taken,
+    forms: Items<Syn>,
+    means: &Means,
+    counts: &mut Counts<N, L>,
+) -> Result<(), Stop>
+    ensures { GivesAfter (λ _. taken.new) result state.new (splice (inside (earlier_in means.now.earlier) full_room) at.now 0 taken.old forms state.old) }
+{
+    let mut left = forms.into_vec().into_iter();
+    while let Some(form) = left.next() {
+        item(state, at, 0, taken, &form, means, counts, ROOM)?;
+    }
+    Ok(())
+}
+
 /// The first pass over the body of a library or program.
 #[tactic(auto, unfolding(crate::specs::Top::first_pass))]
 fn first_pass<N: Ledger, L: Ledger>(
     state: &mut Expansion,
     at: &TopAt,
-    forms: &[Syn],
+    forms: Items<Syn>,
     means: &Means,
     counts: &mut Counts<N, L>,
 ) -> Result<Taken, Stop>
-    ensures { GivesAfter (λ t. t) result state.new (first_pass (inside (earlier_in means.now.earlier) 602) at.now forms.now state.old) }
+    ensures { GivesAfter (λ t. t) result state.new (first_pass (inside (earlier_in means.now.earlier) full_room) at.now forms state.old) }
 {
-    let forms = stamp_all(state.alloc(), &at.frame, forms, counts.nodes)?;
+    let stamped = stamp_all(state.alloc(), &at.frame, forms.as_slice(), counts.nodes)?;
+    drop(forms);
     let body = body_at(state, at)?;
     let mut taken = Taken {
         waiting: Items::new(state.alloc()),
@@ -228,16 +272,7 @@ fn first_pass<N: Ledger, L: Ledger>(
         has_expression: false,
         moved: false,
     };
-    splice(
-        state,
-        &body,
-        0,
-        &mut taken,
-        forms.as_slice(),
-        means,
-        counts,
-        ROOM,
-    )?;
+    splice_each(state, &body, &mut taken, stamped, means, counts)?;
     Ok(taken)
 }
 
@@ -247,12 +282,12 @@ pub fn top<N: Ledger, L: Ledger>(
     state: &mut Expansion,
     at: TopAt,
     list: &[(Symbol, Syn)],
-    forms: &[Syn],
+    forms: Items<Syn>,
     means: &Means,
     counts: &mut Counts<N, L>,
 ) -> Result<LibRecord, Stop>
-    ensures { Gives (λ r. r) result (record_in (top (inside (earlier_in means.now.earlier) 602) at list.now forms.now state.old)) }
+    ensures { Gives (λ r. r) result (record_in (top (inside (earlier_in means.now.earlier) full_room) at list.now forms state.old)) }
 {
     let taken = first_pass(state, &at, forms, means, counts)?;
-    finished(state, at, list, &taken, means, counts)
+    finished(state, at, list, taken, means, counts)
 }

@@ -13,6 +13,7 @@ use sx_base::span::Span;
 use sx_core::code::Core;
 use sx_standing::expansion::Expansion;
 use sx_standing::means::{Counts, Means};
+use sx_standing::uses::{KeywordAt, UsedForm};
 use sx_syntax::syn::Syn;
 
 /// What has the transformers of keywords evaluated and called (R6RS libraries 12.3). Expansion asks for no more of
@@ -69,7 +70,8 @@ impl<'a> Transformers for Means<'a> {
         frame: Option<FrameNo>,
         counts: &mut Counts<N, L>,
     ) -> Result<Syn, Stop> {
-        state.use_keyword(form, place, label, frame, self, counts)
+        let used = UsedForm { form, frame, place };
+        state.use_keyword(used, label, self, counts)
     }
 
     fn asks_variable<N: Ledger, L: Ledger>(
@@ -90,6 +92,7 @@ impl<'a> Transformers for Means<'a> {
         code: Core,
         counts: &mut Counts<N, L>,
     ) -> Result<(), Stop> {
-        state.finish_keyword(place, label, code, self, counts)
+        let keyword = KeywordAt { label, place };
+        state.finish_keyword(&keyword, code, self, counts)
     }
 }

@@ -43,7 +43,7 @@ use Rattle.sx_standing.specs.Start.{rows_of, first_frame, import_row, started}
 use Rattle.sx_standing.specs.State.{State}
 use Rattle.sx_expand.specs.Body.{finish_all}
 use Rattle.sx_expand.specs.Expanding.{ready, body_of, library_record}
-use Rattle.sx_expand.specs.Expression.{inside}
+use Rattle.sx_expand.specs.Expression.{inside, full_room}
 use Rattle.sx_expand.specs.Inside.{Inside}
 use Rattle.sx_expand.specs.Top.{stands_for, export, all_exports, exports, give_record, record_in, finished, first_pass, top}
 use Rattle.sx_expand.specs.declared.top.TopAt.{TopAt}
@@ -113,8 +113,8 @@ top-named go at es forms s =
 pub record-named : (own : LibName) (path : List ℕ) (records : List LibRecord) (imports : List (List ℕ × Label)) (version : List ℕ) (place : Span) (es : List (List ℕ × Tree)) (forms : List Tree) (codes : Codes) (r : LibRecord)
     → library_record (ready own path records imports codes) records version place es forms ≡ Ok r → export_names r ≡ map asked es
 record-named own path records imports version place es forms codes r e =
-    by (top (inside records 602) (body_of (ready own path records imports codes) version place) es forms (started own records imports codes))
-    (top-named (inside records 602) (body_of (ready own path records imports codes) version place) es forms (started own records imports codes)) e
+    by (top (inside records full_room) (body_of (ready own path records imports codes) version place) es forms (started own records imports codes))
+    (top-named (inside records full_room) (body_of (ready own path records imports codes) version place) es forms (started own records imports codes)) e
   where
     by : (x : Result (LibRecord × State) Fault) → Gave (λ q v. export_names q ≡ map asked es) x → record_in x ≡ Ok r → export_names r ≡ map asked es
     by (Ok p) h k = let is : p.0 ≡ r = cc in subst (λ (q : LibRecord). export_names q ≡ map asked es) is h

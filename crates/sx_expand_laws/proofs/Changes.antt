@@ -40,7 +40,7 @@ use Rattle.sx_heads.specs.declared.taken.Waits.TheVariants as waits
 use Rattle.sx_expand.specs.Body as expand_body
 use Rattle.sx_expand.specs.Body.{splice, perform_item, item, value_of, finish_as, finish_one, finish_all, body_core, finish, lambda_at, body_in, body, sequence_of}
 use Rattle.sx_expand.specs.Expression.{in_order, case_in, lambda_case, lambda, one_case, all_cases, case_lambda, one_init, all_inits, letrec_in, letrec_form, application, alternate, conditional, set, in_sequence, fender, clause_in, pattern_clause, all_clauses, syntax_case, keywords_form, perform, perform_settled, form_at, inside}
-use Rattle.sx_heads.specs.Depth.{deeper}
+use Rattle.sx_heads.specs.Depth.{deeper, most_round}
 use Rattle.sx_expand.specs.Inside.{Inside}
 use Rattle.sx_expand.specs.Keywords.{keyword, seen_in, keyword_in, all_keywords, keywords, with_keywords, define_syntax}
 use Rattle.sx_expand.specs.Quasi.{part_core, parts_in_order, quasi_made, quasi_form}
@@ -325,7 +325,7 @@ module _ (own : LibName) (go : Inside) (moves : Moves own go) where
 
   moved-form : (place : Span) (level depth : ℕ) (t : Tree) (s : State) → Names own s → Gave (Moved own s) (form_at go place level depth t s)
   unfolding form_at
-  moved-form place level depth t s n = gave-if (Moved own s) (nat_lt 600 depth) _ _ (λ e. tt)
+  moved-form place level depth t s n = gave-if (Moved own s) (nat_lt most_round depth) _ _ (λ e. tt)
       (λ e. moved-after own s (settle go.earlier place level t s) (perform_settled go level depth) (settle-later own go.earlier s.uses_left place level t s n) (λ d u m. moved-perform d.place level depth d.form d.plan u m))
 
   -- A form of a body.
@@ -367,7 +367,7 @@ module _ (own : LibName) (go : Inside) (moves : Moves own go) where
       → Gave (Takes own at.frame (is_top at.kind) start s) (item go at depth d t s)
   unfolding item
   item-takes at start low depth d t s n k =
-      gave-if (Takes own at.frame (is_top at.kind) start s) (nat_lt 600 depth) _ (after (settle_item go.earlier at depth d t s) (expand_body.perform_settled go depth)) (λ e. tt)
+      gave-if (Takes own at.frame (is_top at.kind) start s) (nat_lt most_round depth) _ (after (settle_item go.earlier at depth d t s) (expand_body.perform_settled go depth)) (λ e. tt)
       (λ e. gave-after (Settles own go.earlier start depth at s) (Takes own at.frame (is_top at.kind) start s) (settle_item go.earlier at depth d t s) (expand_body.perform_settled go depth)
       (settle-takes own go.earlier start depth s.uses_left at d t s n low k)
       (λ p u j. gave-less (Takes own at.frame (is_top at.kind) start u) (Takes own at.frame (is_top at.kind) start s) (expand_body.perform_settled go depth p u)

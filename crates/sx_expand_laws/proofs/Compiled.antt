@@ -6,10 +6,8 @@ use Rattle.sx_base.specs.Named.{Named}
 use Rattle.sx_base.specs.declared.fault.Fault.{Fault}
 use Rattle.sx_base.specs.declared.library.LibName.{LibName}
 use Rattle.sx_base.specs.declared.name.Label.{Label}
-use Rattle.sx_base.specs.declared.span.Span.{Span}
 use Rattle.sx_tree.specs.Tree as tree
 use Rattle.sx_tree.specs.Tree.{Tree}
-use Rattle.sx_frames.specs.Scope.{Scope}
 use Rattle.sx_scope.specs.Stands.{stands}
 use Rattle.sx_core.specs.Pattern.{PlainPattern, list, vector, PlainPatterns, none, more, dots, patterns, patterns_on}
 use Rattle.sx_core.specs.References.{variables, all_variables}
@@ -18,7 +16,7 @@ use Rattle.sx_core_laws.specs.Parts.{literals, all_literals}
 use Rattle.sx_core_laws.specs.Templates.{Depths, depths, all_depths}
 use Rattle.sx_core_laws.specs.WellMade.{IsLeaf}
 use Rattle.sx_core_laws.specs.Words.{Each}
-use Rattle.sx_pattern.specs.Compile.{Taken, Element, Walked, is_known, is_literal, named, new_variable, leaf_pattern, no_parts, with_part, dots_of, parts_of, with_repeated, next_ellipsis, repeated_part, element, step, walked, list_with, vector_with, pattern, element_patterns, tail_pattern, literals_checked, with_variables, compiled}
+use Rattle.sx_pattern.specs.Compile.{Context, Taken, Element, Walked, is_known, is_literal, named, new_variable, leaf_pattern, no_parts, with_part, dots_of, parts_of, with_repeated, next_ellipsis, repeated_part, element, step, walked, list_with, vector_with, pattern, element_patterns, tail_pattern, literals_checked, with_variables, compiled}
 use Rattle.sx_pattern.specs.Keywords.{is_form}
 use Rattle.sx_pattern.specs.declared.compile.Compiled.{Compiled}
 use Rattle.sx_pattern.specs.declared.compile.PatternVariable.{PatternVariable}
@@ -131,8 +129,8 @@ module _ (own : LibName) where
   parts-none : (depth : ℕ) (s : Taken) → s.1.library ≡ own → HasParts depth s no_parts s
   parts-none depth s n = record { takes = takes-none s n; alone = λ e. refl }
 
-  module _ (place : Span) where
-    variable-takes : (t : Tree) (depth : ℕ) (s : Taken) → s.1.library ≡ own → GaveBy (IsOf depth s) (new_variable place t depth s)
+  module _ (c : Context) where
+    variable-takes : (t : Tree) (depth : ℕ) (s : Taken) → s.1.library ≡ own → GaveBy (IsOf depth s) (new_variable c.place t depth s)
     variable-takes t depth s n = by-if (IsOf depth s) (is_known s.0 t) _ _ tt (record {
       news = named s.1 t depth ∷ [];
       is = refl;
@@ -144,11 +142,11 @@ module _ (own : LibName) where
       leaves = tt;
     })
 
-    leaf-takes : (fs : Scope) (ls : List Tree) (t : Tree) (depth : ℕ) (s : Taken) → IsLeaf t → s.1.library ≡ own → GaveBy (IsOf depth s) (leaf_pattern fs ls place t depth s)
-    leaf-takes fs ls t depth s leaf n =
-        by-if (IsOf depth s) (is_form form.Ellipsis (stands fs t)) _ _ tt
-        (by-if (IsOf depth s) (is_form form.Underscore (stands fs t)) _ _ (takes-none s n)
-        (by-if (IsOf depth s) (is_literal ls t) _ _
+    leaf-takes : (t : Tree) (depth : ℕ) (s : Taken) → IsLeaf t → s.1.library ≡ own → GaveBy (IsOf depth s) (leaf_pattern c t depth s)
+    leaf-takes t depth s leaf n =
+        by-if (IsOf depth s) (is_form form.Ellipsis (stands c.frames t)) _ _ tt
+        (by-if (IsOf depth s) (is_form form.Underscore (stands c.frames t)) _ _ (takes-none s n)
+        (by-if (IsOf depth s) (is_literal c.literals t) _ _
         (record { news = []; is = sym (append-nil s.0); library = n; up = omega arith; fresh = fresh-none label_name own s.1.number s.1.number; depths = refl; labels = refl; leaves = (leaf, tt) })
         (variable-takes t depth s n)))
 
@@ -172,13 +170,13 @@ module _ (own : LibName) where
         by (Some r) is a e = absurd (cc)
 
     repeated-takes : (depth : ℕ) (start : Taken) (parts : PatternParts) (s : Taken) (e : Tree) (p : PlainPattern) (u : Taken) → HasParts depth start parts s → IsOf (suc depth) s p u
-        → GaveBy (PartsGiven depth start) (repeated_part place e parts p u)
+        → GaveBy (PartsGiven depth start) (repeated_part c.place e parts p u)
     repeated-takes depth start parts s e p u h k = by parts.repeated refl
       where
         q : PatternParts
         q = record parts { repeated = Some p }
 
-        by : (o : Option PlainPattern) → parts.repeated ≡ o → GaveBy (PartsGiven depth start) (with_repeated place e o parts p >>= λ m. Ok ((true, m), u))
+        by : (o : Option PlainPattern) → parts.repeated ≡ o → GaveBy (PartsGiven depth start) (with_repeated c.place e o parts p >>= λ m. Ok ((true, m), u))
         by (Some r) is = tt
         by None is = record {
           takes = takes-by start u (all_depths depth (parts_of parts) ++ depths (suc depth) p) (all_depths depth (parts_of q)) (all_variables (parts_of parts) ++ variables p) (all_variables (parts_of q)) (all_literals (parts_of parts) ++ literals p) (all_literals (parts_of q))
@@ -189,55 +187,54 @@ module _ (own : LibName) where
           alone = λ bad. absurd (cc);
         }
 
-    element-takes : (depth : ℕ) (x : Element) (e : Option Tree) (start : Taken) (parts : PatternParts) (s : Taken) → IsElement x → HasParts depth start parts s → GaveBy (PartsGiven depth start) (element place depth x e parts s)
+    element-takes : (depth : ℕ) (x : Element) (e : Option Tree) (start : Taken) (parts : PatternParts) (s : Taken) → IsElement x → HasParts depth start parts s → GaveBy (PartsGiven depth start) (element c.place depth x e parts s)
     element-takes depth x None start parts s one h =
         by-after (IsOf depth s) (PartsGiven depth start) (x.1 depth s) (λ p s. Ok ((false, with_part parts.repeated parts p), s)) (one depth s h.takes.library) (λ p u k. part-takes depth start parts s p u h k)
     element-takes depth x (Some e) start parts s one h =
-        by-after (IsOf (suc depth) s) (PartsGiven depth start) (x.1 (depth + 1) s) (repeated_part place e parts)
+        by-after (IsOf (suc depth) s) (PartsGiven depth start) (x.1 (depth + 1) s) (repeated_part c.place e parts)
         (let is : depth + 1 ≡ suc depth = omega arith in subst (λ n. GaveBy (IsOf n s) (x.1 (depth + 1) s)) is (one (depth + 1) s h.takes.library))
         (λ p u k. repeated-takes depth start parts s e p u h k)
 
-    step-takes : (depth : ℕ) (skips : Bool) (x : Element) (e : Option Tree) (start : Taken) (parts : PatternParts) (s : Taken) → IsElement x → HasParts depth start parts s → GaveBy (PartsGiven depth start) (step place depth skips x e parts s)
+    step-takes : (depth : ℕ) (skips : Bool) (x : Element) (e : Option Tree) (start : Taken) (parts : PatternParts) (s : Taken) → IsElement x → HasParts depth start parts s → GaveBy (PartsGiven depth start) (step c.place depth skips x e parts s)
     step-takes depth true x e start parts s one h = h
     step-takes depth false x e start parts s one h = element-takes depth x e start parts s one h
 
-    walked-takes : (fs : Scope) (depth : ℕ) (skips : Bool) (start : Taken) (parts : PatternParts) (xs : List Element) (s : Taken) → Each IsElement xs → HasParts depth start parts s → GaveBy (HasParts depth start) (walked fs place depth skips parts xs s)
-    walked-takes fs depth skips start parts [] s all h = h
-    walked-takes fs depth skips start parts (x ∷ xs) s all h =
-        by-after (PartsGiven depth start) (HasParts depth start) (step place depth skips x (next_ellipsis fs xs) parts s) (λ w. walked fs place depth w.0 w.1 xs) (step-takes depth skips x (next_ellipsis fs xs) start parts s all.0 h)
-        (λ w v k. walked-takes fs depth w.0 start w.1 xs v all.1 k)
+    walked-takes : (depth : ℕ) (skips : Bool) (start : Taken) (parts : PatternParts) (xs : List Element) (s : Taken) → Each IsElement xs → HasParts depth start parts s → GaveBy (HasParts depth start) (walked c depth skips parts xs s)
+    walked-takes depth skips start parts [] s all h = h
+    walked-takes depth skips start parts (x ∷ xs) s all h =
+        by-after (PartsGiven depth start) (HasParts depth start) (step c.place depth skips x (next_ellipsis c.frames xs) parts s) (λ w. walked c depth w.0 w.1 xs) (step-takes depth skips x (next_ellipsis c.frames xs) start parts s all.0 h)
+        (λ w v k. walked-takes depth w.0 start w.1 xs v all.1 k)
 
-    module _ (fs : Scope) (ls : List Tree) where
-      vector-takes : (depth : ℕ) (xs : List Element) (s : Taken) → Each IsElement xs → s.1.library ≡ own → GaveBy (IsOf depth s) (vector_with (walked fs place depth false no_parts xs) s)
-      vector-takes depth xs s all n =
-          by-after (HasParts depth s) (IsOf depth s) (walked fs place depth false no_parts xs s) (λ parts s. Ok (vector (parts_of parts), s)) (walked-takes fs depth false s no_parts xs s all (parts-none depth s n)) (λ parts u k. k.takes)
+    vector-takes : (depth : ℕ) (xs : List Element) (s : Taken) → Each IsElement xs → s.1.library ≡ own → GaveBy (IsOf depth s) (vector_with (walked c depth false no_parts xs) s)
+    vector-takes depth xs s all n =
+        by-after (HasParts depth s) (IsOf depth s) (walked c depth false no_parts xs s) (λ parts s. Ok (vector (parts_of parts), s)) (walked-takes depth false s no_parts xs s all (parts-none depth s n)) (λ parts u k. k.takes)
 
-      list-takes : (depth : ℕ) (xs : List Element) (tail : Taken → Result (PlainPattern × Taken) Fault) (s : Taken) → Each IsElement xs → ((u : Taken) → u.1.library ≡ own → GaveBy (IsOf depth u) (tail u)) → s.1.library ≡ own
-          → GaveBy (IsOf depth s) (list_with (walked fs place depth false no_parts xs) tail s)
-      list-takes depth xs tail s all last n =
-          by-after (HasParts depth s) (IsOf depth s) (walked fs place depth false no_parts xs s) (λ parts s. after (tail s) (λ p s. Ok (list (parts_of parts) p, s))) (walked-takes fs depth false s no_parts xs s all (parts-none depth s n))
-          (λ parts u k. by-after (IsOf depth u) (IsOf depth s) (tail u) (λ p s. Ok (list (parts_of parts) p, s)) (last u k.takes.library)
-          (λ p v j. takes-then s u v (all_depths depth (parts_of parts)) (depths depth p) (all_variables (parts_of parts)) (variables p) (all_literals (parts_of parts)) (literals p) k.takes j))
+    list-takes : (depth : ℕ) (xs : List Element) (tail : Taken → Result (PlainPattern × Taken) Fault) (s : Taken) → Each IsElement xs → ((u : Taken) → u.1.library ≡ own → GaveBy (IsOf depth u) (tail u)) → s.1.library ≡ own
+        → GaveBy (IsOf depth s) (list_with (walked c depth false no_parts xs) tail s)
+    list-takes depth xs tail s all last n =
+        by-after (HasParts depth s) (IsOf depth s) (walked c depth false no_parts xs s) (λ parts s. after (tail s) (λ p s. Ok (list (parts_of parts) p, s))) (walked-takes depth false s no_parts xs s all (parts-none depth s n))
+        (λ parts u k. by-after (IsOf depth u) (IsOf depth s) (tail u) (λ p s. Ok (list (parts_of parts) p, s)) (last u k.takes.library)
+        (λ p v j. takes-then s u v (all_depths depth (parts_of parts)) (depths depth p) (all_variables (parts_of parts)) (variables p) (all_literals (parts_of parts)) (literals p) k.takes j))
 
-      mutual
-        pattern-takes : (t : Tree) (depth : ℕ) (s : Taken) → s.1.library ≡ own → GaveBy (IsOf depth s) (pattern fs ls place t depth s)
-        pattern-takes (tree.atom r a) depth s n = takes-none s n
-        pattern-takes (tree.leaf r x c) depth s n = leaf-takes fs ls (tree.leaf r x c) depth s tt n
-        pattern-takes (tree.pair r a d) depth s n =
-            list-takes depth ((a, pattern fs ls place a) ∷ element_patterns fs ls place d) (tail_pattern fs ls place d depth) s ((λ e u m. pattern-takes a e u m), elements-take d) (λ u m. tail-takes d depth u m) n
-        pattern-takes (tree.vector r d) depth s n = vector-takes depth (element_patterns fs ls place d) s (elements-take d) n
+    mutual
+      pattern-takes : (t : Tree) (depth : ℕ) (s : Taken) → s.1.library ≡ own → GaveBy (IsOf depth s) (pattern c t depth s)
+      pattern-takes (tree.atom r a) depth s n = takes-none s n
+      pattern-takes (tree.leaf r x k) depth s n = leaf-takes (tree.leaf r x k) depth s tt n
+      pattern-takes (tree.pair r a d) depth s n =
+          list-takes depth ((a, pattern c a) ∷ element_patterns c d) (tail_pattern c d depth) s ((λ e u m. pattern-takes a e u m), elements-take d) (λ u m. tail-takes d depth u m) n
+      pattern-takes (tree.vector r d) depth s n = vector-takes depth (element_patterns c d) s (elements-take d) n
 
-        elements-take : (t : Tree) → Each IsElement (element_patterns fs ls place t)
-        elements-take (tree.atom r a) = tt
-        elements-take (tree.leaf r x c) = tt
-        elements-take (tree.pair r a d) = ((λ e u m. pattern-takes a e u m), elements-take d)
-        elements-take (tree.vector r d) = tt
+      elements-take : (t : Tree) → Each IsElement (element_patterns c t)
+      elements-take (tree.atom r a) = tt
+      elements-take (tree.leaf r x k) = tt
+      elements-take (tree.pair r a d) = ((λ e u m. pattern-takes a e u m), elements-take d)
+      elements-take (tree.vector r d) = tt
 
-        tail-takes : (t : Tree) (depth : ℕ) (s : Taken) → s.1.library ≡ own → GaveBy (IsOf depth s) (tail_pattern fs ls place t depth s)
-        tail-takes (tree.atom r a) depth s n = takes-none s n
-        tail-takes (tree.leaf r x c) depth s n = leaf-takes fs ls (tree.leaf r x c) depth s tt n
-        tail-takes (tree.pair r a d) depth s n = tail-takes d depth s n
-        tail-takes (tree.vector r d) depth s n = vector-takes depth (element_patterns fs ls place d) s (elements-take d) n
+      tail-takes : (t : Tree) (depth : ℕ) (s : Taken) → s.1.library ≡ own → GaveBy (IsOf depth s) (tail_pattern c t depth s)
+      tail-takes (tree.atom r a) depth s n = takes-none s n
+      tail-takes (tree.leaf r x k) depth s n = leaf-takes (tree.leaf r x k) depth s tt n
+      tail-takes (tree.pair r a d) depth s n = tail-takes d depth s n
+      tail-takes (tree.vector r d) depth s n = vector-takes depth (element_patterns c d) s (elements-take d) n
 
 -- a pattern with its variables
 pub record Compiles (own : LibName) (old : Named) (c : Compiled) (new : Named) : Type 0 where
@@ -248,8 +245,8 @@ pub record Compiles (own : LibName) (old : Named) (c : Compiled) (new : Named) :
   pub labels : variables c.pattern ≡ map variable_label c.variables
   pub leaves : Each IsLeaf (literals c.pattern)
 
-pub compiles : (own : LibName) (fs : Scope) (ls : List Tree) (place : Span) (t : Tree) (names : Named) → names.library ≡ own → GaveBy (Compiles own names) (compiled fs ls place t names)
-compiles own fs ls place t names n = checked (literals_checked fs place ls)
+pub compiles : (own : LibName) (c : Context) (t : Tree) (names : Named) → names.library ≡ own → GaveBy (Compiles own names) (compiled c t names)
+compiles own c t names n = checked (literals_checked c.frames c.place c.literals)
   where
     of : (r : Result (PlainPattern × Taken) Fault) → GaveBy (IsOf own 0 ([], names)) r → GaveBy (Compiles own names) (with_variables r)
     of (Err e) h = tt
@@ -262,6 +259,6 @@ compiles own fs ls place t names n = checked (literals_checked fs place ls)
       leaves = h.leaves;
     }
 
-    checked : (r : Result (Unit {0}) Fault) → GaveBy (Compiles own names) (r >>= λ _. with_variables (pattern fs ls place t 0 ([], names)))
+    checked : (r : Result (Unit {0}) Fault) → GaveBy (Compiles own names) (r >>= λ _. with_variables (pattern c t 0 ([], names)))
     checked (Err e) = tt
-    checked (Ok x) = of (pattern fs ls place t 0 ([], names)) (pattern-takes own place fs ls t 0 ([], names) n)
+    checked (Ok x) = of (pattern c t 0 ([], names)) (pattern-takes own c t 0 ([], names) n)

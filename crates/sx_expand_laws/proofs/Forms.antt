@@ -36,7 +36,7 @@ use Rattle.sx_heads.specs.declared.plan.Plan.{Plan}
 use Rattle.sx_heads.specs.declared.plan.Plan.TheVariants as plans
 use Rattle.sx_expand.specs.Body.{body}
 use Rattle.sx_expand.specs.Expression.{case_in, lambda_case, lambda, one_case, all_cases, case_lambda, one_init, all_inits, letrec_in, letrec_form, in_sequence, fender, clause_in, pattern_clause, all_clauses, syntax_case, keywords_form, perform, perform_settled, form_at, inside}
-use Rattle.sx_heads.specs.Depth.{deeper}
+use Rattle.sx_heads.specs.Depth.{deeper, most_round}
 use Rattle.sx_expand.specs.Inside.{Inside}
 use Rattle.sx_expand.specs.Keywords.{with_keywords}
 use Rattle.sx_expand.specs.Settle.{settle}
@@ -313,7 +313,7 @@ module _ (own : LibName) (given : List Label) (go : Inside) (safe : Safe own giv
     pub gives-form : (place : Span) (depth : ℕ) (t : Tree) (s : State) → Starts own given vs level ls s → Gave (GivesGood own vs ls s) (form_at go place level depth t s)
     unfolding form_at
     gives-form place depth t s h =
-        gave-if (GivesGood own vs ls s) (nat_lt 600 depth) _ (after (settle go.earlier place level t s) (perform_settled go level depth)) (λ e. tt)
+        gave-if (GivesGood own vs ls s) (nat_lt most_round depth) _ (after (settle go.earlier place level t s) (perform_settled go level depth)) (λ e. tt)
         (λ e. gave-after (SettlesTo own given go.earlier vs level ls s) (GivesGood own vs ls s) (settle go.earlier place level t s) (perform_settled go level depth)
         (settle-planned own given go.earlier vs level ls s.uses_left place t s h)
         (λ d u k. gave-less (GivesGood own vs ls u) (GivesGood own vs ls s) (perform_settled go level depth d u) (performs d.place depth d.form d.plan u (starts-later own given vs level ls s u h k.0) k.1)

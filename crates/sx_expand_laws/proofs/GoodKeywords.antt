@@ -37,7 +37,7 @@ use Rattle.sx_heads.specs.Items.{begun}
 use Rattle.sx_heads.specs.declared.taken.Taken.{Taken}
 use Rattle.sx_expand.specs.Body.{splice, finish_all}
 use Rattle.sx_expand.specs.Expanding.{ready, body_of, library_record}
-use Rattle.sx_expand.specs.Expression.{inside}
+use Rattle.sx_expand.specs.Expression.{inside, full_room}
 use Rattle.sx_expand.specs.Inside.{Inside}
 use Rattle.sx_expand.specs.Top.{exports, give_record, record_in, body_at, finished, first_pass, top}
 use Rattle.sx_expand.specs.declared.top.TopAt.{TopAt}
@@ -122,7 +122,7 @@ record-ends own path records imports version place exports forms codes r h e =
     let given = flat_map defined records in
     let start = started own records imports codes in
     let at = body_of (ready own path records imports codes) version place in
-    by (top (inside records 602) at exports forms start) (ends-top own given (inside records 602) (inside-spares own given records 602) at exports forms start (started-begins own records imports codes h)) e
+    by (top (inside records full_room) at exports forms start) (ends-top own given (inside records full_room) (inside-spares own given records full_room) at exports forms start (started-begins own records imports codes h)) e
   where
     by : (x : Result (LibRecord × State) Fault) → Gave (Ends own (flat_map defined records)) x → record_in x ≡ Ok r → Ended own (flat_map defined records) r
     by (Ok p) g is = let same : p.0 ≡ r = cc in record { state = p.1; ends = subst (λ (q : LibRecord). Ends own (flat_map defined records) q p.1) same g }

@@ -2,7 +2,7 @@
 use Rattle.std.proofs.Common.{◌≡◌, ℕ, ◌<◌, Bool, true, false, List, [], ◌∷◌, ◌++◌, Option, None, Some, refl, sym, ◌∙◌, subst, arith, inl, inr, if◌then◌else◌}
 use Rattle.std.specs.Prelude.{◌⊎◌, ◌||◌, nat_lt}
 use Rattle.std.proofs.lemmas.Bool.{ltb-true}
-use Rattle.sx_base.specs.Op.{is_keyword}
+use Rattle.sx_base.specs.Op.{name_count, is_keyword}
 use Rattle.sx_base.specs.Same.{same_library, same_library_decides}
 use Rattle.sx_base.specs.declared.library.LibName.{LibName}
 use Rattle.sx_base.specs.declared.library.LibName.TheVariants as library
@@ -90,18 +90,18 @@ below m k e = omega (arith, ltb-true)
 
 module _ (own : LibName) (given : List Label) (vs : Depths) (level : ℕ) (ls : List Label) (s : State) (sound : Sound own given s) (reach : Reach own given vs level s ls) where
   numbered-fits : (l : Label) → Fits level ls s (numbered_as l)
-  numbered-fits l = by (nat_lt l.0.number 301) refl
+  numbered-fits l = by (nat_lt l.0.number name_count) refl
     where
-      by_keyword : l.0.number < 301 → (b : Bool) → is_keyword l.0.number ≡ b → Fits level ls s (if b then standing.Nothing else standing.Primitive (record { 0 = l.0.number }))
+      by_keyword : l.0.number < name_count → (b : Bool) → is_keyword l.0.number ≡ b → Fits level ls s (if b then standing.Nothing else standing.Primitive (record { 0 = l.0.number }))
       by_keyword lt true e = tt
       by_keyword lt false e = (lt, e)
 
-      by_form : l.0.number < 301 → (o : Option CoreForm) → Fits level ls s (given_as l o)
+      by_form : l.0.number < name_count → (o : Option CoreForm) → Fits level ls s (given_as l o)
       by_form lt (Some f) = tt
       by_form lt None = by_keyword lt (is_keyword l.0.number) refl
 
-      by : (b : Bool) → nat_lt l.0.number 301 ≡ b → Fits level ls s (if b then given_as l (at_number l.0.number) else standing.Nothing)
-      by true e = by_form (below l.0.number 301 e) (at_number l.0.number)
+      by : (b : Bool) → nat_lt l.0.number name_count ≡ b → Fits level ls s (if b then given_as l (at_number l.0.number) else standing.Nothing)
+      by true e = by_form (below l.0.number name_count e) (at_number l.0.number)
       by false e = tt
 
   -- a variable of the library that is in scope

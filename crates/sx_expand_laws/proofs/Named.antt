@@ -3,7 +3,7 @@ use Rattle.std.proofs.Common.{◌≡◌, ℕ, zero, suc, Bool, true, false, List
 use Rattle.std.specs.Prelude.{◌⊎◌, ◌&&◌, nat_eq, nat_lt, is_some}
 use Rattle.std.specs.Cmp.Lexicographic.{pointwise}
 use Rattle.sx_base.specs.Act.{after, give}
-use Rattle.sx_base.specs.Op.{is_keyword}
+use Rattle.sx_base.specs.Op.{name_count, is_keyword}
 use Rattle.sx_base.specs.Same.{same_library, texts_decides}
 use Rattle.sx_base.specs.declared.fault.Fault.{Fault}
 use Rattle.sx_base.specs.declared.fault.FaultKind.TheVariants as kind
@@ -35,6 +35,7 @@ use Rattle.sx_standing.specs.Standing.{label_standing, numbered_as, given_as, bo
 use Rattle.sx_standing.specs.State.{State, Does, fresh, fault_form}
 use Rattle.sx_standing.specs.declared.standing.Standing.TheVariants as standing
 use Rattle.sx_standing.specs.declared.standing.Standing.{Standing}
+use Rattle.sx_heads.specs.Depth.{most_round}
 use Rattle.sx_heads.specs.Plan.{reference, target_by, plan_of}
 use Rattle.sx_heads.specs.declared.plan.KeywordUse.{KeywordUse}
 use Rattle.sx_heads.specs.declared.plan.KeywordUse.TheVariants as keyword_use
@@ -90,7 +91,7 @@ label-kept s l = by (same_library l.0.library library.Core)
     bound (Some (binding.Primitive o)) = tt
 
     by : (b : Bool) → OfLabel l (if b then numbered_as l else bound_as s l (bound_to s.bindings l))
-    by true = by_number (nat_lt l.0.number 301)
+    by true = by_number (nat_lt l.0.number name_count)
     by false = bound (bound_to s.bindings l)
 
 -- a use of the keyword that is stood for
@@ -171,7 +172,7 @@ unfolding inside form_at
 form-named rs zero place level depth t s h = tt
 form-named rs (suc room) place level depth (leaf r x c) s h =
     let earlier = (inside rs room).earlier in
-    gave-if (Answers earlier place level (leaf r x c) s) (nat_lt 600 depth) _ _ (λ e. tt)
+    gave-if (Answers earlier place level (leaf r x c) s) (nat_lt most_round depth) _ _ (λ e. tt)
     (λ e. gave-after (IsSettled earlier place level (leaf r x c) s) (Answers earlier place level (leaf r x c) s) (settle earlier place level (leaf r x c) s) (perform_settled (inside rs room) level depth)
     (settle-named earlier place level (leaf r x c) s s.uses_left (reference-named place level (leaf r x c) s)) (performs-named earlier place level (leaf r x c) s (inside rs room) depth))
 form-named rs (suc room) place level depth (atom r a) s h = absurd (cc)

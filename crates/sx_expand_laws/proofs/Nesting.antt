@@ -21,7 +21,7 @@ use Rattle.sx_core.specs.declared.code.Lambda.{Lambda}
 use Rattle.sx_core_laws.specs.Follows.{IsThere}
 use Rattle.sx_core_laws.specs.Parts.{parts, all_parts, init_parts, case_parts, clause_parts, init_labels, case_labels, own_variables}
 use Rattle.sx_core_laws.specs.Words.{Each}
-use Rattle.sx_heads.specs.Depth.{deeper}
+use Rattle.sx_heads.specs.Depth.{deeper, most_round}
 use Rattle.sx_expand.specs.Body.{sequence_of}
 use Rattle.sx_expand_laws.proofs.Fresh.{each-append, each-map}
 use Rattle.sx_expand_laws.proofs.Good.{Bindings, Extends}
@@ -31,22 +31,22 @@ use Rattle.sx_expand_laws.proofs.Good.{Bindings, Extends}
 pub max-low : (a b d n : ℕ) → a + d ≤ n → b + d ≤ n → max a b + d ≤ n
 max-low a b d n h k = let m : max a b ≤ n - d = max-le (omega (arith, h)) (omega (arith, k)) in omega (arith, m, h)
 
-pub not-deep : (depth : ℕ) → nat_lt 600 depth ≡ false → depth ≤ 600
+pub not-deep : (depth : ℕ) → nat_lt most_round depth ≡ false → depth ≤ most_round
 not-deep depth e = grind (arith, nat_tests)
 
-pub too-deep : (depth : ℕ) → nat_lt 600 depth ≡ true → depth ≤ 600 → ⊥
+pub too-deep : (depth : ℕ) → nat_lt most_round depth ≡ true → depth ≤ most_round → ⊥
 too-deep depth e le = grind (arith, nat_tests)
 
 -- what isn't too deep is one deeper inside
-pub deeper-next : (depth : ℕ) → depth ≤ 600 → deeper depth ≡ depth + 1
-deeper-next depth le = by (nat_lt 600 depth) refl
+pub deeper-next : (depth : ℕ) → depth ≤ most_round → deeper depth ≡ depth + 1
+deeper-next depth le = by (nat_lt most_round depth) refl
   where
-    by : (b : Bool) → nat_lt 600 depth ≡ b → (if b then depth else depth + 1) ≡ depth + 1
+    by : (b : Bool) → nat_lt most_round depth ≡ b → (if b then depth else depth + 1) ≡ depth + 1
     by true e = absurd (too-deep depth e le)
     by false e = refl
 
 pub deeper-up : (depth : ℕ) → depth ≤ deeper depth
-deeper-up depth = by (nat_lt 600 depth)
+deeper-up depth = by (nat_lt most_round depth)
   where
     by : (b : Bool) → depth ≤ (if b then depth else depth + 1)
     by true = omega arith

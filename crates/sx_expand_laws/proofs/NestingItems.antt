@@ -14,6 +14,7 @@ use Rattle.sx_shapes.specs.declared.shape.Shape.TheVariants as shapes
 use Rattle.sx_standing.specs.Binders.{bind_variable}
 use Rattle.sx_standing.specs.State.{State, fault_word}
 use Rattle.sx_standing.specs.Uses.{asks_variable}
+use Rattle.sx_heads.specs.Depth.{most_round}
 use Rattle.sx_heads.specs.Items.{waiting_at, any_changed, is_mixed, is_top, with_waiting, heads_like, in_time, define, define_item, item_plan}
 use Rattle.sx_heads.specs.declared.item.Item.{Item}
 use Rattle.sx_heads.specs.declared.item.Item.TheVariants as items
@@ -39,7 +40,7 @@ use Rattle.sx_expand_laws.proofs.Uses.{asks-later, next-later}
 
 -- it stands at least so deep, and not too deep
 abbrev pub IsDeep : ℕ → Waiting → Type 0
-IsDeep base w = (base ≤ w.depth) × (w.depth ≤ 600)
+IsDeep base w = (base ≤ w.depth) × (w.depth ≤ most_round)
 
 -- what waits of a body at a depth
 pub record AreWaiting (at : BodyAt) (base : ℕ) (d : Taken) (bs : Bindings) : Type 0 where
@@ -52,7 +53,7 @@ waiting-grown at base d bs cs ext h = record {
   labels = each-map (IsDefined bs at.level (is_top at.kind)) (IsDefined cs at.level (is_top at.kind)) (kind_labels (wait_kinds d.waiting)) h.labels (λ l k. defined-grown bs cs ext at.level (is_top at.kind) l k);
 }
 
-module _ (own : LibName) (start : State) (at : BodyAt) (base depth : ℕ) (deep : base ≤ depth) (room : depth ≤ 600) where
+module _ (own : LibName) (start : State) (at : BodyAt) (base depth : ℕ) (deep : base ≤ depth) (room : depth ≤ most_round) where
   abbrev W : Taken → State → Type 0
   W d s = AreWaiting at base d s.bindings
 
@@ -155,7 +156,7 @@ module _ (own : LibName) (start : State) (at : BodyAt) (base depth : ℕ) (deep 
 
 -- Forms of a body are settled.
 
-module _ (own : LibName) (rs : List LibRecord) (start : State) (base depth : ℕ) (deep : base ≤ depth) (room : depth ≤ 600) where
+module _ (own : LibName) (rs : List LibRecord) (start : State) (base depth : ℕ) (deep : base ≤ depth) (room : depth ≤ most_round) where
   abbrev pub SettlesWaiting : BodyAt → State → Taken × SettledItem → State → Type 0
   SettlesWaiting at s p u = AreWaiting at base p.0 u.bindings
 

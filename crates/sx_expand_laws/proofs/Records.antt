@@ -31,7 +31,7 @@ use Rattle.sx_heads.specs.Items.{begun, is_top}
 use Rattle.sx_heads.specs.declared.taken.Taken.{Taken}
 use Rattle.sx_expand.specs.Body.{splice, finish_all}
 use Rattle.sx_expand.specs.Expanding.{ready, body_of, library_record}
-use Rattle.sx_expand.specs.Expression.{inside}
+use Rattle.sx_expand.specs.Expression.{inside, full_room}
 use Rattle.sx_expand.specs.Inside.{Inside}
 use Rattle.sx_expand.specs.Top.{exports, refs_of, give_record, record_in, body_at, kind_of, finished, first_pass, top}
 use Rattle.sx_expand.specs.declared.top.TopAt.{TopAt}
@@ -40,6 +40,7 @@ use Rattle.sx_expand_laws.specs.Indices.{bound_index}
 use Rattle.sx_expand_laws.proofs.Indices.{indices-once}
 use Rattle.sx_expand_laws.specs.Ready.{IsReady}
 use Rattle.sx_expand_laws.specs.States.{IsOwn, IsForeign, IsTop, Sound, Keeps, Grows, Adds, Reach, Later}
+use Rattle.sx_expand_laws.specs.Shallow.{deepest}
 use Rattle.sx_expand_laws.proofs.Acts.{Gave, gave-after, gave-both, gave-less}
 use Rattle.sx_expand_laws.proofs.Fresh.{Made, FreshLabels, each-map, among-parts, among-first, among-second}
 use Rattle.sx_expand_laws.proofs.Grows.{grows-same, grows-then}
@@ -77,7 +78,7 @@ pub record Runs (own : LibName) (given : List Label) (start : State) (r : LibRec
   pub frames : r.frames ≡ rows_in r.name ended.frames
   pub exports : AreShown ended.frames r.exports
   pub tops : (l : Label) (v : VarInfo) → IsOwn own l.0 → IsTop ended l v → Among (defined r) l
-  pub nests : Each (λ x. Within ended.bindings 0 0 2404 (line_core x)) r.run
+  pub nests : Each (λ x. Within ended.bindings 0 0 deepest (line_core x)) r.run
   pub labels : Each (IsDefined ended.bindings 0 true) (defined r)
 
 -- libraries and programs define at the top
@@ -187,7 +188,7 @@ module _ (own : LibName) (given : List Label) (go : Inside) (safe : Safe own giv
         frames = refl;
         exports = each-map (λ (e : List ℕ × Label). IsShown t.frames e.1) (λ (e : List ℕ × Label). IsShown v.frames e.1) es shown (λ e j. shown-later own t v e.1 k.later.grows j);
         tops = λ l w o b. subst (λ (ls : List Label). Among ls l) is (new-top labels l w o (took.adds.tops l w o (k.later.tops l w o b)));
-        nests = pairs-each (LineWithin v.bindings 0 0) (λ x. Within v.bindings 0 0 2404 (line_core x)) (λ w x j. j.0) d.waiting xs both.1;
+        nests = pairs-each (LineWithin v.bindings 0 0) (λ x. Within v.bindings 0 0 deepest (line_core x)) (λ w x j. j.0) d.waiting xs both.1;
         labels = subst (Each (IsDefined v.bindings 0 true)) is (each-map (IsDefined t.bindings 0 true) (IsDefined v.bindings 0 true) labels h.labels (λ l j. defined-grown t.bindings v.bindings k.later.grows.bound 0 true l j));
       })
 
@@ -224,8 +225,8 @@ record-runs own path records imports version place exports forms codes r h e =
     let given = flat_map defined records in
     let start = started own records imports codes in
     let at = body_of (ready own path records imports codes) version place in
-    in-record (Runs own given start) (top (inside records 602) at exports forms start) r
-    (gives-top own given (inside records 602) (inside-safe own given records 602) start (started-sound own records imports codes h) (started-scope own records imports codes) (started-foreign own records imports codes h) at exports forms) e
+    in-record (Runs own given start) (top (inside records full_room) at exports forms start) r
+    (gives-top own given (inside records full_room) (inside-safe own given records full_room) start (started-sound own records imports codes h) (started-scope own records imports codes) (started-foreign own records imports codes h) at exports forms) e
 
 pub records-good : RecordsAreGood
 records-good own path records imports version place exports forms codes r h e =

@@ -25,6 +25,7 @@ use Rattle.sx_standing.specs.State.{State, stage_of, staged, fresh, fault_form}
 use Rattle.sx_standing.specs.Uses.{use_keyword, macro_expression}
 use Rattle.sx_standing.specs.declared.standing.Role.{Role}
 use Rattle.sx_standing.specs.declared.standing.Role.TheVariants as role
+use Rattle.sx_heads.specs.Depth.{most_round}
 use Rattle.sx_heads.specs.Plan.{refer, reference, application, by_role, keyword_plan, by_head, list_plan, plan_of}
 use Rattle.sx_heads.specs.Items.{keep, wait, alone, leaf_by, leaf_item, item_by, core_item, headed_item, list_item, item_plan}
 use Rattle.sx_heads.specs.declared.item.Item.TheVariants as items
@@ -105,7 +106,7 @@ module _ (go : Inside) (left : ℕ) (place : Span) (level depth : ℕ) (t : Tree
   next-settled h = ap (λ r. after (after r (step_of go.earlier place t)) (settled_by (λ m s'. after (next_form go.earlier left place t m None s') (settle_to go.earlier left (place_of t place) level)) place t)) h
 
   -- what comes of the form that was given
-  behind : nat_lt 600 depth ≡ false → (r : Result (Tree × State) Fault) → Gave (Leaves left) r
+  behind : nat_lt most_round depth ≡ false → (r : Result (Tree × State) Fault) → Gave (Leaves left) r
       → after (after r (settle_to go.earlier left (place_of t place) level)) (perform_settled go level depth) ≡ after r (form_at go (place_of t place) level depth)
   unfolding form_at
   behind few (Err e) h = refl
@@ -113,7 +114,7 @@ module _ (go : Inside) (left : ℕ) (place : Span) (level depth : ℕ) (t : Tree
       ap (λ n. after (settle_to go.earlier n (place_of t place) level p.0 p.1) (perform_settled go level depth)) (sym h)
       ∙ sym (ap (λ b. if b then fault_form kind.TooDeep p.0 (place_of t place) p.1 else after (settle go.earlier (place_of t place) level p.0 p.1) (perform_settled go level depth)) few)
 
-  replaced : plan_of place level t s ≡ Ok (plans.Use k, s) → s.uses_left ≡ suc left → nat_lt 600 depth ≡ false → form_at go place level depth t s ≡ after (next_form go.earlier left place t k None s) (form_at go (place_of t place) level depth)
+  replaced : plan_of place level t s ≡ Ok (plans.Use k, s) → s.uses_left ≡ suc left → nat_lt most_round depth ≡ false → form_at go place level depth t s ≡ after (next_form go.earlier left place t k None s) (form_at go (place_of t place) level depth)
   unfolding form_at
   replaced h uses few =
       ap (λ b. if b then fault_form kind.TooDeep t place s else after (settle go.earlier place level t s) (perform_settled go level depth)) few
@@ -126,11 +127,11 @@ unfolding inside
 earlier-are rs zero = refl
 earlier-are rs (suc room) = refl
 
-form-replaced : (rs : List LibRecord) (room left : ℕ) (place : Span) (level depth : ℕ) (t : Tree) (k : KeywordUse) (s : State) → plan_of place level t s ≡ Ok (plans.Use k, s) → s.uses_left ≡ suc left → depth ≤ 600
+form-replaced : (rs : List LibRecord) (room left : ℕ) (place : Span) (level depth : ℕ) (t : Tree) (k : KeywordUse) (s : State) → plan_of place level t s ≡ Ok (plans.Use k, s) → s.uses_left ≡ suc left → depth ≤ most_round
     → (inside rs (suc room)).form place level depth t s ≡ after (next_form rs left place t k None s) ((inside rs (suc room)).form (place_of t place) level depth)
 unfolding inside
 form-replaced rs room left place level depth t k s h uses le =
-    let few : nat_lt 600 depth ≡ false = grind (arith, nat_tests) in
+    let few : nat_lt most_round depth ≡ false = grind (arith, nat_tests) in
     subst (λ (xs : List LibRecord). form_at (inside rs room) place level depth t s ≡ after (next_form xs left place t k None s) (form_at (inside rs room) (place_of t place) level depth)) (earlier-are rs room)
     (replaced (inside rs room) left place level depth t k s h uses few)
 
@@ -180,7 +181,7 @@ module _ (go : Inside) (left : ℕ) (at : BodyAt) (depth : ℕ) (done : Taken) (
   unfolding settle_item_to item_step
   item-settled h = ap (λ r. after (after r (λ p. item_step_of go.earlier at depth t p.0 p.1)) (settling.item_by (λ taken m s'. after (next_form go.earlier left at.place t m (Some at.frame) s') (settle_item_to go.earlier left (at_use at t) depth taken)) at t)) h
 
-  item-behind : nat_lt 600 depth ≡ false → (r : Result (Tree × State) Fault) → Gave (Leaves left) r
+  item-behind : nat_lt most_round depth ≡ false → (r : Result (Tree × State) Fault) → Gave (Leaves left) r
       → after (after r (settle_item_to go.earlier left (at_use at t) depth kept)) (body.perform_settled go depth) ≡ after r (item go (at_use at t) depth kept)
   unfolding item
   item-behind few (Err e) h = refl
@@ -188,7 +189,7 @@ module _ (go : Inside) (left : ℕ) (at : BodyAt) (depth : ℕ) (done : Taken) (
       ap (λ n. after (settle_item_to go.earlier n (at_use at t) depth kept p.0 p.1) (body.perform_settled go depth)) (sym h)
       ∙ sym (ap (λ b. if b then fault_form kind.TooDeep p.0 (at_use at t).place p.1 else after (settle_item go.earlier (at_use at t) depth kept p.0 p.1) (body.perform_settled go depth)) few)
 
-  item-replaced : item_plan at depth done t s ≡ Ok ((kept, items.Use k), s) → s.uses_left ≡ suc left → nat_lt 600 depth ≡ false → item go at depth done t s ≡ after (next_form go.earlier left at.place t k (Some at.frame) s) (item go (at_use at t) depth kept)
+  item-replaced : item_plan at depth done t s ≡ Ok ((kept, items.Use k), s) → s.uses_left ≡ suc left → nat_lt most_round depth ≡ false → item go at depth done t s ≡ after (next_form go.earlier left at.place t k (Some at.frame) s) (item go (at_use at t) depth kept)
   unfolding item
   item-replaced h uses few =
       ap (λ b. if b then fault_form kind.TooDeep t at.place s else after (settle_item go.earlier at depth done t s) (body.perform_settled go depth)) few
@@ -197,10 +198,10 @@ module _ (go : Inside) (left : ℕ) (at : BodyAt) (depth : ℕ) (done : Taken) (
       ∙ item-behind few (next_form go.earlier left at.place t k (Some at.frame) s) (next-leaves go.earlier left at.place t k (Some at.frame) s)
 
 body-form-replaced : (rs : List LibRecord) (room left : ℕ) (at : BodyAt) (depth : ℕ) (done : Taken) (t : Tree) (k : KeywordUse) (s : State) → item_plan at depth done t s ≡ Ok ((with_head_of s done t, items.Use k), s)
-    → s.uses_left ≡ suc left → depth ≤ 600 → (inside rs (suc room)).item at depth done t s ≡ after (next_form rs left at.place t k (Some at.frame) s) ((inside rs (suc room)).item (at_use at t) depth (with_head_of s done t))
+    → s.uses_left ≡ suc left → depth ≤ most_round → (inside rs (suc room)).item at depth done t s ≡ after (next_form rs left at.place t k (Some at.frame) s) ((inside rs (suc room)).item (at_use at t) depth (with_head_of s done t))
 unfolding inside
 body-form-replaced rs room left at depth done t k s h uses le =
-    let few : nat_lt 600 depth ≡ false = grind (arith, nat_tests) in
+    let few : nat_lt most_round depth ≡ false = grind (arith, nat_tests) in
     subst (λ (xs : List LibRecord). item (inside rs room) at depth done t s ≡ after (next_form xs left at.place t k (Some at.frame) s) (item (inside rs room) (at_use at t) depth (with_head_of s done t))) (earlier-are rs room)
     (item-replaced (inside rs room) left at depth done t k s h uses few)
 

@@ -6,14 +6,14 @@ use Rattle.sx_core_laws.specs.Follows.{keyword_of, keywords, line_cores}
 use Rattle.sx_core_laws.specs.Records.{defined, line_core}
 use Rattle.sx_core_laws.specs.Words.{Each}
 use Rattle.sx_standing.specs.Own.{own_bindings}
-use Rattle.sx_expand_laws.specs.Shallow.{IsShallow, RecordsAreShallow}
+use Rattle.sx_expand_laws.specs.Shallow.{deepest, IsShallow, RecordsAreShallow}
 use Rattle.sx_expand_laws.proofs.Fresh.{each-append}
 use Rattle.sx_expand_laws.proofs.Good.{Bindings}
 use Rattle.sx_expand_laws.proofs.GoodKeywords.{record-ends, keywords-each}
 use Rattle.sx_expand_laws.proofs.Nesting.{Within}
 use Rattle.sx_expand_laws.proofs.Records.{record-runs}
 
-lines-shallow : (bs : Bindings) (xs : List Line) → Each (λ x. Within bs 0 0 2404 (line_core x)) xs → Each IsShallow (map line_core xs)
+lines-shallow : (bs : Bindings) (xs : List Line) → Each (λ x. Within bs 0 0 deepest (line_core x)) xs → Each IsShallow (map line_core xs)
 lines-shallow bs [] h = tt
 lines-shallow bs (x ∷ xs) h = ((let low = h.0.low in omega (arith, low)), lines-shallow bs xs h.1)
 

@@ -29,7 +29,7 @@ use Rattle.sx_expand.specs.Body.{sequence_of}
 use Rattle.sx_expand.specs.Expression.{in_order, application, alternate, conditional, set, in_sequence}
 use Rattle.sx_expand.specs.Inside.{Inside}
 use Rattle.sx_expand.specs.Keywords.{keyword, seen_in, keyword_in, all_keywords, keywords, with_keywords}
-use Rattle.sx_expand_laws.specs.Shallow.{IsShallow}
+use Rattle.sx_expand_laws.specs.Shallow.{deepest, IsShallow}
 use Rattle.sx_expand_laws.specs.States.{IsOwn, Reach, Later}
 use Rattle.sx_expand_laws.proofs.Acts.{Gave, gave-after, gave-less, gave-both, gave-each, gave-within}
 use Rattle.sx_expand_laws.proofs.BindingKeywords.{BindsKeywords, binds-keywords}
@@ -167,9 +167,9 @@ module _ (own : LibName) (given : List Label) where
     expresses place level depth t s b =
         let z : State = record s { scope = [] } in
         let start = nothing-begins s b in
-        gave-after (λ c u. (Later own z u × Within u.bindings (level + 1) depth 2404 c) × (GivesGood own [] given z c u × Gives C z c u)) (Expressed s) (go.form place (level + 1) depth t z) (restoring s.scope)
-        (gave-both (λ c u. Later own z u × Within u.bindings (level + 1) depth 2404 c) (λ c u. GivesGood own [] given z c u × Gives C z c u) (go.form place (level + 1) depth t z)
-        (gave-both (λ c u. Later own z u) (λ c u. Within u.bindings (level + 1) depth 2404 c) (go.form place (level + 1) depth t z) (spares.safe.moves.form place (level + 1) depth t z b.sound.next) (spares.safe.nests.form place (level + 1) depth t z (b.sound.next, b.sound.numbered)))
+        gave-after (λ c u. (Later own z u × Within u.bindings (level + 1) depth deepest c) × (GivesGood own [] given z c u × Gives C z c u)) (Expressed s) (go.form place (level + 1) depth t z) (restoring s.scope)
+        (gave-both (λ c u. Later own z u × Within u.bindings (level + 1) depth deepest c) (λ c u. GivesGood own [] given z c u × Gives C z c u) (go.form place (level + 1) depth t z)
+        (gave-both (λ c u. Later own z u) (λ c u. Within u.bindings (level + 1) depth deepest c) (go.form place (level + 1) depth t z) (spares.safe.moves.form place (level + 1) depth t z b.sound.next) (spares.safe.nests.form place (level + 1) depth t z (b.sound.next, b.sound.numbered)))
         (gave-both (GivesGood own [] given z) (Gives C z) (go.form place (level + 1) depth t z) (spares.safe.form place (level + 1) depth t z [] given start.sound (nothing-reached level s b)) (spares.form place (level + 1) depth t z start)))
         (λ c u h.
         let w : State = record u { scope = s.scope } in

@@ -15,6 +15,7 @@ use Rattle.sx_standing.specs.State.{State}
 use Rattle.sx_standing.specs.Uses.{asks_variable}
 use Rattle.sx_standing.specs.declared.standing.Standing.{Standing}
 use Rattle.sx_standing.specs.declared.standing.Standing.TheVariants as standing
+use Rattle.sx_heads.specs.Depth.{most_round}
 use Rattle.sx_heads.specs.Plan.{done, reference, assign, plan_of}
 use Rattle.sx_heads.specs.declared.plan.Plan.{Plan}
 use Rattle.sx_heads.specs.declared.plan.Plan.TheVariants as plans
@@ -157,7 +158,7 @@ module _ (own : LibName) (given : List Label) (go : Inside) (spares : Spares own
   pub spares-form : (place : Span) (level depth : ℕ) (t : Tree) (s : State) → B s → Gave (Gives own given (C own given) s) (form_at go place level depth t s)
   unfolding form_at
   spares-form place level depth t s b =
-      gave-if (Gives own given (C own given) s) (nat_lt 600 depth) _ (after (settle go.earlier place level t s) (perform_settled go level depth)) (λ e. tt)
+      gave-if (Gives own given (C own given) s) (nat_lt most_round depth) _ (after (settle go.earlier place level t s) (perform_settled go level depth)) (λ e. tt)
       (λ e. goes own given (SettledAway go.earlier level) (C own given) s (settle go.earlier place level t s) (perform_settled go level depth) (settle-spares go.earlier level s.uses_left place t s b)
       (λ d u o w. spares-perform own given go spares d.place level depth d.form d.plan u o.0 w))
 

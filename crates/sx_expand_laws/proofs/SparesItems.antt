@@ -26,7 +26,7 @@ use Rattle.sx_heads.specs.declared.taken.Waits.{Waits}
 use Rattle.sx_heads.specs.declared.taken.Waits.TheVariants as waits
 use Rattle.sx_expand.specs.Body.{splice, perform_item, item}
 use Rattle.sx_expand.specs.Body as expand_body
-use Rattle.sx_heads.specs.Depth.{deeper}
+use Rattle.sx_heads.specs.Depth.{deeper, most_round}
 use Rattle.sx_expand.specs.Inside.{Inside}
 use Rattle.sx_expand.specs.Keywords.{keyword, with_keywords, define_syntax}
 use Rattle.sx_expand.specs.Settle.{next_form, too_many, at_use, set_item_step, item_step_of, item_step, settle_item_to, settle_item}
@@ -219,6 +219,6 @@ module _ (own : LibName) (given : List Label) where
     pub spares-item : (at : BodyAt) (depth : ℕ) (d : Taken) (t : Tree) (s : State) → (is_top at.kind ≡ true → at.level ≡ 0) → B s → W s d → Gave (Gives own given W s) (item go at depth d t s)
     unfolding item
     spares-item at depth d t s low h k =
-        gave-if (Gives own given W s) (nat_lt 600 depth) _ (after (settle_item go.earlier at depth d t s) (expand_body.perform_settled go depth)) (λ e. tt)
+        gave-if (Gives own given W s) (nat_lt most_round depth) _ (after (settle_item go.earlier at depth d t s) (expand_body.perform_settled go depth)) (λ e. tt)
         (λ e. goes own given (Settles go.earlier depth at) W s (settle_item go.earlier at depth d t s) (expand_body.perform_settled go depth) (settle-spares go.earlier depth s.uses_left at d t s low h k)
         (λ p u o w. subst (λ (other : BodyAt). Gave (Gives own given W u) (perform_item go other depth p.0 p.1.form p.1.item u)) (sym w.1.1) (spares-performs (record at { place = w.1.0 }) low go spares depth p.0 p.1.form p.1.item u o.0 w.0)))

@@ -81,7 +81,7 @@ specs-same f place level bs s =
 
 pub pattern-same : (literals : List Tree) (place : Span) (t : Tree) (s : State) → Gave (Same s) (pattern_of literals place t s)
 unfolding stage_patterns.pattern_of
-pattern-same literals place t s = by (patterns.compiled s.frames literals place t s.names)
+pattern-same literals place t s = by (patterns.compiled (record { frames = s.frames; literals = literals; place = place }) t s.names)
   where
     by : (r : Result (Compiled × Named) Fault) → Gave (Same s) (staged s (stage_patterns.named (stage_of s) r))
     by (Err e) = tt

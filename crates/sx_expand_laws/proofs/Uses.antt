@@ -136,7 +136,7 @@ module _ (own : LibName) where
 
   pub pattern-later : (literals : List Tree) (place : Span) (t : Tree) (s : State) → Names own s → Gave (Patterned s) (pattern_of literals place t s)
   unfolding stage_patterns.pattern_of
-  pattern-later literals place t s n = by (patterns.compiled s.frames literals place t s.names) (compiles own s.frames literals place t s.names n)
+  pattern-later literals place t s n = by (patterns.compiled (record { frames = s.frames; literals = literals; place = place }) t s.names) (compiles own (record { frames = s.frames; literals = literals; place = place }) t s.names n)
     where
       by : (r : Result (Compiled × Named) Fault) → GaveBy (Compiles own s.names) r → Gave (Patterned s) (staged s (stage_patterns.named (stage_of s) r))
       by (Err e) h = tt

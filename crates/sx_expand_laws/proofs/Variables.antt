@@ -25,6 +25,7 @@ use Rattle.sx_standing.specs.Start.{started}
 use Rattle.sx_standing.specs.State.{State}
 use Rattle.sx_expand_laws.specs.States.{IsOwn, IsNumbered, IndicesApart}
 use Rattle.sx_expand_laws.specs.Variables.{HasIndices, VariablesHaveIndices}
+use Rattle.sx_expand_laws.specs.Shallow.{deepest}
 use Rattle.sx_expand_laws.proofs.BoundVariables.{IsWithin, same-within, once-within, variables-within}
 use Rattle.sx_expand_laws.proofs.Fresh.{each-at, each-of, each-append, among-parts, among-first, among-second, once-append}
 use Rattle.sx_expand_laws.proofs.Nesting.{IsDefined, IsLeveled, Within}
@@ -157,7 +158,7 @@ module _ (own : LibName) (given : List Label) (start : State) (r : LibRecord) (r
   index-is : (l : Label) (w : VarInfo) → IsOwn own l.0 → bound_to v.bindings l ≡ Some (binding.Variable w) → index_of r l ≡ w.index
   index-is l w o e = ap index_in (lookup-there r.bindings l (completed v l (binding.Variable w)) bindings-once (found l (binding.Variable w) o e))
 
-  lines-leveled : (xs : List Line) → Each (λ x. Within v.bindings 0 0 2404 (line_core x)) xs → Each (IsDefined v.bindings 0 true) (flat_map line_labels xs) → Each (IsLeveled v.bindings 0) (flat_map line_variables xs)
+  lines-leveled : (xs : List Line) → Each (λ x. Within v.bindings 0 0 deepest (line_core x)) xs → Each (IsDefined v.bindings 0 true) (flat_map line_labels xs) → Each (IsLeveled v.bindings 0) (flat_map line_variables xs)
   lines-leveled [] h k = tt
   lines-leveled (x ∷ xs) h k =
       each-append (IsLeveled v.bindings 0) (line_variables x) (flat_map line_variables xs)

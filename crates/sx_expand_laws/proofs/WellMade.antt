@@ -2,7 +2,7 @@
 use Rattle.std.proofs.Common.{◌≡◌, ℕ, ◌<◌, true, false, List, [], ◌∷◌, ◌++◌, sym, ◌∙◌, inl, inr}
 use Rattle.std.specs.Prelude.{◌⊎◌}
 use Rattle.std.specs.List.{flat_map}
-use Rattle.sx_base.specs.Op.{is_keyword}
+use Rattle.sx_base.specs.Op.{name_count, is_keyword}
 use Rattle.sx_base.specs.declared.library.LibName.{LibName}
 use Rattle.sx_base.specs.declared.name.Label.{Label}
 use Rattle.sx_core.specs.Core.{PlainCore, quoted, variable, primitive, one_armed, two_armed, assignment, sequence, procedure, letrec, call, instance, matching}
@@ -32,11 +32,11 @@ module _ (bs : Bindings) where
   basic-form (instance t s) h = tt
   basic-form (matching c cs s) h = tt
 
-  basic-ops : (ps : List PlainCore) → Each (IsBasic bs) ps → Each (λ o. o < 301) (flat_map own_op ps)
+  basic-ops : (ps : List PlainCore) → Each (IsBasic bs) ps → Each (λ o. o < name_count) (flat_map own_op ps)
   basic-ops [] h = tt
-  basic-ops (p ∷ ps) h = each-append (λ o. o < 301) (own_op p) (flat_map own_op ps) (one p h.0) (basic-ops ps h.1)
+  basic-ops (p ∷ ps) h = each-append (λ o. o < name_count) (own_op p) (flat_map own_op ps) (one p h.0) (basic-ops ps h.1)
     where
-      one : (c : PlainCore) → IsBasic bs c → Each (λ o. o < 301) (own_op c)
+      one : (c : PlainCore) → IsBasic bs c → Each (λ o. o < name_count) (own_op c)
       one (primitive o) k = (k.0, tt)
       one _ k = tt
 

@@ -1,5 +1,5 @@
 -- How deep the core code of every record nests that expansion gives.
-use Rattle.std.specs.Prelude.{◌≡◌, ◌≤◌, ◌*◌, ℕ, List, Ok}
+use Rattle.std.specs.Prelude.{◌≡◌, ◌≤◌, ◌+◌, ◌*◌, ℕ, List, Ok}
 use Rattle.sx_base.specs.declared.library.LibName.{LibName}
 use Rattle.sx_base.specs.declared.name.Label.{Label}
 use Rattle.sx_base.specs.declared.span.Span.{Span}
@@ -10,13 +10,14 @@ use Rattle.sx_core.specs.declared.record.LibRecord.{LibRecord}
 use Rattle.sx_core_laws.specs.Follows.{all_cores}
 use Rattle.sx_core_laws.specs.Words.{Each}
 use Rattle.sx_eval.specs.Codes.{Codes}
+use Rattle.sx_heads.specs.Depth.{most_round}
 use Rattle.sx_expand.specs.Expanding.{ready, library_record}
 use Rattle.sx_expand_laws.specs.Ready.{IsReady}
 
 -- At most 600 forms stand round one, so at most 601 stand in one another, and each of them comes to at most four levels of core code. That
 -- is far less than the 8,192 levels to which core text may nest.
 abbrev pub deepest : ℕ
-deepest = 4 * 601
+deepest = 4 * (most_round + 1)
 
 abbrev pub IsShallow : PlainCore → Type 0
 IsShallow c = height c ≤ deepest

@@ -14,12 +14,12 @@ use Rattle.sx_standing.specs.State.{State}
 use Rattle.sx_standing.specs.declared.standing.Role.{Role}
 use Rattle.sx_standing.specs.declared.standing.Role.TheVariants as role
 use Rattle.sx_standing.specs.declared.standing.Standing.TheVariants as standing
+use Rattle.sx_heads.specs.Depth.{most_round}
 use Rattle.sx_heads.specs.Items.{kept_head}
 use Rattle.sx_heads.specs.Kept.{with_head}
 use Rattle.sx_heads.specs.declared.plan.KeywordUse.TheVariants as keyword_use
 use Rattle.sx_heads.specs.declared.taken.BodyAt.{BodyAt}
 use Rattle.sx_heads.specs.declared.taken.Taken.{Taken}
-use Rattle.sx_quasi_code.specs.Parts.{most_round}
 use Rattle.sx_expand.specs.Expression.{inside}
 use Rattle.sx_expand.specs.Settle.{next_form, at_use}
 

@@ -31,6 +31,21 @@ pub struct LibraryForm {
     pub imports: Items<Import>,
 }
 
+// What stands in a library form before its body.
+#[derive(Drop)]
+struct Head<'a> {
+    name: &'a Datum,
+    exports: &'a Datum,
+    imports: &'a Datum,
+}
+
+// What stands in the export form of a library, and in its import form.
+#[derive(Drop)]
+struct Specs<'a> {
+    exports: &'a [Datum],
+    imports: &'a [Datum],
+}
+
 /// The library that the data of a file are.
 pub fn read_library(alloc: Global, file: &Symbol, items: &[Datum]) -> Result<LibraryForm, Stop>
     ensures { Gives (λ form. form) result (read_library file.now items.now) }
@@ -55,44 +70,47 @@ fn library_in(
     let [name, exports, imports, ..] = parts else {
         return Err(not_library(alloc, file, items));
     };
-    library_parts(alloc, file, items, name, exports, imports)
+    let head = Head {
+        name,
+        exports,
+        imports,
+    };
+    library_parts(alloc, file, items, &head)
 }
 
 fn library_parts(
     alloc: Global,
     file: &Symbol,
     items: &[Datum],
-    name: &Datum,
-    exports: &Datum,
-    imports: &Datum,
+    head: &Head,
 ) -> Result<LibraryForm, Stop>
-    ensures { Gives (λ form. form) result (library_parts file.now (not_library file.now items.now) name.now (named name.now) (form_of (codes "export") exports.now) (form_of (codes "import") imports.now)) }
+    ensures { Gives (λ form. form) result (library_parts file.now (not_library file.now items.now) head.now.name.now (named head.now.name.now) (form_of (codes "export") head.now.exports.now) (form_of (codes "import") head.now.imports.now)) }
 {
-    let Some(named) = named(alloc, name)? else {
+    let Some(named) = named(alloc, head.name)? else {
         return Err(not_library(alloc, file, items));
     };
-    let Some(exports) = form_of(exports, "export") else {
+    let Some(exports) = form_of(head.exports, "export") else {
         return Err(not_library(alloc, file, items));
     };
-    let Some(imports) = form_of(imports, "import") else {
+    let Some(imports) = form_of(head.imports, "import") else {
         return Err(not_library(alloc, file, items));
     };
-    let place = place_of(file, name)?;
-    library_of(alloc, file, place, exports, imports, named)
+    let place = place_of(file, head.name)?;
+    let specs = Specs { exports, imports };
+    library_of(alloc, file, place, named, &specs)
 }
 
 fn library_of(
     alloc: Global,
     file: &Symbol,
     place: Span,
-    exports: &[Datum],
-    imports: &[Datum],
     named: VersionedName,
+    specs: &Specs,
 ) -> Result<LibraryForm, Stop>
-    ensures { Gives (λ form. form) result (library_of file.now place exports.now imports.now named) }
+    ensures { Gives (λ form. form) result (library_of file.now place specs.now.exports.now specs.now.imports.now named) }
 {
-    let exports = export_specs(alloc, file, exports)?;
-    let imports = import_specs(alloc, file, imports)?;
+    let exports = export_specs(alloc, file, specs.exports)?;
+    let imports = import_specs(alloc, file, specs.imports)?;
     let exports = exported(alloc, exports.as_slice())?;
     Ok(LibraryForm {
         name: named.name,

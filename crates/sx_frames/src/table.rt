@@ -73,6 +73,15 @@ impl Table {
         self.rows.get(key)
     }
 
+    /// Gives back the room for others behind a first row. Most frames have no other, and a table would keep room for nine.
+    fn tighten(&mut self)
+        ensures { self.new ≡ self.old }
+    {
+        if self.rows.len() == 1 {
+            self.rows.shrink_to_fit();
+        }
+    }
+
     /// Puts a row at the end. It is `Duplicate` exactly where a row has the same symbol and marks. A
     /// refusal changes nothing.
     pub fn put(&mut self, alloc: Global, key: Key, label: Label) -> Result<(), BareStop>
@@ -83,7 +92,10 @@ impl Table {
             return Err(duplicate(alloc, key.symbol));
         }
         match self.rows.insert(key, label) {
-            Ok(_) => Ok(()),
+            Ok(_) => {
+                self.tighten();
+                Ok(())
+            }
             Err(_) => Err(BareStop::Memory),
         }
     }
@@ -110,7 +122,7 @@ impl Table {
     pub fn copies(&self, alloc: Global, frame: &FrameNo) -> Result<Items<FrameRow>, Memory>
         ensures { IfOk result (λ rs. rs ≡ rows_from frame.now self.now) }
     {
-        let mut list = Vec::new(alloc);
+        let mut list = Vec::with_capacity(alloc, self.size())?;
         for i in 0..self.size() {
             let Some(row) = self.copy_at(alloc, frame, i)? else {
                 return Err(Memory);

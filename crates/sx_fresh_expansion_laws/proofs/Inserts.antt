@@ -26,7 +26,7 @@ use Rattle.sx_quasi.specs.declared.word.Family.TheVariants as family
 use Rattle.sx_quasi_code.specs.Filled.{next_code, filled, all_filled}
 use Rattle.sx_quasi_code.specs.Form.{quote_by, syntax_by, form_of, parts_of, code_of}
 use Rattle.sx_quasi_code.specs.Inserted.{dots, ellipsis, insert_variable, insert_variables, listed, pattern_under, insert_pattern, match_of, bind_inserts, inserted_in, inserted, syntax_code}
-use Rattle.sx_quasi_code.specs.Parts.{part, most_round, with_made, quasi_parts, all_quasi_parts, insert_part, inserts_parts}
+use Rattle.sx_quasi_code.specs.Parts.{part, with_made, quasi_parts, all_quasi_parts, insert_part, inserts_parts}
 use Rattle.sx_quasi_code.specs.declared.form.QuasiForm.{QuasiForm}
 use Rattle.sx_quasi_code.specs.declared.form.QuasiForm.TheVariants as forms
 use Rattle.sx_quasi_code.specs.declared.parts.Part.{Part}
@@ -35,7 +35,7 @@ use Rattle.sx_shapes.specs.At.{place_of}
 use Rattle.sx_standing.specs.Binders.{put_row}
 use Rattle.sx_standing.specs.Patterns.{bind_pattern, template_of}
 use Rattle.sx_standing.specs.State.{State, fresh, fresh_frame}
-use Rattle.sx_heads.specs.Depth.{deeper}
+use Rattle.sx_heads.specs.Depth.{deeper, most_round}
 use Rattle.sx_expand.specs.Inside.{Inside}
 use Rattle.sx_expand.specs.Quasi.{part_core, parts_in_order, quasi_made, quasi_form}
 use Rattle.sx_value.specs.Cells.{Each}

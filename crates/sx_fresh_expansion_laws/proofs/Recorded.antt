@@ -40,7 +40,7 @@ use Rattle.sx_heads.specs.declared.taken.Taken.{Taken}
 use Rattle.sx_value.specs.Cells.{Each}
 use Rattle.sx_expand.specs.Body.{finish_all}
 use Rattle.sx_expand.specs.Expanding.{ready, body_of, library_record}
-use Rattle.sx_expand.specs.Expression.{inside}
+use Rattle.sx_expand.specs.Expression.{inside, full_room}
 use Rattle.sx_expand.specs.Inside.{Inside}
 use Rattle.sx_expand.specs.Top.{stands_for, export, all_exports, exports, give_record, record_in, body_at, finished, first_pass, top}
 use Rattle.sx_expand.specs.declared.top.TopAt.{TopAt}
@@ -287,8 +287,8 @@ module _ (own : LibName) (records : List LibRecord) where
       pub record-law : (path version : List ℕ) (place : Span) (es : List (List ℕ × Tree)) (forms : List Tree) (r : LibRecord) → Each WasRead forms
           → library_record (ready own path records imports codes) records version place es forms ≡ Ok r → RecordHasOnly Q (own ∷ L) r
       record-law path version place es forms r was e =
-          of-record r (top (inside records 602) (body_of (ready own path records imports codes) version place) es forms (started own records imports codes))
-          (top-holds own Kn Jn Pn lives 1 (inside records 602) (inside-keeps own Kn Jn Pn lives 1 records 602 (all-lines records only)) (body_of (ready own path records imports codes) version place) es forms (started own records imports codes) start-holds
+          of-record r (top (inside records full_room) (body_of (ready own path records imports codes) version place) es forms (started own records imports codes))
+          (top-holds own Kn Jn Pn lives 1 (inside records full_room) (inside-keeps own Kn Jn Pn lives 1 records full_room (all-lines records only)) (body_of (ready own path records imports codes) version place) es forms (started own records imports codes) start-holds
           (forms-hold (started own records imports codes).names.number forms was) first-made) e
 
   pub marks-known : (n : ℕ) (c : LeafContext) → HasOnly HasMarks L c → KnownBy HasMarks L own n c

@@ -14,7 +14,7 @@ use Rattle.sx_shapes.specs.At.{place_of}
 use Rattle.sx_shapes.specs.declared.shape.BindingSpec.{BindingSpec}
 use Rattle.sx_standing.specs.State.{State}
 use Rattle.sx_standing.specs.Uses.{asks_variable}
-use Rattle.sx_heads.specs.Depth.{deeper}
+use Rattle.sx_heads.specs.Depth.{deeper, most_round}
 use Rattle.sx_heads.specs.Items.{waiting_at, define_keyword, item_plan}
 use Rattle.sx_heads.specs.Plan.{plan_of}
 use Rattle.sx_heads.specs.declared.item.Item.{Item}
@@ -188,7 +188,7 @@ module _ (own : LibName) (K : ℕ → Mark → Type 0) (J : ℕ → FrameNo → 
     pub form-at-holds : (place : Span) (level depth : ℕ) (t : Tree) (s : State) → (F own K J P lives first) s → (T own K J P lives first) s.names.number t → (Gave own K J P lives first) (C own K J P lives first) s (form_at go place level depth t s)
     unfolding form_at
     form-at-holds place level depth t s h g =
-        (gave-if own K J P lives first) (C own K J P lives first) s (nat_lt 600 depth) _ (after (settle go.earlier place level t s) (perform_settled go level depth)) tt
+        (gave-if own K J P lives first) (C own K J P lives first) s (nat_lt most_round depth) _ (after (settle go.earlier place level t s) (perform_settled go level depth)) tt
         ((gave-after own K J P lives first) (SettledAt go.earlier keeps.records) (C own K J P lives first) s (settle go.earlier place level t s) (perform_settled go level depth) (settle-to-holds go.earlier keeps.records s.uses_left place level t s h g)
         (λ d u i y. perform-holds d.place level depth d.form d.plan u ((state-then own K J P lives first) s u h i) y.0 y.1))
 
@@ -213,7 +213,7 @@ module _ (own : LibName) (K : ℕ → Mark → Type 0) (J : ℕ → FrameNo → 
     pub item-holds : (at : BodyAt) (depth : ℕ) (d : Taken) (t : Tree) (s : State) → (F own K J P lives first) s → (TakenAt own K J P lives first) s.names.number d → (T own K J P lives first) s.names.number t → J s.names.number at.frame → (Gave own K J P lives first) (TakenAt own K J P lives first) s (item go at depth d t s)
     unfolding item
     item-holds at depth d t s h k g q =
-        (gave-if own K J P lives first) (TakenAt own K J P lives first) s (nat_lt 600 depth) _ (after (settle_item go.earlier at depth d t s) (expand_body.perform_settled go depth)) tt
+        (gave-if own K J P lives first) (TakenAt own K J P lives first) s (nat_lt most_round depth) _ (after (settle_item go.earlier at depth d t s) (expand_body.perform_settled go depth)) tt
         ((gave-after own K J P lives first) (SettledItemAt go.earlier keeps.records) (TakenAt own K J P lives first) s (settle_item go.earlier at depth d t s) (expand_body.perform_settled go depth) (settle-item-to-holds go.earlier keeps.records s.uses_left at depth d t s h k g q)
         (λ p u i y. perform-item-holds p.1.at depth p.0 p.1.form p.1.item u ((state-then own K J P lives first) s u h i) y.0 y.1.0 y.1.1.0 y.1.1.1))
 

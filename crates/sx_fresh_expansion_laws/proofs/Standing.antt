@@ -408,7 +408,7 @@ module _ (own : LibName) (K : ℕ → Mark → Type 0) (J : ℕ → FrameNo → 
 
   pub pattern-holds : (literals : List Tree) (place : Span) (t : Tree) (s : State) → F s → T s.names.number t → Gave CompiledHolds s (pattern_of literals place t s)
   unfolding stage_patterns.pattern_of
-  pattern-holds literals place t s h k = by (patterns.compiled s.frames literals place t s.names) (λ m le. compiled-holds (P m) own s.frames literals place t s.names (tree-up s.names.number m le t k) h.stage.library)
+  pattern-holds literals place t s h k = by (patterns.compiled (record { frames = s.frames; literals = literals; place = place }) t s.names) (λ m le. compiled-holds (P m) own (record { frames = s.frames; literals = literals; place = place }) t s.names (tree-up s.names.number m le t k) h.stage.library)
     where
       by : (r : Result (Compiled × Named) Fault) → ((m : ℕ) → s.names.number ≤ m → GaveBy (CompiledFrom (P m) own s.names.number) r) → Gave CompiledHolds s (staged s (stage_patterns.named (stage_of s) r))
       by (Err f) j = tt

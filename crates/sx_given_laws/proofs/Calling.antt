@@ -2,6 +2,7 @@
 use Rattle.std.proofs.Common.{◌≡◌, ◌+◌, ℕ, List, [], ◌∷◌, Some, None, true, false, Ok, length, refl, ap, subst, ◌∙◌, arith, if◌then◌else◌, nat_eq}
 use Rattle.sx_base.specs.declared.name.CodeNo.{CodeNo}
 use Rattle.sx_base.specs.declared.op.Op.{Op}
+use Rattle.sx_base.specs.declared.op.names.TheConstants as names
 use Rattle.sx_region.specs.declared.region.Place.{Place}
 use Rattle.sx_core.specs.Core.{PlainCore, PlainCode}
 use Rattle.sx_core.specs.declared.formals.Formals.{Formals}
@@ -18,7 +19,6 @@ use Rattle.sx_eval.specs.Procedures.{first_case, bindings, has_text, text_number
 use Rattle.sx_eval.specs.Setting.{PlainSetting}
 use Rattle.sx_eval.specs.Spread.{apply_args, spread_on, spread_to, spread}
 use Rattle.sx_eval.specs.State.{State, done, store, next_place, with_cell}
-use Rattle.sx_eval.specs.declared.spread.TheConstants.{APPLY}
 use Rattle.sx_given_laws.specs.Calls.{End, Ends, Gives, call_of, CallEnds, Calls}
 use Rattle.sx_given_laws.proofs.Giving.{gives-done, ends-same, gives-same, ends-then, gives-charged, Evaluates}
 
@@ -61,7 +61,7 @@ module _ (w : PlainSetting) where
 
   -- Primitives.
 
-  pub not-apply : (op : Op) (args : List Value) → nat_eq op.0 APPLY ≡ false → apply_args (value.Prim op ∷ args) ≡ None
+  pub not-apply : (op : Op) (args : List Value) → nat_eq op.0 names.APPLY ≡ false → apply_args (value.Prim op ∷ args) ≡ None
   not-apply op args e = ap (λ b. if b then Some args else None) e
 
   pub called-at-once : (f : Value) (args : List Value) (s : State) (n : ℕ) → apply_args (f ∷ args) ≡ None → call_of w f args s n ≡ value_called w (eval_of w) f args s n
@@ -82,7 +82,7 @@ module _ (w : PlainSetting) where
       t : State
       t = store (performed m s.names s.cells).1 (name_after (names_taken m) s.names)
 
-  pub primitive-called : (op : Op) (args : List Value) (s : State) (m : Made) → nat_eq op.0 APPLY ≡ false → has_text op.0 ≡ false → delta op.0 args s.cells w.frames ≡ Ok m
+  pub primitive-called : (op : Op) (args : List Value) (s : State) (m : Made) → nat_eq op.0 names.APPLY ≡ false → has_text op.0 ≡ false → delta op.0 args s.cells w.frames ≡ Ok m
       → Calls w (value.Prim op) args s (performed m s.names s.cells).0 (store (performed m s.names s.cells).1 (name_after (names_taken m) s.names))
   unfolding op_called
   primitive-called op args s m other none e =
@@ -97,16 +97,16 @@ module _ (w : PlainSetting) where
       λ i. record { library = s.names.library; number = same i }
 
   -- a call that takes no name
-  pub plain-called : (op : Op) (args : List Value) (s : State) (m : Made) → nat_eq op.0 APPLY ≡ false → has_text op.0 ≡ false → names_taken m ≡ 0 → delta op.0 args s.cells w.frames ≡ Ok m
+  pub plain-called : (op : Op) (args : List Value) (s : State) (m : Made) → nat_eq op.0 names.APPLY ≡ false → has_text op.0 ≡ false → names_taken m ≡ 0 → delta op.0 args s.cells w.frames ≡ Ok m
       → Calls w (value.Prim op) args s (performed m s.names s.cells).0 (store (performed m s.names s.cells).1 s.names)
   plain-called op args s m other none free e =
-      subst (λ names. Calls w (value.Prim op) args s (performed m s.names s.cells).0 (store (performed m s.names s.cells).1 names)) (same-names m s free)
+      subst (λ named. Calls w (value.Prim op) args s (performed m s.names s.cells).0 (store (performed m s.names s.cells).1 named)) (same-names m s free)
       (primitive-called op args s m other none e)
 
   -- Procedures that are given as texts: the text gives a procedure, which is called.
 
   pub text-ends : (op : Op) (args : List Value) (s t u : State) (code : PlainCode) (body : PlainCore) (number : CodeNo) (parent : Place) (r : End)
-      → nat_eq op.0 APPLY ≡ false → has_text op.0 ≡ true → code_at w.codes (text_number op.0) ≡ Some code → text_body (Some code) ≡ Some body
+      → nat_eq op.0 names.APPLY ≡ false → has_text op.0 ≡ true → code_at w.codes (text_number op.0) ≡ Some code → text_body (Some code) ≡ Some body
       → Evaluates w body (next_place s) (with_cell (cell.Scope [] None) s) (value.Closure number parent) t
       → Ends (procedure_called w (eval_of w) number parent args t) r u
       → CallEnds w (value.Prim op) args s r u
@@ -122,7 +122,7 @@ module _ (w : PlainSetting) where
           ∙ ap (λ o. by_text w (eval_of w) args s n (text_body o)) is ∙ ap (by_text w (eval_of w) args s n) text
 
   pub text-called : (op : Op) (args : List Value) (s t u : State) (code : PlainCode) (body : PlainCore) (number : CodeNo) (parent : Place) (v : Value)
-      → nat_eq op.0 APPLY ≡ false → has_text op.0 ≡ true → code_at w.codes (text_number op.0) ≡ Some code → text_body (Some code) ≡ Some body
+      → nat_eq op.0 names.APPLY ≡ false → has_text op.0 ≡ true → code_at w.codes (text_number op.0) ≡ Some code → text_body (Some code) ≡ Some body
       → Evaluates w body (next_place s) (with_cell (cell.Scope [] None) s) (value.Closure number parent) t
       → Gives (procedure_called w (eval_of w) number parent args t) v u
       → Calls w (value.Prim op) args s v u

@@ -1,5 +1,6 @@
 -- What a call of `filter` that gave a value did.
 use Rattle.std.proofs.Common.{◌≡◌, List, [], ◌∷◌, Some, None, true, false, refl, sym, subst}
+use Rattle.sx_base.specs.declared.op.names.TheConstants as ops
 use Rattle.sx_region.specs.declared.region.Place.{Place}
 use Rattle.sx_value.specs.declared.value.Value.{Value}
 use Rattle.sx_value.specs.declared.value.Value.TheVariants as value
@@ -139,7 +140,7 @@ module _ (w : PlainSetting) (known : code_at w.codes (code_no 61) ≡ Some (proc
       let c = list-some r in
       some-did x l c.0 xs s round c.1 v t called (λ u k y z h. loop-did xs c.0 u y z (home-later s u k p home round) (list-later s u k xs c.0 c.2) h)
 
-pub filter-only : (w : PlainSetting) (knows : Knows w.codes) (f l : Value) (xs : List Value) (s : State) (v : Value) (t : State) → IsList s.cells xs l → Calls w (value.Prim (record { 0 = 194 })) (f ∷ l ∷ []) s v t
+pub filter-only : (w : PlainSetting) (knows : Knows w.codes) (f l : Value) (xs : List Value) (s : State) (v : Value) (t : State) → IsList s.cells xs l → Calls w (value.Prim (record { 0 = ops.FILTER })) (f ∷ l ∷ []) s v t
     → Filtered w f chosen xs s v t
 unfolding has_text
 filter-only w knows f l xs s v t r called = record { answers = m.answers; in_turn = in-turn-from w f xs m.answers s (ready w s 60 61) t (ready-later w s 60 61) m.in_turn; list = m.list }
@@ -147,4 +148,4 @@ filter-only w knows f l xs s v t r called = record { answers = m.answers; in_tur
     m : Filtered w f chosen xs (ready w s 60 61) v t
     m =
         loop-did w knows.filter_loop f (home_place w s 60 61) xs l (ready w s 60 61) v t (ready-home w s 60 61) (list-later s (ready w s 60 61) (ready-later w s 60 61) xs l r)
-        (loop-back w s 60 61 194 (63 ∷ 64 ∷ []) filter_loop refl refl refl (f ∷ l ∷ []) v t knows.filter_text refl called)
+        (loop-back w s 60 61 ops.FILTER (63 ∷ 64 ∷ []) filter_loop refl refl refl (f ∷ l ∷ []) v t knows.filter_text refl called)

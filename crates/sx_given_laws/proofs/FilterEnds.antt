@@ -2,6 +2,7 @@
 use Rattle.std.proofs.Common.{◌≡◌, List, [], ◌∷◌, Some, None, Bool, true, false, Ok, Err, refl, sym, subst, inl, inr}
 use Rattle.std.specs.Prelude.{◌⊎◌}
 use Rattle.sx_base.specs.declared.fault.Bare.{Bare}
+use Rattle.sx_base.specs.declared.op.names.TheConstants as ops
 use Rattle.sx_region.specs.declared.region.Place.{Place}
 use Rattle.sx_value.specs.declared.value.Value.{Value}
 use Rattle.sx_value.specs.declared.value.Value.TheVariants as value
@@ -111,14 +112,14 @@ module _ (w : PlainSetting) (known : code_at w.codes (code_no 61) ≡ Some (proc
       (λ v k a. filter-ends xs c.0 v (home-later s v k p home round) (list-later s v k xs c.0 c.2) a)
 
 pub filter-ended : (w : PlainSetting) (knows : Knows w.codes) (f l : Value) (xs : List Value) (s : State) → IsList s.cells xs l → AllEnd w f xs s
-    → Filters w (value.Prim (record { 0 = 194 })) (f ∷ l ∷ []) f chosen xs s ⊎ Faults w (value.Prim (record { 0 = 194 })) (f ∷ l ∷ []) f xs s
+    → Filters w (value.Prim (record { 0 = ops.FILTER })) (f ∷ l ∷ []) f chosen xs s ⊎ Faults w (value.Prim (record { 0 = ops.FILTER })) (f ∷ l ∷ []) f xs s
 unfolding has_text
 filter-ended w knows f l xs s r give =
     elim (filter-ends w knows.filter_loop f (home_place w s 60 61) xs l at (ready-home w s 60 61) (list-later s at behind xs l r) (all-end-later w f xs s at behind give)) [
       | inl m ↦ inl (record {
         value = m.value;
         state = m.state;
-        called = loop-by-ends w s 60 61 194 (63 ∷ 64 ∷ []) filter_loop refl refl refl (f ∷ l ∷ []) (Ok m.value) m.state knows.filter_text refl m.called;
+        called = loop-by-ends w s 60 61 ops.FILTER (63 ∷ 64 ∷ []) filter_loop refl refl refl (f ∷ l ∷ []) (Ok m.value) m.state knows.filter_text refl m.called;
         answers = m.answers;
         in_turn = in-turn-from w f xs m.answers s at m.state behind m.in_turn;
         list = m.list;
@@ -126,7 +127,7 @@ filter-ended w knows f l xs s r give =
       | inr m ↦ inr (record {
         fault = m.fault;
         state = m.state;
-        called = loop-by-ends w s 60 61 194 (63 ∷ 64 ∷ []) filter_loop refl refl refl (f ∷ l ∷ []) (Err m.fault) m.state knows.filter_text refl m.called;
+        called = loop-by-ends w s 60 61 ops.FILTER (63 ∷ 64 ∷ []) filter_loop refl refl refl (f ∷ l ∷ []) (Err m.fault) m.state knows.filter_text refl m.called;
         stops = stops-from w f xs m.fault s at m.state behind m.stops;
       })
     ]

@@ -1,5 +1,6 @@
 -- What a call of `find` that gave a value did.
 use Rattle.std.proofs.Common.{◌≡◌, List, [], ◌∷◌, Some, None, true, false, refl, sym, subst}
+use Rattle.sx_base.specs.declared.op.names.TheConstants as ops
 use Rattle.sx_region.specs.declared.region.Place.{Place}
 use Rattle.sx_value.specs.declared.value.Value.{Value}
 use Rattle.sx_value.specs.declared.value.Value.TheVariants as value
@@ -103,11 +104,11 @@ module _ (w : PlainSetting) (known : code_at w.codes (code_no 78) ≡ Some (proc
       let c = list-some r in
       some-did x l c.0 xs s round c.1 v t called (λ u k y z h. loop-did xs c.0 u y z (home-later s u k p home round) (list-later s u k xs c.0 c.2) h)
 
-pub find-only : (w : PlainSetting) (knows : Knows w.codes) (f l : Value) (xs : List Value) (s : State) (v : Value) (t : State) → IsList s.cells xs l → Calls w (value.Prim (record { 0 = 191 })) (f ∷ l ∷ []) s v t → Found w f xs s v t
+pub find-only : (w : PlainSetting) (knows : Knows w.codes) (f l : Value) (xs : List Value) (s : State) (v : Value) (t : State) → IsList s.cells xs l → Calls w (value.Prim (record { 0 = ops.FIND })) (f ∷ l ∷ []) s v t → Found w f xs s v t
 unfolding has_text
 find-only w knows f l xs s v t r called = record { rest = m.rest; search = search-from w f xs m.rest s (ready w s 77 78) t (ready-later w s 77 78) m.search; value_is = m.value_is }
   where
     m : Found w f xs (ready w s 77 78) v t
     m =
         loop-did w knows.find_loop f (home_place w s 77 78) xs l (ready w s 77 78) v t (ready-home w s 77 78) (list-later s (ready w s 77 78) (ready-later w s 77 78) xs l r)
-        (loop-back w s 77 78 191 (80 ∷ 81 ∷ []) find_loop refl refl refl (f ∷ l ∷ []) v t knows.find_text refl called)
+        (loop-back w s 77 78 ops.FIND (80 ∷ 81 ∷ []) find_loop refl refl refl (f ∷ l ∷ []) v t knows.find_text refl called)

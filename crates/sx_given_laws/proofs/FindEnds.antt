@@ -2,6 +2,7 @@
 use Rattle.std.proofs.Common.{◌≡◌, List, [], ◌∷◌, Some, None, true, false, Ok, Err, refl, sym, subst, inl, inr}
 use Rattle.std.specs.Prelude.{◌⊎◌}
 use Rattle.sx_base.specs.declared.fault.Bare.{Bare}
+use Rattle.sx_base.specs.declared.op.names.TheConstants as ops
 use Rattle.sx_region.specs.declared.region.Place.{Place}
 use Rattle.sx_value.specs.declared.value.Value.{Value}
 use Rattle.sx_value.specs.declared.value.Value.TheVariants as value
@@ -100,7 +101,7 @@ module _ (w : PlainSetting) (known : code_at w.codes (code_no 78) ≡ Some (proc
       (λ v k a. find-ends xs c.0 v (home-later s v k p home round) (list-later s v k xs c.0 c.2) a)
 
 pub find-ended : (w : PlainSetting) (knows : Knows w.codes) (f l : Value) (xs : List Value) (s : State) → IsList s.cells xs l → SearchEnds w f xs s
-    → Finds w (value.Prim (record { 0 = 191 })) (f ∷ l ∷ []) f xs s ⊎ SearchFaults w (value.Prim (record { 0 = 191 })) (f ∷ l ∷ []) f xs s
+    → Finds w (value.Prim (record { 0 = ops.FIND })) (f ∷ l ∷ []) f xs s ⊎ SearchFaults w (value.Prim (record { 0 = ops.FIND })) (f ∷ l ∷ []) f xs s
 unfolding has_text
 find-ended w knows f l xs s r give =
     elim (find-ends w knows.find_loop f (home_place w s 77 78) xs l at (ready-home w s 77 78) (list-later s at behind xs l r) (search-ends-later w f xs s at behind give)) [
@@ -108,12 +109,12 @@ find-ended w knows f l xs s r give =
         state = m.state;
         rest = m.rest;
         search = search-from w f xs m.rest s at m.state behind m.search;
-        called = loop-by-ends w s 77 78 191 (80 ∷ 81 ∷ []) find_loop refl refl refl (f ∷ l ∷ []) (Ok (first_or_false m.rest)) m.state knows.find_text refl m.called;
+        called = loop-by-ends w s 77 78 ops.FIND (80 ∷ 81 ∷ []) find_loop refl refl refl (f ∷ l ∷ []) (Ok (first_or_false m.rest)) m.state knows.find_text refl m.called;
       })
       | inr m ↦ inr (record {
         fault = m.fault;
         state = m.state;
-        called = loop-by-ends w s 77 78 191 (80 ∷ 81 ∷ []) find_loop refl refl refl (f ∷ l ∷ []) (Err m.fault) m.state knows.find_text refl m.called;
+        called = loop-by-ends w s 77 78 ops.FIND (80 ∷ 81 ∷ []) find_loop refl refl refl (f ∷ l ∷ []) (Err m.fault) m.state knows.find_text refl m.called;
         stops = search-stops-from w f xs m.fault s at m.state behind m.stops;
       })
     ]

@@ -1,6 +1,7 @@
 -- `for-each` on one list: its text calls `map` and gives nothing of it.
 use Rattle.std.proofs.Common.{◌≡◌, ℕ, zero, suc, List, [], ◌∷◌, Some, None, true, false, length, Ok, Err, refl, ap, sym, subst, inl, inr, if◌then◌else◌}
 use Rattle.std.specs.Prelude.{◌⊎◌}
+use Rattle.sx_base.specs.declared.op.names.TheConstants as names
 use Rattle.sx_region.specs.declared.region.Place.{Place}
 use Rattle.sx_region.proofs.Laws.{slice_get-added}
 use Rattle.sx_value.specs.declared.value.Value.{Value}
@@ -61,10 +62,10 @@ module _ (w : PlainSetting) (knows : Knows w.codes) (f l : Value) (s : State) wh
   abbrev q : Place
   q = next_place outside
 
-  body-ends : (r : End) (t : State) → ExpressionEnds w for_each_body q inner r t → CallEnds w (value.Prim (record { 0 = 110 })) (f ∷ l ∷ []) s r t
+  body-ends : (r : End) (t : State) → ExpressionEnds w for_each_body q inner r t → CallEnds w (value.Prim (record { 0 = names.FOR_EACH })) (f ∷ l ∷ []) s r t
   unfolding has_text
   body-ends r t h =
-      text-ends w (record { 0 = 110 }) (f ∷ l ∷ []) s outside t (text_code 110 for_each_text) for_each_text (code_no 21) p r refl refl knows.for_each_text refl
+      text-ends w (record { 0 = names.FOR_EACH }) (f ∷ l ∷ []) s outside t (text_code names.FOR_EACH for_each_text) for_each_text (code_no 21) p r refl refl knows.for_each_text refl
       (procedure-is w (code_no 21) (one_case (23 ∷ 24 ∷ []) (Some 25) for_each_body) true p outside)
       (case-ends w (code_no 21) p (f ∷ l ∷ []) outside (procedure_code (code_no 21) (one_case (23 ∷ 24 ∷ []) (Some 25) for_each_body) true) (formals (23 ∷ 24 ∷ []) (Some 25)) for_each_body r t knows.for_each_body refl h)
 
@@ -75,15 +76,15 @@ module _ (w : PlainSetting) (knows : Knows w.codes) (f l : Value) (s : State) wh
   behind = later-then s outside inner (later-with s (cell.Scope [] None)) (later-with outside (cell.Scope vars (Some p)))
 
   -- (apply map f l ls)
-  mapping : (r : End) (t : State) → CallEnds w (value.Prim (record { 0 = 133 })) (f ∷ l ∷ []) inner r t → ExpressionEnds w (app (prim 42) (prim 133 ∷ var 23 ∷ var 24 ∷ var 25 ∷ [])) q inner r t
+  mapping : (r : End) (t : State) → CallEnds w (value.Prim (record { 0 = names.MAP })) (f ∷ l ∷ []) inner r t → ExpressionEnds w (app (prim names.APPLY) (prim names.MAP ∷ var 23 ∷ var 24 ∷ var 25 ∷ [])) q inner r t
   mapping r t h =
-      call-four-ends w (prim 42) (prim 133) (var 23) (var 24) (var 25) q inner inner inner inner inner inner t
-      (value.Prim (record { 0 = 42 })) (value.Prim (record { 0 = 133 })) f l nil r
-      (primitive-is w (record { 0 = 42 }) q inner) (primitive-is w (record { 0 = 133 }) q inner)
+      call-four-ends w (prim names.APPLY) (prim names.MAP) (var 23) (var 24) (var 25) q inner inner inner inner inner inner t
+      (value.Prim (record { 0 = names.APPLY })) (value.Prim (record { 0 = names.MAP })) f l nil r
+      (primitive-is w (record { 0 = names.APPLY }) q inner) (primitive-is w (record { 0 = names.MAP }) q inner)
       (own w inner q vars p [] inside (label 23) f refl) (own w inner q vars p [] inside (label 24) l refl) (own w inner q vars p [] inside (label 25) nil refl)
-      (apply-ends w (value.Prim (record { 0 = 133 })) (f ∷ l ∷ []) [] nil inner r t (nil-elements inner.cells) h)
+      (apply-ends w (value.Prim (record { 0 = names.MAP })) (f ∷ l ∷ []) [] nil inner r t (nil-elements inner.cells) h)
 
-  visited : (xs : List Value) → Maps w (value.Prim (record { 0 = 133 })) (f ∷ l ∷ []) f xs inner → Visits w (value.Prim (record { 0 = 110 })) (f ∷ l ∷ []) f xs s value.Unspecified
+  visited : (xs : List Value) → Maps w (value.Prim (record { 0 = names.MAP })) (f ∷ l ∷ []) f xs inner → Visits w (value.Prim (record { 0 = names.FOR_EACH })) (f ∷ l ∷ []) f xs s value.Unspecified
   visited xs m = record {
     state = m.state;
     called = body-ends (Ok value.Unspecified) m.state
@@ -92,11 +93,11 @@ module _ (w : PlainSetting) (knows : Knows w.codes) (f l : Value) (s : State) wh
     in_turn = in-turn-from w f xs m.answers s inner m.state behind m.in_turn;
   }
 
-  pub for-each-given : (xs : List Value) → IsList s.cells xs l → AllGive w f xs s → Visits w (value.Prim (record { 0 = 110 })) (f ∷ l ∷ []) f xs s value.Unspecified
+  pub for-each-given : (xs : List Value) → IsList s.cells xs l → AllGive w f xs s → Visits w (value.Prim (record { 0 = names.FOR_EACH })) (f ∷ l ∷ []) f xs s value.Unspecified
   for-each-given xs r give = visited xs (map-given w inner knows f l xs (list-later s inner behind xs l r) (all-give-later w f xs s inner behind give))
 
   pub for-each-ended : (xs : List Value) → IsList s.cells xs l → AllEnd w f xs s
-      → Visits w (value.Prim (record { 0 = 110 })) (f ∷ l ∷ []) f xs s value.Unspecified ⊎ Faults w (value.Prim (record { 0 = 110 })) (f ∷ l ∷ []) f xs s
+      → Visits w (value.Prim (record { 0 = names.FOR_EACH })) (f ∷ l ∷ []) f xs s value.Unspecified ⊎ Faults w (value.Prim (record { 0 = names.FOR_EACH })) (f ∷ l ∷ []) f xs s
   for-each-ended xs r give = elim (map-ended w inner knows f l xs (list-later s inner behind xs l r) (all-end-later w f xs s inner behind give)) [
     | inl m ↦ inl (visited xs m)
     | inr m ↦ inr (record {
@@ -108,7 +109,7 @@ module _ (w : PlainSetting) (knows : Knows w.codes) (f l : Value) (s : State) wh
   ]
 
   -- what a call that gave a value did
-  pub for-each-only : (xs : List Value) (v : Value) (t : State) → IsList s.cells xs l → Calls w (value.Prim (record { 0 = 110 })) (f ∷ l ∷ []) s v t → Visited w f xs s v t
+  pub for-each-only : (xs : List Value) (v : Value) (t : State) → IsList s.cells xs l → Calls w (value.Prim (record { 0 = names.FOR_EACH })) (f ∷ l ∷ []) s v t → Visited w f xs s v t
   unfolding has_text
   for-each-only xs v t r called = record {
     answers = m.answers;
@@ -117,16 +118,16 @@ module _ (w : PlainSetting) (knows : Knows w.codes) (f l : Value) (s : State) wh
   }
     where
       nothing : PlainCore
-      nothing = one_armed (datum_at 110 49 51 (a.Bool false)) (datum_at 110 52 54 (a.Bool false))
+      nothing = one_armed (datum_at names.FOR_EACH 49 51 (a.Bool false)) (datum_at names.FOR_EACH 52 54 (a.Bool false))
 
       body : Evaluates w for_each_body q inner v t
       body =
           case-back w (code_no 21) p (f ∷ l ∷ []) outside (procedure_code (code_no 21) (one_case (23 ∷ 24 ∷ []) (Some 25) for_each_body) true) (formals (23 ∷ 24 ∷ []) (Some 25)) for_each_body v t knows.for_each_body refl
-          (text-back w (record { 0 = 110 }) (f ∷ l ∷ []) s outside t (text_code 110 for_each_text) for_each_text (code_no 21) p v refl refl knows.for_each_text refl
+          (text-back w (record { 0 = names.FOR_EACH }) (f ∷ l ∷ []) s outside t (text_code names.FOR_EACH for_each_text) for_each_text (code_no 21) p v refl refl knows.for_each_text refl
           (procedure-is w (code_no 21) (one_case (23 ∷ 24 ∷ []) (Some 25) for_each_body) true p outside) called)
 
-      parts : Parted (eval_of w (app (prim 42) (prim 133 ∷ var 23 ∷ var 24 ∷ var 25 ∷ [])) q inner) (λ x. in_sequence w (eval_of w) (more nothing none) q) v t
-      parts = sequence-back w (app (prim 42) (prim 133 ∷ var 23 ∷ var 24 ∷ var 25 ∷ [])) nothing q inner v t body
+      parts : Parted (eval_of w (app (prim names.APPLY) (prim names.MAP ∷ var 23 ∷ var 24 ∷ var 25 ∷ [])) q inner) (λ x. in_sequence w (eval_of w) (more nothing none) q) v t
+      parts = sequence-back w (app (prim names.APPLY) (prim names.MAP ∷ var 23 ∷ var 24 ∷ var 25 ∷ [])) nothing q inner v t body
 
       second : Evaluates w nothing q parts.state value.Unspecified parts.state
       second = no-arm w _ _ q parts.state parts.state (truth false) (bool-is w _ false q parts.state) refl
@@ -134,12 +135,12 @@ module _ (w : PlainSetting) (knows : Knows w.codes) (f l : Value) (s : State) wh
       state_is : parts.state ≡ t
       state_is = gives-one-state (eval_of w nothing q parts.state) value.Unspecified v parts.state t second parts.onward
 
-      mapped : Calls w (value.Prim (record { 0 = 133 })) (f ∷ l ∷ []) inner parts.value parts.state
+      mapped : Calls w (value.Prim (record { 0 = names.MAP })) (f ∷ l ∷ []) inner parts.value parts.state
       mapped =
-          apply-none w (value.Prim (record { 0 = 133 })) (f ∷ l ∷ []) [] nil inner (nil-elements inner.cells) refl parts.value parts.state
-          (call-four-back w (prim 42) (prim 133) (var 23) (var 24) (var 25) q inner inner inner inner inner inner parts.state
-          (value.Prim (record { 0 = 42 })) (value.Prim (record { 0 = 133 })) f l nil parts.value
-          (primitive-is w (record { 0 = 42 }) q inner) (primitive-is w (record { 0 = 133 }) q inner)
+          apply-none w (value.Prim (record { 0 = names.MAP })) (f ∷ l ∷ []) [] nil inner (nil-elements inner.cells) refl parts.value parts.state
+          (call-four-back w (prim names.APPLY) (prim names.MAP) (var 23) (var 24) (var 25) q inner inner inner inner inner inner parts.state
+          (value.Prim (record { 0 = names.APPLY })) (value.Prim (record { 0 = names.MAP })) f l nil parts.value
+          (primitive-is w (record { 0 = names.APPLY }) q inner) (primitive-is w (record { 0 = names.MAP }) q inner)
           (own w inner q vars p [] inside (label 23) f refl) (own w inner q vars p [] inside (label 24) l refl) (own w inner q vars p [] inside (label 25) nil refl) parts.first)
 
       m : Mapped w f xs inner parts.value parts.state

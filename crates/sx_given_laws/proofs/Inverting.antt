@@ -2,6 +2,7 @@
 use Rattle.std.proofs.Common.{◌≡◌, ◌≤◌, ◌+◌, ◌-◌, ℕ, zero, suc, List, [], ◌∷◌, ◌++◌, Some, None, Bool, true, false, length, refl, ap, sym, subst, ◌∙◌, arith, if◌then◌else◌, nat_eq}
 use Rattle.sx_base.specs.declared.name.CodeNo.{CodeNo}
 use Rattle.sx_base.specs.declared.op.Op.{Op}
+use Rattle.sx_base.specs.declared.op.names.TheConstants as names
 use Rattle.sx_region.specs.declared.region.Place.{Place}
 use Rattle.sx_core.specs.Core.{PlainCore, two_armed, sequence, call, none, more, PlainCode}
 use Rattle.sx_core.specs.declared.formals.Formals.{Formals}
@@ -14,7 +15,6 @@ use Rattle.sx_eval.specs.Meaning.{op_called}
 use Rattle.sx_eval.specs.Procedures.{first_case, bindings, has_text, text_number, text_body, truth_of}
 use Rattle.sx_eval.specs.Setting.{PlainSetting}
 use Rattle.sx_eval.specs.State.{State, Outcome, done, faulted, unfit, Go, then_do, next_place, with_cell}
-use Rattle.sx_eval.specs.declared.spread.TheConstants.{APPLY}
 use Rattle.sx_eval.proofs.Fuel.{eval_of_is}
 use Rattle.sx_eval_laws.specs.MoreFuel.{MoreIsLeft, LeftIsNotNeeded, FuelFalls}
 use Rattle.sx_eval_laws.specs.Runs.{ByFuel}
@@ -178,12 +178,12 @@ module _ (w : PlainSetting) where
   }
     where
       op : Value
-      op = value.Prim (record { 0 = 90 })
+      op = value.Prim (record { 0 = names.CONS })
 
       after_op : Gives (operands w (eval_of w) (more c (more d none)) scope (op ∷ []) s) v t
       after_op =
-          known-first (eval_of w (prim 90) scope s) (λ a. operands w (eval_of w) (more c (more d none)) scope (a ∷ [])) v op t s (steady (prim 90) scope s)
-          (primitive-is w (record { 0 = 90 }) scope s) (expressed-gives (call (prim 90) (more c (more d none))) scope s v t g)
+          known-first (eval_of w (prim names.CONS) scope s) (λ a. operands w (eval_of w) (more c (more d none)) scope (a ∷ [])) v op t s (steady (prim names.CONS) scope s)
+          (primitive-is w (record { 0 = names.CONS }) scope s) (expressed-gives (call (prim names.CONS) (more c (more d none))) scope s v t g)
 
       first : Parted (eval_of w c scope s) (λ a. operands w (eval_of w) (more d none) scope ((op ∷ []) ++ a ∷ [])) v t
       first = parted (eval_of w c scope s) (λ a. operands w (eval_of w) (more d none) scope ((op ∷ []) ++ a ∷ [])) v t (steady c scope s) after_op
@@ -206,7 +206,7 @@ module _ (w : PlainSetting) where
       (λ n. sym (ap (by_code w (eval_of w) parent args s n) is ∙ ap (by_case w (eval_of w) parent args s n) takes)) h
 
   pub text-back : (op : Op) (args : List Value) (s t u : State) (code : PlainCode) (body : PlainCore) (number : CodeNo) (parent : Place) (v : Value)
-      → nat_eq op.0 APPLY ≡ false → has_text op.0 ≡ true → code_at w.codes (text_number op.0) ≡ Some code → text_body (Some code) ≡ Some body
+      → nat_eq op.0 names.APPLY ≡ false → has_text op.0 ≡ true → code_at w.codes (text_number op.0) ≡ Some code → text_body (Some code) ≡ Some body
       → Evaluates w body (next_place s) (with_cell (cell.Scope [] None) s) (value.Closure number parent) t
       → Calls w (value.Prim op) args s v u → Gives (procedure_called w (eval_of w) number parent args t) v u
   unfolding op_called

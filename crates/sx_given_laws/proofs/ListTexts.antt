@@ -1,5 +1,6 @@
 -- `filter`, `find` and `memp`, by their texts.
 use Rattle.std.proofs.Common.{List, [], ◌∷◌, refl}
+use Rattle.sx_base.specs.declared.op.names.TheConstants as names
 use Rattle.sx_value.specs.declared.value.Value.{Value}
 use Rattle.sx_value.specs.declared.value.Value.TheVariants as value
 use Rattle.sx_eval.specs.Procedures.{has_text}
@@ -18,12 +19,12 @@ use Rattle.sx_given_laws.proofs.FindLoop.{find-loop}
 use Rattle.sx_given_laws.proofs.MempLoop.{memp-loop}
 
 module _ (w : PlainSetting) (knows : Knows w.codes) (f l : Value) (xs : List Value) (s : State) (r : IsList s.cells xs l) where
-  pub filter-given : AllGive w f xs s → Filters w (value.Prim (record { 0 = 194 })) (f ∷ l ∷ []) f chosen xs s
+  pub filter-given : AllGive w f xs s → Filters w (value.Prim (record { 0 = names.FILTER })) (f ∷ l ∷ []) f chosen xs s
   unfolding has_text
   filter-given give = record {
     value = m.value;
     state = m.state;
-    called = loop-by w s 60 61 194 (63 ∷ 64 ∷ []) filter_loop refl refl refl (f ∷ l ∷ []) m.value m.state knows.filter_text refl m.called;
+    called = loop-by w s 60 61 names.FILTER (63 ∷ 64 ∷ []) filter_loop refl refl refl (f ∷ l ∷ []) m.value m.state knows.filter_text refl m.called;
     answers = m.answers;
     in_turn = in-turn-from w f xs m.answers s at m.state behind m.in_turn;
     list = m.list;
@@ -38,13 +39,13 @@ module _ (w : PlainSetting) (knows : Knows w.codes) (f l : Value) (xs : List Val
       m : Filters w (value.Closure (code_no 61) (home_place w s 60 61)) (f ∷ l ∷ []) f chosen xs at
       m = filter-loop w knows.filter_loop f (home_place w s 60 61) xs l at (ready-home w s 60 61) (list-later s at behind xs l r) (all-give-later w f xs s at behind give)
 
-  pub find-given : SearchGives w f xs s → Finds w (value.Prim (record { 0 = 191 })) (f ∷ l ∷ []) f xs s
+  pub find-given : SearchGives w f xs s → Finds w (value.Prim (record { 0 = names.FIND })) (f ∷ l ∷ []) f xs s
   unfolding has_text
   find-given give = record {
     state = m.state;
     rest = m.rest;
     search = search-from w f xs m.rest s at m.state behind m.search;
-    called = loop-by w s 77 78 191 (80 ∷ 81 ∷ []) find_loop refl refl refl (f ∷ l ∷ []) (first_or_false m.rest) m.state knows.find_text refl m.called;
+    called = loop-by w s 77 78 names.FIND (80 ∷ 81 ∷ []) find_loop refl refl refl (f ∷ l ∷ []) (first_or_false m.rest) m.state knows.find_text refl m.called;
   }
     where
       at : State
@@ -56,12 +57,12 @@ module _ (w : PlainSetting) (knows : Knows w.codes) (f l : Value) (xs : List Val
       m : Finds w (value.Closure (code_no 78) (home_place w s 77 78)) (f ∷ l ∷ []) f xs at
       m = find-loop w knows.find_loop f (home_place w s 77 78) xs l at (ready-home w s 77 78) (list-later s at behind xs l r) (search-gives-later w f xs s at behind give)
 
-  pub memp-given : SearchGives w f xs s → FindsTail w (value.Prim (record { 0 = 202 })) (f ∷ l ∷ []) f l xs s
+  pub memp-given : SearchGives w f xs s → FindsTail w (value.Prim (record { 0 = names.MEMP })) (f ∷ l ∷ []) f l xs s
   unfolding has_text
   memp-given give = record {
     value = m.value;
     state = m.state;
-    called = loop-by w s 85 86 202 (88 ∷ 89 ∷ []) memp_loop refl refl refl (f ∷ l ∷ []) m.value m.state knows.memp_text refl m.called;
+    called = loop-by w s 85 86 names.MEMP (88 ∷ 89 ∷ []) memp_loop refl refl refl (f ∷ l ∷ []) m.value m.state knows.memp_text refl m.called;
     rest = m.rest;
     search = search-from w f xs m.rest s at m.state behind m.search;
     tail = m.tail;

@@ -1,6 +1,7 @@
 -- A loop of a text along one list that gave a value: what its parts gave.
 use Rattle.std.proofs.Common.{◌≡◌, ℕ, List, [], ◌∷◌, Some, None, true, false, refl, nat_eq, arith}
 use Rattle.std.specs.Map.{lookup}
+use Rattle.sx_base.specs.declared.op.names.TheConstants.{APPLY}
 use Rattle.sx_region.specs.declared.region.Place.{Place}
 use Rattle.sx_core.specs.Core.{PlainCore}
 use Rattle.sx_core.specs.Labels.{same_label}
@@ -12,7 +13,6 @@ use Rattle.sx_eval.specs.Procedures.{has_text, text_number}
 use Rattle.sx_eval.specs.Setting.{PlainSetting}
 use Rattle.sx_eval.specs.State.{State, next_place}
 use Rattle.sx_eval.specs.Variables.{Entries}
-use Rattle.sx_eval.specs.declared.spread.TheConstants.{APPLY}
 use Rattle.sx_eval_laws.specs.Kept.{Later}
 use Rattle.sx_given_laws.specs.Calls.{Calls}
 use Rattle.sx_given_laws.specs.Codes.{label, code_no, var, formals, one_case, app, car, cdr, text_code}

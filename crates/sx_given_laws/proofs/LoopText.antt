@@ -1,6 +1,7 @@
 -- A text that is a `letrec` of one procedure.
 use Rattle.std.proofs.Common.{◌≡◌, ℕ, List, [], Some, None, true, false, Ok, refl, nat_eq, arith}
 use Rattle.std.specs.Map.{lookup}
+use Rattle.sx_base.specs.declared.op.names.TheConstants as names
 use Rattle.sx_region.specs.declared.region.Place.{Place}
 use Rattle.sx_region.proofs.Laws.{slice_get-added}
 use Rattle.sx_core.specs.Core.{PlainCore, letrec, no_init, init}
@@ -13,7 +14,6 @@ use Rattle.sx_eval.specs.Meaning.{eval_of, procedure_called}
 use Rattle.sx_eval.specs.Procedures.{has_text, text_number}
 use Rattle.sx_eval.specs.Setting.{PlainSetting}
 use Rattle.sx_eval.specs.State.{State, next_place, with_cell}
-use Rattle.sx_eval.specs.declared.spread.TheConstants.{APPLY}
 use Rattle.sx_eval_laws.specs.Kept.{Later}
 use Rattle.sx_given_laws.specs.Calls.{End, Ends, CallEnds, Calls}
 use Rattle.sx_given_laws.specs.Codes.{label, code_no, var, lambda, one_case, text_code}
@@ -42,7 +42,7 @@ module _ (w : PlainSetting) (s : State) (go code : ℕ) where
   pub ready-later : Later s ready
   ready-later = later-then s outside ready (later-with s (cell.Scope [] None)) (later-with outside (cell.Scope (one_home (label go) (code_no code) home_place) (Some (next_place s))))
 
-  module _ (op : ℕ) (formals : List ℕ) (loop : PlainCore) (self : same_label (label go) (label go) ≡ true) (other : nat_eq op APPLY ≡ false) (yes : has_text op ≡ true) where
+  module _ (op : ℕ) (formals : List ℕ) (loop : PlainCore) (self : same_label (label go) (label go) ≡ true) (other : nat_eq op names.APPLY ≡ false) (yes : has_text op ≡ true) where
     -- the text gives a procedure, which is called
     pub text-by-ends : (body : PlainCore) (number : ℕ) (args : List Value) (r : End) (t : State)
         → code_at w.codes (text_number op) ≡ Some (text_code op (loop_text go code formals loop body))

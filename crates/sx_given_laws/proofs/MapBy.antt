@@ -1,5 +1,6 @@
 -- `map` of a procedure whose answers a function says.
 use Rattle.std.proofs.Common.{List, [], ◌∷◌, subst}
+use Rattle.sx_base.specs.declared.op.names.TheConstants as names
 use Rattle.sx_value.specs.declared.value.Value.{Value}
 use Rattle.sx_eval.specs.Setting.{PlainSetting}
 use Rattle.sx_eval.specs.State.{State}
@@ -11,7 +12,7 @@ use Rattle.sx_given_laws.proofs.MapText.{map-given}
 use Rattle.sx_given_laws.proofs.Unique.{by-all, by-answers}
 
 pub map-by : (w : PlainSetting) (knows : Knows w.codes) (f l : Value) (g : Value → Value) (xs : List Value) (s : State) → IsList s.cells xs l → AllGiveBy w f g xs s
-    → MapsBy w (built_in 133) (f ∷ l ∷ []) g xs s
+    → MapsBy w (built_in names.MAP) (f ∷ l ∷ []) g xs s
 map-by w knows f l g xs s r give = record {
   value = m.value;
   state = m.state;
@@ -19,5 +20,5 @@ map-by w knows f l g xs s r give = record {
   list = subst (λ ys. IsList m.state.cells ys m.value) (by-answers w f g xs m.answers s m.state give m.in_turn) m.list;
 }
   where
-    m : Maps w (built_in 133) (f ∷ l ∷ []) f xs s
+    m : Maps w (built_in names.MAP) (f ∷ l ∷ []) f xs s
     m = map-given w s knows f l xs r (by-all w f g xs s give)

@@ -2,6 +2,7 @@
 use Rattle.std.proofs.Common.{◌≡◌, List, [], ◌∷◌, ◌++◌, Some, None, true, false, length, Ok, Err, refl, ap, sym, subst, inl, inr}
 use Rattle.std.specs.Prelude.{◌⊎◌}
 use Rattle.sx_base.specs.declared.fault.Bare.{Bare}
+use Rattle.sx_base.specs.declared.op.names.TheConstants as names
 use Rattle.sx_core.specs.Core.{none, cores}
 use Rattle.sx_region.specs.declared.region.Place.{Place}
 use Rattle.sx_region.proofs.Laws.{slice_get-added}
@@ -132,8 +133,8 @@ module _ (w : PlainSetting) (known : code_at w.codes (code_no 4) ≡ Some (proce
       fault = e;
       state = u;
       called = by-cons (Err e) u
-          (call-ends w (prim 90) (cores (map_first ∷ map_others ∷ [])) q at at u (value.Prim (record { 0 = 90 })) (Err e) (primitive-is w (record { 0 = 90 }) q at)
-          (operand-stops w map_first (cores (map_others ∷ [])) q (value.Prim (record { 0 = 90 }) ∷ []) at u e (first-ends (Err e) u h)));
+          (call-ends w (prim names.CONS) (cores (map_first ∷ map_others ∷ [])) q at at u (value.Prim (record { 0 = names.CONS })) (Err e) (primitive-is w (record { 0 = names.CONS }) q at)
+          (operand-stops w map_first (cores (map_others ∷ [])) q (value.Prim (record { 0 = names.CONS }) ∷ []) at u e (first-ends (Err e) u h)));
       stops = stops_here enter h;
     }
 
@@ -172,9 +173,9 @@ module _ (w : PlainSetting) (known : code_at w.codes (code_no 4) ≡ Some (proce
         fault = rest.fault;
         state = rest.state;
         called = by-cons (Err rest.fault) rest.state
-            (call-ends w (prim 90) (cores (map_first ∷ map_others ∷ [])) q at at rest.state (value.Prim (record { 0 = 90 })) (Err rest.fault) (primitive-is w (record { 0 = 90 }) q at)
-            (operand-ends w map_first (cores (map_others ∷ [])) q (value.Prim (record { 0 = 90 }) ∷ []) at u rest.state y (Err rest.fault) (first-ends (Ok y) u called)
-            (operand-stops w map_others none q (value.Prim (record { 0 = 90 }) ∷ y ∷ []) u rest.state rest.fault (others-end (Err rest.fault) rest.state rest.called))));
+            (call-ends w (prim names.CONS) (cores (map_first ∷ map_others ∷ [])) q at at rest.state (value.Prim (record { 0 = names.CONS })) (Err rest.fault) (primitive-is w (record { 0 = names.CONS }) q at)
+            (operand-ends w map_first (cores (map_others ∷ [])) q (value.Prim (record { 0 = names.CONS }) ∷ []) at u rest.state y (Err rest.fault) (first-ends (Ok y) u called)
+            (operand-stops w map_others none q (value.Prim (record { 0 = names.CONS }) ∷ y ∷ []) u rest.state rest.fault (others-end (Err rest.fault) rest.state rest.called))));
         stops = stops_behind enter called rest.stops;
       }
 

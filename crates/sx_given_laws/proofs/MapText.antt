@@ -1,6 +1,7 @@
 -- `map` on one list, by its text.
 use Rattle.std.proofs.Common.{◌≡◌, ℕ, List, [], ◌∷◌, Some, None, true, Ok, Err, refl, ap, ◌∙◌, inl, inr}
 use Rattle.std.specs.Prelude.{◌⊎◌}
+use Rattle.sx_base.specs.declared.op.names.TheConstants as names
 use Rattle.sx_region.specs.declared.region.Place.{Place}
 use Rattle.sx_region.proofs.Laws.{slice_get-added}
 use Rattle.sx_core.specs.Core.{PlainCore, PlainInits, no_init, init}
@@ -91,10 +92,10 @@ module _ (w : PlainSetting) (s : State) where
     abbrev inner : State
     inner = with_cell (cell.Scope vars (Some home_place)) ready
 
-    body-ends : (r : End) (t : State) → ExpressionEnds w map_body (next_place ready) inner r t → CallEnds w (value.Prim (record { 0 = 133 })) (f ∷ l ∷ []) s r t
+    body-ends : (r : End) (t : State) → ExpressionEnds w map_body (next_place ready) inner r t → CallEnds w (value.Prim (record { 0 = names.MAP })) (f ∷ l ∷ []) s r t
     unfolding has_text
     body-ends r t h =
-        text-ends w (record { 0 = 133 }) (f ∷ l ∷ []) s ready t (text_code 133 map_text) map_text (code_no 15) home_place r refl refl knows.map_text refl text-is
+        text-ends w (record { 0 = names.MAP }) (f ∷ l ∷ []) s ready t (text_code names.MAP map_text) map_text (code_no 15) home_place r refl refl knows.map_text refl text-is
         (case-ends w (code_no 15) home_place (f ∷ l ∷ []) ready (procedure_code (code_no 15) (one_case (17 ∷ 18 ∷ []) (Some 19) map_body) true) (formals (17 ∷ 18 ∷ []) (Some 19)) map_body r t knows.map_body refl h)
 
     abbrev q : Place
@@ -115,7 +116,7 @@ module _ (w : PlainSetting) (s : State) where
     home-inner = record { around = inside.around; is = inside.home }
 
     -- the loop along the list is called
-    loop-ends : (r : End) (t : State) → CallEnds w (value.Closure (code_no 4) home_place) (f ∷ l ∷ []) inner r t → CallEnds w (value.Prim (record { 0 = 133 })) (f ∷ l ∷ []) s r t
+    loop-ends : (r : End) (t : State) → CallEnds w (value.Closure (code_no 4) home_place) (f ∷ l ∷ []) inner r t → CallEnds w (value.Prim (record { 0 = names.MAP })) (f ∷ l ∷ []) s r t
     loop-ends r t h =
         body-ends r t
         (true-ends w _ _ _ q inner inner t (truth true) r
@@ -125,7 +126,7 @@ module _ (w : PlainSetting) (s : State) where
         (own w inner q vars home_place (map_home home_place) inside (label 17) f refl)
         (own w inner q vars home_place (map_home home_place) inside (label 18) l refl) h))
 
-    pub map-given : (xs : List Value) → IsList s.cells xs l → AllGive w f xs s → Maps w (value.Prim (record { 0 = 133 })) (f ∷ l ∷ []) f xs s
+    pub map-given : (xs : List Value) → IsList s.cells xs l → AllGive w f xs s → Maps w (value.Prim (record { 0 = names.MAP })) (f ∷ l ∷ []) f xs s
     map-given xs r give = record {
       value = m.value;
       state = m.state;
@@ -139,7 +140,7 @@ module _ (w : PlainSetting) (s : State) where
         m = map-one w knows.map_one f home_place xs l inner home-inner (list-later s inner behind xs l r) (all-give-later w f xs s inner behind give)
 
     pub map-ended : (xs : List Value) → IsList s.cells xs l → AllEnd w f xs s
-        → Maps w (value.Prim (record { 0 = 133 })) (f ∷ l ∷ []) f xs s ⊎ Faults w (value.Prim (record { 0 = 133 })) (f ∷ l ∷ []) f xs s
+        → Maps w (value.Prim (record { 0 = names.MAP })) (f ∷ l ∷ []) f xs s ⊎ Faults w (value.Prim (record { 0 = names.MAP })) (f ∷ l ∷ []) f xs s
     map-ended xs r give = elim (map-ends w knows.map_one f home_place xs l inner home-inner (list-later s inner behind xs l r) (all-end-later w f xs s inner behind give)) [
       | inl m ↦ inl (record {
         value = m.value;
@@ -153,14 +154,14 @@ module _ (w : PlainSetting) (s : State) where
     ]
 
     -- what a call that gave a value did
-    pub map-only : (xs : List Value) (v : Value) (t : State) → IsList s.cells xs l → Calls w (value.Prim (record { 0 = 133 })) (f ∷ l ∷ []) s v t → Mapped w f xs s v t
+    pub map-only : (xs : List Value) (v : Value) (t : State) → IsList s.cells xs l → Calls w (value.Prim (record { 0 = names.MAP })) (f ∷ l ∷ []) s v t → Mapped w f xs s v t
     unfolding has_text
     map-only xs v t r called = record { answers = m.answers; in_turn = in-turn-from w f xs m.answers s inner t behind m.in_turn; list = m.list }
       where
         body : Evaluates w map_body q inner v t
         body =
             case-back w (code_no 15) home_place (f ∷ l ∷ []) ready (procedure_code (code_no 15) (one_case (17 ∷ 18 ∷ []) (Some 19) map_body) true) (formals (17 ∷ 18 ∷ []) (Some 19)) map_body v t knows.map_body refl
-            (text-back w (record { 0 = 133 }) (f ∷ l ∷ []) s ready t (text_code 133 map_text) map_text (code_no 15) home_place v refl refl knows.map_text refl text-is called)
+            (text-back w (record { 0 = names.MAP }) (f ∷ l ∷ []) s ready t (text_code names.MAP map_text) map_text (code_no 15) home_place v refl refl knows.map_text refl text-is called)
 
         looped : Calls w (value.Closure (code_no 4) home_place) (f ∷ l ∷ []) inner v t
         looped =

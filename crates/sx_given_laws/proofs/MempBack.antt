@@ -1,5 +1,6 @@
 -- What a call of `memp` that gave a value did.
 use Rattle.std.proofs.Common.{◌≡◌, List, [], ◌∷◌, Some, None, true, false, refl, subst}
+use Rattle.sx_base.specs.declared.op.names.TheConstants as ops
 use Rattle.sx_region.specs.declared.region.Place.{Place}
 use Rattle.sx_value.specs.declared.value.Value.{Value}
 use Rattle.sx_value.specs.declared.value.Value.TheVariants as value
@@ -123,7 +124,7 @@ module _ (w : PlainSetting) (known : code_at w.codes (code_no 86) ≡ Some (proc
       let c = list-some r in
       some-did x l c.0 xs s round c.1 v t called (λ u k y z h. loop-did xs c.0 u y z (home-later s u k p home round) (list-later s u k xs c.0 c.2) h) r
 
-pub memp-only : (w : PlainSetting) (knows : Knows w.codes) (f l : Value) (xs : List Value) (s : State) (v : Value) (t : State) → IsList s.cells xs l → Calls w (value.Prim (record { 0 = 202 })) (f ∷ l ∷ []) s v t
+pub memp-only : (w : PlainSetting) (knows : Knows w.codes) (f l : Value) (xs : List Value) (s : State) (v : Value) (t : State) → IsList s.cells xs l → Calls w (value.Prim (record { 0 = ops.MEMP })) (f ∷ l ∷ []) s v t
     → TailFound w f l xs s v t
 unfolding has_text
 memp-only w knows f l xs s v t r called = record { rest = m.rest; search = search-from w f xs m.rest s (ready w s 85 86) t (ready-later w s 85 86) m.search; tail = m.tail }
@@ -131,4 +132,4 @@ memp-only w knows f l xs s v t r called = record { rest = m.rest; search = searc
     m : TailFound w f l xs (ready w s 85 86) v t
     m =
         loop-did w knows.memp_loop f (home_place w s 85 86) xs l (ready w s 85 86) v t (ready-home w s 85 86) (list-later s (ready w s 85 86) (ready-later w s 85 86) xs l r)
-        (loop-back w s 85 86 202 (88 ∷ 89 ∷ []) memp_loop refl refl refl (f ∷ l ∷ []) v t knows.memp_text refl called)
+        (loop-back w s 85 86 ops.MEMP (88 ∷ 89 ∷ []) memp_loop refl refl refl (f ∷ l ∷ []) v t knows.memp_text refl called)

@@ -2,6 +2,7 @@
 use Rattle.std.proofs.Common.{◌≡◌, List, [], ◌∷◌, Some, None, true, false, Ok, Err, refl, sym, subst, inl, inr}
 use Rattle.std.specs.Prelude.{◌⊎◌}
 use Rattle.sx_base.specs.declared.fault.Bare.{Bare}
+use Rattle.sx_base.specs.declared.op.names.TheConstants as ops
 use Rattle.sx_region.specs.declared.region.Place.{Place}
 use Rattle.sx_value.specs.declared.value.Value.{Value}
 use Rattle.sx_value.specs.declared.value.Value.TheVariants as value
@@ -100,7 +101,7 @@ module _ (w : PlainSetting) (known : code_at w.codes (code_no 86) ≡ Some (proc
       (λ v k a. memp-ends xs c.0 v (home-later s v k p home round) (list-later s v k xs c.0 c.2) a)
 
 pub memp-ended : (w : PlainSetting) (knows : Knows w.codes) (f l : Value) (xs : List Value) (s : State) → IsList s.cells xs l → SearchEnds w f xs s
-    → FindsTail w (value.Prim (record { 0 = 202 })) (f ∷ l ∷ []) f l xs s ⊎ SearchFaults w (value.Prim (record { 0 = 202 })) (f ∷ l ∷ []) f xs s
+    → FindsTail w (value.Prim (record { 0 = ops.MEMP })) (f ∷ l ∷ []) f l xs s ⊎ SearchFaults w (value.Prim (record { 0 = ops.MEMP })) (f ∷ l ∷ []) f xs s
 unfolding has_text
 memp-ended w knows f l xs s r give =
     elim (memp-ends w knows.memp_loop f (home_place w s 85 86) xs l at (ready-home w s 85 86) (list-later s at behind xs l r) (search-ends-later w f xs s at behind give)) [
@@ -109,13 +110,13 @@ memp-ended w knows f l xs s r give =
         state = m.state;
         rest = m.rest;
         search = search-from w f xs m.rest s at m.state behind m.search;
-        called = loop-by-ends w s 85 86 202 (88 ∷ 89 ∷ []) memp_loop refl refl refl (f ∷ l ∷ []) (Ok m.value) m.state knows.memp_text refl m.called;
+        called = loop-by-ends w s 85 86 ops.MEMP (88 ∷ 89 ∷ []) memp_loop refl refl refl (f ∷ l ∷ []) (Ok m.value) m.state knows.memp_text refl m.called;
         tail = m.tail;
       })
       | inr m ↦ inr (record {
         fault = m.fault;
         state = m.state;
-        called = loop-by-ends w s 85 86 202 (88 ∷ 89 ∷ []) memp_loop refl refl refl (f ∷ l ∷ []) (Err m.fault) m.state knows.memp_text refl m.called;
+        called = loop-by-ends w s 85 86 ops.MEMP (88 ∷ 89 ∷ []) memp_loop refl refl refl (f ∷ l ∷ []) (Err m.fault) m.state knows.memp_text refl m.called;
         stops = search-stops-from w f xs m.fault s at m.state behind m.stops;
       })
     ]

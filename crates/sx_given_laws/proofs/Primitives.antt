@@ -4,6 +4,7 @@ use Rattle.sx_base.specs.declared.atom.Atom.TheVariants as a
 use Rattle.sx_base.specs.Datum as datum
 use Rattle.sx_base.specs.declared.fault.Bare.{Bare}
 use Rattle.sx_base.specs.declared.span.Span.{Span}
+use Rattle.sx_base.specs.declared.op.names.TheConstants as names
 use Rattle.sx_frames.specs.Scope.{Scope}
 use Rattle.sx_region.specs.declared.region.Place.{Place}
 use Rattle.sx_core.specs.Core.{PlainCore, quoted, none, cores}
@@ -62,69 +63,69 @@ not-turns (value.Syn t) = refl
 not-turns (value.Transformer p) = refl
 
 module _ (cells : List Cell) (frames : Scope) where
-  null-answer : (x : Value) → delta 141 (x ∷ []) cells frames ≡ Ok (made.Value (truth (is_nil x)))
+  null-answer : (x : Value) → delta names.IS_NULL (x ∷ []) cells frames ≡ Ok (made.Value (truth (is_nil x)))
   unfolding delta row_answer basic_made kind_made primitive_of
   null-answer x = refl
 
-  not-answer : (x : Value) → delta 140 (x ∷ []) cells frames ≡ Ok (made.Value (truth (is_false x)))
+  not-answer : (x : Value) → delta names.NOT (x ∷ []) cells frames ≡ Ok (made.Value (truth (is_false x)))
   unfolding delta row_answer basic_made kind_made primitive_of
   not-answer x = refl
 
-  car-answer : (x y d : Value) → pair_of cells x ≡ Some (y, d) → delta 51 (x ∷ []) cells frames ≡ Ok (made.Value y)
+  car-answer : (x y d : Value) → pair_of cells x ≡ Some (y, d) → delta names.CAR (x ∷ []) cells frames ≡ Ok (made.Value y)
   unfolding delta row_answer basic_made part primitive_of
-  car-answer x y d e = ap (λ o. or_refused 51 (given (then_part (part 3 1 cells) (part_by 0 o)))) e
+  car-answer x y d e = ap (λ o. or_refused names.CAR (given (then_part (part 3 1 cells) (part_by 0 o)))) e
 
-  cdr-answer : (x y d : Value) → pair_of cells x ≡ Some (y, d) → delta 52 (x ∷ []) cells frames ≡ Ok (made.Value d)
+  cdr-answer : (x y d : Value) → pair_of cells x ≡ Some (y, d) → delta names.CDR (x ∷ []) cells frames ≡ Ok (made.Value d)
   unfolding delta row_answer basic_made part primitive_of
-  cdr-answer x y d e = ap (λ o. or_refused 52 (given (then_part (part 3 1 cells) (part_by 1 o)))) e
+  cdr-answer x y d e = ap (λ o. or_refused names.CDR (given (then_part (part 3 1 cells) (part_by 1 o)))) e
 
-  cons-answer : (x y : Value) → delta 90 (x ∷ y ∷ []) cells frames ≡ Ok (made.List (x ∷ []) y)
+  cons-answer : (x y : Value) → delta names.CONS (x ∷ y ∷ []) cells frames ≡ Ok (made.List (x ∷ []) y)
   unfolding delta row_answer basic_made primitive_of
   cons-answer x y = refl
 
-  list-answer : (x : Value) → delta 121 (x ∷ []) cells frames ≡ Ok (made.List (x ∷ []) nil)
+  list-answer : (x : Value) → delta names.LIST (x ∷ []) cells frames ≡ Ok (made.List (x ∷ []) nil)
   unfolding delta row_answer gathered_made primitive_of
   list-answer x = refl
 
-  append-answer : (x y : Value) (xs : List Value) → list_elements cells x ≡ Some xs → delta 41 (x ∷ y ∷ []) cells frames ≡ Ok (made.List xs y)
+  append-answer : (x y : Value) (xs : List Value) → list_elements cells x ≡ Some xs → delta names.APPEND (x ∷ y ∷ []) cells frames ≡ Ok (made.List xs y)
   unfolding delta row_answer appended_made elements_joined primitive_of
-  append-answer x y xs e = ap (λ o. or_refused 41 (if_some (if_some o (λ ys. Some ys)) (λ zs. Some (made.List zs y)))) e
+  append-answer x y xs e = ap (λ o. or_refused names.APPEND (if_some (if_some o (λ ys. Some ys)) (λ zs. Some (made.List zs y)))) e
 
 module _ (w : PlainSetting) where
   -- a call of a primitive of one argument that makes no cell
-  pub null-called : (x : Value) (s : State) → Calls w (value.Prim (record { 0 = 141 })) (x ∷ []) s (truth (is_nil x)) s
+  pub null-called : (x : Value) (s : State) → Calls w (value.Prim (record { 0 = names.IS_NULL })) (x ∷ []) s (truth (is_nil x)) s
   unfolding has_text
-  null-called x s = plain-called w (record { 0 = 141 }) (x ∷ []) s (made.Value (truth (is_nil x))) refl refl refl (null-answer s.cells w.frames x)
+  null-called x s = plain-called w (record { 0 = names.IS_NULL }) (x ∷ []) s (made.Value (truth (is_nil x))) refl refl refl (null-answer s.cells w.frames x)
 
-  pub not-called : (x : Value) (s : State) → Calls w (value.Prim (record { 0 = 140 })) (x ∷ []) s (truth (is_false x)) s
+  pub not-called : (x : Value) (s : State) → Calls w (value.Prim (record { 0 = names.NOT })) (x ∷ []) s (truth (is_false x)) s
   unfolding has_text
-  not-called x s = plain-called w (record { 0 = 140 }) (x ∷ []) s (made.Value (truth (is_false x))) refl refl refl (not-answer s.cells w.frames x)
+  not-called x s = plain-called w (record { 0 = names.NOT }) (x ∷ []) s (made.Value (truth (is_false x))) refl refl refl (not-answer s.cells w.frames x)
 
-  pub car-called : (x y d : Value) (s : State) → pair_of s.cells x ≡ Some (y, d) → Calls w (value.Prim (record { 0 = 51 })) (x ∷ []) s y s
+  pub car-called : (x y d : Value) (s : State) → pair_of s.cells x ≡ Some (y, d) → Calls w (value.Prim (record { 0 = names.CAR })) (x ∷ []) s y s
   unfolding has_text
-  car-called x y d s e = plain-called w (record { 0 = 51 }) (x ∷ []) s (made.Value y) refl refl refl (car-answer s.cells w.frames x y d e)
+  car-called x y d s e = plain-called w (record { 0 = names.CAR }) (x ∷ []) s (made.Value y) refl refl refl (car-answer s.cells w.frames x y d e)
 
-  pub cdr-called : (x y d : Value) (s : State) → pair_of s.cells x ≡ Some (y, d) → Calls w (value.Prim (record { 0 = 52 })) (x ∷ []) s d s
+  pub cdr-called : (x y d : Value) (s : State) → pair_of s.cells x ≡ Some (y, d) → Calls w (value.Prim (record { 0 = names.CDR })) (x ∷ []) s d s
   unfolding has_text
-  cdr-called x y d s e = plain-called w (record { 0 = 52 }) (x ∷ []) s (made.Value d) refl refl refl (cdr-answer s.cells w.frames x y d e)
+  cdr-called x y d s e = plain-called w (record { 0 = names.CDR }) (x ∷ []) s (made.Value d) refl refl refl (cdr-answer s.cells w.frames x y d e)
 
   -- the place of the pair that is made next
   abbrev pub next_pair : State → Value
   next_pair s = value.Pair (record { 0 = length s.cells })
 
-  pub cons-called : (x y : Value) (s : State) → Calls w (value.Prim (record { 0 = 90 })) (x ∷ y ∷ []) s (next_pair s) (with_cell (cell.Pair x y) s)
+  pub cons-called : (x y : Value) (s : State) → Calls w (value.Prim (record { 0 = names.CONS })) (x ∷ y ∷ []) s (next_pair s) (with_cell (cell.Pair x y) s)
   unfolding has_text
-  cons-called x y s = plain-called w (record { 0 = 90 }) (x ∷ y ∷ []) s (made.List (x ∷ []) y) refl refl refl (cons-answer s.cells w.frames x y)
+  cons-called x y s = plain-called w (record { 0 = names.CONS }) (x ∷ y ∷ []) s (made.List (x ∷ []) y) refl refl refl (cons-answer s.cells w.frames x y)
 
-  pub list-called : (x : Value) (s : State) → Calls w (value.Prim (record { 0 = 121 })) (x ∷ []) s (next_pair s) (with_cell (cell.Pair x nil) s)
+  pub list-called : (x : Value) (s : State) → Calls w (value.Prim (record { 0 = names.LIST })) (x ∷ []) s (next_pair s) (with_cell (cell.Pair x nil) s)
   unfolding has_text
-  list-called x s = plain-called w (record { 0 = 121 }) (x ∷ []) s (made.List (x ∷ []) nil) refl refl refl (list-answer s.cells w.frames x)
+  list-called x s = plain-called w (record { 0 = names.LIST }) (x ∷ []) s (made.List (x ∷ []) nil) refl refl refl (list-answer s.cells w.frames x)
 
   -- `append` of a list and a value
   pub appended : (x y : Value) (xs : List Value) (s : State) → list_elements s.cells x ≡ Some xs
-      → Calls w (value.Prim (record { 0 = 41 })) (x ∷ y ∷ []) s (pairs_stored xs (y, s.cells)).0 (store (pairs_stored xs (y, s.cells)).1 s.names)
+      → Calls w (value.Prim (record { 0 = names.APPEND })) (x ∷ y ∷ []) s (pairs_stored xs (y, s.cells)).0 (store (pairs_stored xs (y, s.cells)).1 s.names)
   unfolding has_text
-  appended x y xs s e = plain-called w (record { 0 = 41 }) (x ∷ y ∷ []) s (made.List xs y) refl refl refl (append-answer s.cells w.frames x y xs e)
+  appended x y xs s e = plain-called w (record { 0 = names.APPEND }) (x ∷ y ∷ []) s (made.List xs y) refl refl refl (append-answer s.cells w.frames x y xs e)
 
   -- Expressions that call them.
 
@@ -133,30 +134,30 @@ module _ (w : PlainSetting) where
     one op v u k = call-one w (prim op) c scope s s t u (value.Prim (record { 0 = op })) x v (primitive-is w (record { 0 = op }) scope s) h k
 
     pub null-is : (b : Bool) → is_nil x ≡ b → Evaluates w (is_null c) scope s (truth b) t
-    null-is b e = subst (λ b. Evaluates w (is_null c) scope s (truth b) t) e (one 141 (truth (is_nil x)) t (null-called x t))
+    null-is b e = subst (λ b. Evaluates w (is_null c) scope s (truth b) t) e (one names.IS_NULL (truth (is_nil x)) t (null-called x t))
 
-    pub not-is : Evaluates w (app (prim 140) (c ∷ [])) scope s (truth (is_false x)) t
-    not-is = one 140 (truth (is_false x)) t (not-called x t)
+    pub not-is : Evaluates w (app (prim names.NOT) (c ∷ [])) scope s (truth (is_false x)) t
+    not-is = one names.NOT (truth (is_false x)) t (not-called x t)
 
     pub car-is : (y d : Value) → pair_of t.cells x ≡ Some (y, d) → Evaluates w (car c) scope s y t
-    car-is y d e = one 51 y t (car-called x y d t e)
+    car-is y d e = one names.CAR y t (car-called x y d t e)
 
     pub cdr-is : (y d : Value) → pair_of t.cells x ≡ Some (y, d) → Evaluates w (cdr c) scope s d t
-    cdr-is y d e = one 52 d t (cdr-called x y d t e)
+    cdr-is y d e = one names.CDR d t (cdr-called x y d t e)
 
-    pub list-is : Evaluates w (app (prim 121) (c ∷ [])) scope s (next_pair t) (with_cell (cell.Pair x nil) t)
-    list-is = one 121 (next_pair t) (with_cell (cell.Pair x nil) t) (list-called x t)
+    pub list-is : Evaluates w (app (prim names.LIST) (c ∷ [])) scope s (next_pair t) (with_cell (cell.Pair x nil) t)
+    list-is = one names.LIST (next_pair t) (with_cell (cell.Pair x nil) t) (list-called x t)
 
     pub cons-is : (d : PlainCore) (y : Value) (u : State) → Evaluates w d scope t y u → Evaluates w (cons c d) scope s (next_pair u) (with_cell (cell.Pair x y) u)
     cons-is d y u k =
-        call-two w (prim 90) c d scope s s t u (with_cell (cell.Pair x y) u) (value.Prim (record { 0 = 90 })) x y (next_pair u) (primitive-is w (record { 0 = 90 }) scope s) h k (cons-called x y u)
+        call-two w (prim names.CONS) c d scope s s t u (with_cell (cell.Pair x y) u) (value.Prim (record { 0 = names.CONS })) x y (next_pair u) (primitive-is w (record { 0 = names.CONS }) scope s) h k (cons-called x y u)
 
   -- a pair whose second part faults
   pub cons-stops : (c d : PlainCore) (scope : Place) (s t u : State) (x : Value) (e : Bare) → Evaluates w c scope s x t → ExpressionEnds w d scope t (Err e) u → ExpressionEnds w (cons c d) scope s (Err e) u
   cons-stops c d scope s t u x e h k =
-      call-ends w (prim 90) (cores (c ∷ d ∷ [])) scope s s u (value.Prim (record { 0 = 90 })) (Err e) (primitive-is w (record { 0 = 90 }) scope s)
-      (operand-ends w c (cores (d ∷ [])) scope (value.Prim (record { 0 = 90 }) ∷ []) s t u x (Err e) h
-      (operand-stops w d none scope (value.Prim (record { 0 = 90 }) ∷ x ∷ []) t u e k))
+      call-ends w (prim names.CONS) (cores (c ∷ d ∷ [])) scope s s u (value.Prim (record { 0 = names.CONS })) (Err e) (primitive-is w (record { 0 = names.CONS }) scope s)
+      (operand-ends w c (cores (d ∷ [])) scope (value.Prim (record { 0 = names.CONS }) ∷ []) s t u x (Err e) h
+      (operand-stops w d none scope (value.Prim (record { 0 = names.CONS }) ∷ x ∷ []) t u e k))
 
   -- Constants.
 

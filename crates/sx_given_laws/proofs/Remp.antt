@@ -1,5 +1,6 @@
 -- `remp`: its text calls `filter` on a procedure that says no where f says yes.
 use Rattle.std.proofs.Common.{◌≡◌, List, [], ◌∷◌, Some, None, Bool, true, false, not, refl, ap, sym, subst, ◌∙◌, if◌then◌else◌}
+use Rattle.sx_base.specs.declared.op.names.TheConstants as names
 use Rattle.sx_region.specs.declared.region.Place.{Place}
 use Rattle.sx_region.proofs.Laws.{slice_get-added}
 use Rattle.sx_value.specs.declared.value.Value.{Value}
@@ -96,12 +97,12 @@ module _ (w : PlainSetting) (knows : Knows w.codes) (f l : Value) where
         let around = home-later s r k p vars round in
         let inside = entered-inside r ((label 74, Some x) ∷ []) p vars around in
         let body = case-back w (code_no 72) p (x ∷ []) r (procedure_code (code_no 72) (one_case (74 ∷ []) None remp_test) true) (formals (74 ∷ []) None) remp_test z u knows.remp_test refl (closure-back w (code_no 72) p (x ∷ []) r z u c) in
-        let asked = argument-back w (prim 140) (app (var 69) (var 74 ∷ [])) (next_place r) (tested x r) (tested x r) (value.Prim (record { 0 = 140 })) z u (primitive-is w (record { 0 = 140 }) (next_place r) (tested x r)) body in
+        let asked = argument-back w (prim names.NOT) (app (var 69) (var 74 ∷ [])) (next_place r) (tested x r) (tested x r) (value.Prim (record { 0 = names.NOT })) z u (primitive-is w (record { 0 = names.NOT }) (next_place r) (tested x r)) body in
         let called = call-one-back w (var 69) (var 74) (next_place r) (tested x r) (tested x r) (tested x r) asked.state f x asked.value
         (outer w (tested x r) (next_place r) ((label 74, Some x) ∷ []) p vars inside (label 69) f refl refl)
         (own w (tested x r) (next_place r) ((label 74, Some x) ∷ []) p vars inside (label 74) x refl) asked.first in
-        let value_is : truth (is_false asked.value) ≡ z = gives-one-value (call_of w (value.Prim (record { 0 = 140 })) (asked.value ∷ []) asked.state) (truth (is_false asked.value)) z asked.state u (not-called w asked.value asked.state) asked.onward in
-        let state_is : asked.state ≡ u = gives-one-state (call_of w (value.Prim (record { 0 = 140 })) (asked.value ∷ []) asked.state) (truth (is_false asked.value)) z asked.state u (not-called w asked.value asked.state) asked.onward in
+        let value_is : truth (is_false asked.value) ≡ z = gives-one-value (call_of w (value.Prim (record { 0 = names.NOT })) (asked.value ∷ []) asked.state) (truth (is_false asked.value)) z asked.state u (not-called w asked.value asked.state) asked.onward in
+        let state_is : asked.state ≡ u = gives-one-state (call_of w (value.Prim (record { 0 = names.NOT })) (asked.value ∷ []) asked.state) (truth (is_false asked.value)) z asked.state u (not-called w asked.value asked.state) asked.onward in
         let enter = later-then s r (tested x r) k (later-with r (cell.Scope ((label 74, Some x) ∷ []) (Some p))) in
         let rest = turned-did xs' zs' u t (home-later r u (calls-later w turned (x ∷ []) r z u c) p vars around) i in (
           asked.value ∷ rest.0,
@@ -120,20 +121,20 @@ module _ (w : PlainSetting) (knows : Knows w.codes) (f l : Value) where
     abbrev q : Place
     q = next_place outside
 
-    called-by-body : (v : Value) (t : State) → Evaluates w remp_body q inner v t → Calls w (value.Prim (record { 0 = 198 })) (f ∷ l ∷ []) s v t
+    called-by-body : (v : Value) (t : State) → Evaluates w remp_body q inner v t → Calls w (value.Prim (record { 0 = names.REMP })) (f ∷ l ∷ []) s v t
     unfolding has_text
     called-by-body v t h =
-        text-called w (record { 0 = 198 }) (f ∷ l ∷ []) s outside t (text_code 198 remp_text) remp_text (code_no 67) (next_place s) v refl refl knows.remp_text refl
+        text-called w (record { 0 = names.REMP }) (f ∷ l ∷ []) s outside t (text_code names.REMP remp_text) remp_text (code_no 67) (next_place s) v refl refl knows.remp_text refl
         (procedure-is w (code_no 67) (one_case (69 ∷ 70 ∷ []) None remp_body) true (next_place s) outside)
         (case-called w (code_no 67) (next_place s) (f ∷ l ∷ []) outside (procedure_code (code_no 67) (one_case (69 ∷ 70 ∷ []) None remp_body) true) (formals (69 ∷ 70 ∷ []) None) remp_body v t knows.remp_body refl h)
 
-    pub remp-given : (xs : List Value) → IsList s.cells xs l → AllGive w f xs s → Filters w (value.Prim (record { 0 = 198 })) (f ∷ l ∷ []) f others xs s
+    pub remp-given : (xs : List Value) → IsList s.cells xs l → AllGive w f xs s → Filters w (value.Prim (record { 0 = names.REMP })) (f ∷ l ∷ []) f others xs s
     remp-given xs r give = record {
       value = m.value;
       state = m.state;
       called = called-by-body m.value m.state
-          (call-two w (prim 194) (lambda 72 (74 ∷ []) None remp_test) (var 70) q inner inner inner inner m.state (value.Prim (record { 0 = 194 })) (turned q) l m.value
-          (primitive-is w (record { 0 = 194 }) q inner) (procedure-is w (code_no 72) (one_case (74 ∷ []) None remp_test) true q inner)
+          (call-two w (prim names.FILTER) (lambda 72 (74 ∷ []) None remp_test) (var 70) q inner inner inner inner m.state (value.Prim (record { 0 = names.FILTER })) (turned q) l m.value
+          (primitive-is w (record { 0 = names.FILTER }) q inner) (procedure-is w (code_no 72) (one_case (74 ∷ []) None remp_test) true q inner)
           (own w inner q vars (next_place s) [] inside (label 70) l refl) m.called);
       answers = back.0;
       in_turn = in-turn-from w f xs back.0 s inner m.state behind back.1;
@@ -152,14 +153,14 @@ module _ (w : PlainSetting) (knows : Knows w.codes) (f l : Value) where
         gives : AllGive w f xs inner
         gives = all-give-later w f xs s inner behind give
 
-        m : Filters w (value.Prim (record { 0 = 194 })) (turned q ∷ l ∷ []) (turned q) chosen xs inner
+        m : Filters w (value.Prim (record { 0 = names.FILTER })) (turned q ∷ l ∷ []) (turned q) chosen xs inner
         m = filter-given w knows (turned q) l xs inner (list-later s inner behind xs l r) (turned-gives q xs inner round gives)
 
         back : Behind q xs m.answers inner m.state
         back = turned-back q xs m.answers inner inner m.state refl round gives m.in_turn
 
     -- what a call that gave a value did
-    pub remp-only : (xs : List Value) (v : Value) (t : State) → IsList s.cells xs l → Calls w (value.Prim (record { 0 = 198 })) (f ∷ l ∷ []) s v t → Filtered w f others xs s v t
+    pub remp-only : (xs : List Value) (v : Value) (t : State) → IsList s.cells xs l → Calls w (value.Prim (record { 0 = names.REMP })) (f ∷ l ∷ []) s v t → Filtered w f others xs s v t
     unfolding has_text
     remp-only xs v t r called = record { answers = back.0; in_turn = in-turn-from w f xs back.0 s inner t behind back.1; list = subst (λ ys. IsList t.cells ys v) back.2 m.list }
       where
@@ -175,14 +176,14 @@ module _ (w : PlainSetting) (knows : Knows w.codes) (f l : Value) where
         body : Evaluates w remp_body q inner v t
         body =
             case-back w (code_no 67) (next_place s) (f ∷ l ∷ []) outside (procedure_code (code_no 67) (one_case (69 ∷ 70 ∷ []) None remp_body) true) (formals (69 ∷ 70 ∷ []) None) remp_body v t knows.remp_body refl
-            (text-back w (record { 0 = 198 }) (f ∷ l ∷ []) s outside t (text_code 198 remp_text) remp_text (code_no 67) (next_place s) v refl refl knows.remp_text refl
+            (text-back w (record { 0 = names.REMP }) (f ∷ l ∷ []) s outside t (text_code names.REMP remp_text) remp_text (code_no 67) (next_place s) v refl refl knows.remp_text refl
             (procedure-is w (code_no 67) (one_case (69 ∷ 70 ∷ []) None remp_body) true (next_place s) outside) called)
 
         m : Filtered w (turned q) chosen xs inner v t
         m =
             filter-only w knows (turned q) l xs inner v t (list-later s inner behind xs l r)
-            (call-two-back w (prim 194) (lambda 72 (74 ∷ []) None remp_test) (var 70) q inner inner inner inner t (value.Prim (record { 0 = 194 })) (turned q) l v
-            (primitive-is w (record { 0 = 194 }) q inner) (procedure-is w (code_no 72) (one_case (74 ∷ []) None remp_test) true q inner)
+            (call-two-back w (prim names.FILTER) (lambda 72 (74 ∷ []) None remp_test) (var 70) q inner inner inner inner t (value.Prim (record { 0 = names.FILTER })) (turned q) l v
+            (primitive-is w (record { 0 = names.FILTER }) q inner) (procedure-is w (code_no 72) (one_case (74 ∷ []) None remp_test) true q inner)
             (own w inner q vars (next_place s) [] inside (label 70) l refl) body)
 
         back : Behind q xs m.answers inner t

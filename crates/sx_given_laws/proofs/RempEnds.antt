@@ -2,6 +2,7 @@
 use Rattle.std.proofs.Common.{◌≡◌, List, [], ◌∷◌, Some, None, true, Ok, Err, refl, sym, subst, inl, inr}
 use Rattle.std.specs.Prelude.{◌⊎◌}
 use Rattle.sx_base.specs.declared.fault.Bare.{Bare}
+use Rattle.sx_base.specs.declared.op.names.TheConstants as names
 use Rattle.sx_region.specs.declared.region.Place.{Place}
 use Rattle.sx_region.proofs.Laws.{slice_get-added}
 use Rattle.sx_core.specs.Core.{none, cores}
@@ -46,9 +47,9 @@ module _ (w : PlainSetting) (knows : Knows w.codes) (f l : Value) where
     turned-stops x s round e t h =
         closure-ends w (code_no 72) p (x ∷ []) s (Err e) t
         (case-ends w (code_no 72) p (x ∷ []) s (procedure_code (code_no 72) (one_case (74 ∷ []) None remp_test) true) (formals (74 ∷ []) None) remp_test (Err e) t knows.remp_test refl
-        (call-ends w (prim 140) (cores (app (var 69) (var 74 ∷ []) ∷ [])) (next_place s) (tested x s) (tested x s) t (value.Prim (record { 0 = 140 })) (Err e)
-        (primitive-is w (record { 0 = 140 }) (next_place s) (tested x s))
-        (operand-stops w (app (var 69) (var 74 ∷ [])) none (next_place s) (value.Prim (record { 0 = 140 }) ∷ []) (tested x s) t e
+        (call-ends w (prim names.NOT) (cores (app (var 69) (var 74 ∷ []) ∷ [])) (next_place s) (tested x s) (tested x s) t (value.Prim (record { 0 = names.NOT })) (Err e)
+        (primitive-is w (record { 0 = names.NOT }) (next_place s) (tested x s))
+        (operand-stops w (app (var 69) (var 74 ∷ [])) none (next_place s) (value.Prim (record { 0 = names.NOT }) ∷ []) (tested x s) t e
         (call-one-ends w (var 69) (var 74) (next_place s) (tested x s) (tested x s) (tested x s) t f x (Err e)
         (outer w (tested x s) (next_place s) ((label 74, Some x) ∷ []) p vars inside (label 69) f refl refl)
         (own w (tested x s) (next_place s) ((label 74, Some x) ∷ []) p vars inside (label 74) x refl) h))))
@@ -113,18 +114,18 @@ module _ (w : PlainSetting) (knows : Knows w.codes) (f l : Value) where
     inside : Inside inner.cells q vars (next_place s) []
     inside = entered-inside outside vars (next_place s) [] (record { around = None; is = slice_get-added s.cells (cell.Scope [] None) })
 
-    by-filter : (r : End) (t : State) → CallEnds w (value.Prim (record { 0 = 194 })) (turned q ∷ l ∷ []) inner r t → CallEnds w (value.Prim (record { 0 = 198 })) (f ∷ l ∷ []) s r t
+    by-filter : (r : End) (t : State) → CallEnds w (value.Prim (record { 0 = names.FILTER })) (turned q ∷ l ∷ []) inner r t → CallEnds w (value.Prim (record { 0 = names.REMP })) (f ∷ l ∷ []) s r t
     unfolding has_text
     by-filter r t h =
-        text-ends w (record { 0 = 198 }) (f ∷ l ∷ []) s outside t (text_code 198 remp_text) remp_text (code_no 67) (next_place s) r refl refl knows.remp_text refl
+        text-ends w (record { 0 = names.REMP }) (f ∷ l ∷ []) s outside t (text_code names.REMP remp_text) remp_text (code_no 67) (next_place s) r refl refl knows.remp_text refl
         (procedure-is w (code_no 67) (one_case (69 ∷ 70 ∷ []) None remp_body) true (next_place s) outside)
         (case-ends w (code_no 67) (next_place s) (f ∷ l ∷ []) outside (procedure_code (code_no 67) (one_case (69 ∷ 70 ∷ []) None remp_body) true) (formals (69 ∷ 70 ∷ []) None) remp_body r t knows.remp_body refl
-        (call-two-ends w (prim 194) (lambda 72 (74 ∷ []) None remp_test) (var 70) q inner inner inner inner t (value.Prim (record { 0 = 194 })) (turned q) l r
-        (primitive-is w (record { 0 = 194 }) q inner) (procedure-is w (code_no 72) (one_case (74 ∷ []) None remp_test) true q inner)
+        (call-two-ends w (prim names.FILTER) (lambda 72 (74 ∷ []) None remp_test) (var 70) q inner inner inner inner t (value.Prim (record { 0 = names.FILTER })) (turned q) l r
+        (primitive-is w (record { 0 = names.FILTER }) q inner) (procedure-is w (code_no 72) (one_case (74 ∷ []) None remp_test) true q inner)
         (own w inner q vars (next_place s) [] inside (label 70) l refl) h))
 
     pub remp-ended : (xs : List Value) → IsList s.cells xs l → AllEnd w f xs s
-        → Filters w (value.Prim (record { 0 = 198 })) (f ∷ l ∷ []) f others xs s ⊎ Faults w (value.Prim (record { 0 = 198 })) (f ∷ l ∷ []) f xs s
+        → Filters w (value.Prim (record { 0 = names.REMP })) (f ∷ l ∷ []) f others xs s ⊎ Faults w (value.Prim (record { 0 = names.REMP })) (f ∷ l ∷ []) f xs s
     remp-ended xs r give = elim (filter-ended w knows (turned q) l xs inner (list-later s inner behind xs l r) (turned-ends q xs inner round gives)) [
       | inl m ↦ inl (kept m)
       | inr m ↦ inr (record {
@@ -144,7 +145,7 @@ module _ (w : PlainSetting) (knows : Knows w.codes) (f l : Value) where
         gives : AllEnd w f xs inner
         gives = all-end-later w f xs s inner behind give
 
-        kept : Filters w (value.Prim (record { 0 = 194 })) (turned q ∷ l ∷ []) (turned q) chosen xs inner → Filters w (value.Prim (record { 0 = 198 })) (f ∷ l ∷ []) f others xs s
+        kept : Filters w (value.Prim (record { 0 = names.FILTER })) (turned q ∷ l ∷ []) (turned q) chosen xs inner → Filters w (value.Prim (record { 0 = names.REMP })) (f ∷ l ∷ []) f others xs s
         kept m =
             let back : (ys : List Value) × InTurn w f xs inner ys m.state × (chosen xs m.answers ≡ others xs ys) = turned-did w knows f l q xs m.answers inner m.state round m.in_turn in
             record {

@@ -8,6 +8,7 @@ use Rattle.sx_base.specs.declared.atom.Atom.TheVariants as a
 use Rattle.sx_base.specs.declared.library.LibName.TheVariants as library
 use Rattle.sx_base.specs.declared.name.CodeNo.{CodeNo}
 use Rattle.sx_base.specs.declared.name.Label.{Label}
+use Rattle.sx_base.specs.declared.op.names.TheConstants as names
 use Rattle.sx_core.specs.Core.{PlainCore, quoted, variable, primitive, one_armed, two_armed, sequence, procedure, letrec, call, no_init, init, PlainCases, no_case, case, PlainCode, cores}
 use Rattle.sx_core.specs.declared.formals.Formals.{Formals}
 
@@ -44,16 +45,16 @@ abbrev pub lambda : ℕ → List ℕ → Option ℕ → PlainCore → PlainCore
 lambda n ns rest body = procedure (code_no n) (one_case ns rest body) true
 
 abbrev pub car : PlainCore → PlainCore
-car c = app (prim 51) (c ∷ [])
+car c = app (prim names.CAR) (c ∷ [])
 
 abbrev pub cdr : PlainCore → PlainCore
-cdr c = app (prim 52) (c ∷ [])
+cdr c = app (prim names.CDR) (c ∷ [])
 
 abbrev pub is_null : PlainCore → PlainCore
-is_null c = app (prim 141) (c ∷ [])
+is_null c = app (prim names.IS_NULL) (c ∷ [])
 
 abbrev pub cons : PlainCore → PlainCore → PlainCore
-cons c d = app (prim 90) (c ∷ d ∷ [])
+cons c d = app (prim names.CONS) (c ∷ d ∷ [])
 
 -- the code of a text: a procedure without arguments, whose body is the text
 abbrev pub text_code : ℕ → PlainCore → PlainCode
@@ -65,13 +66,13 @@ first_is_null c = is_null (car c)
 
 -- (map car ls), (map cdr ls) and (apply f (map car ls))
 abbrev pub cars : PlainCore → PlainCore
-cars c = app (prim 133) (prim 51 ∷ c ∷ [])
+cars c = app (prim names.MAP) (prim names.CAR ∷ c ∷ [])
 
 abbrev pub cdrs : PlainCore → PlainCore
-cdrs c = app (prim 133) (prim 52 ∷ c ∷ [])
+cdrs c = app (prim names.MAP) (prim names.CDR ∷ c ∷ [])
 
 abbrev pub on_cars : PlainCore → PlainCore → PlainCore
-on_cars f c = app (prim 42) (f ∷ cars c ∷ [])
+on_cars f c = app (prim names.APPLY) (f ∷ cars c ∷ [])
 
 -- (go f (cons l ls)) and (go f z (cons l ls)): the list of the lists
 abbrev pub enter_list : ℕ → ℕ → ℕ → ℕ → PlainCore
@@ -89,11 +90,11 @@ abbrev pub map_others : PlainCore
 map_others = app (var 2) (var 6 ∷ cdr (var 7) ∷ [])
 
 abbrev pub map_one : PlainCore
-map_one = two_armed (is_null (var 7)) (datum_at 133 43 45 a.Nil) (cons map_first map_others)
+map_one = two_armed (is_null (var 7)) (datum_at names.MAP 43 45 a.Nil) (cons map_first map_others)
 
 abbrev pub map_many : PlainCore
-map_many = two_armed (first_is_null (var 12)) (datum_at 133 139 141 a.Nil)
-    (cons (app (prim 42) (var 11 ∷ app (var 2) (prim 51 ∷ var 12 ∷ []) ∷ [])) (app (var 3) (var 11 ∷ app (var 2) (prim 52 ∷ var 12 ∷ []) ∷ [])))
+map_many = two_armed (first_is_null (var 12)) (datum_at names.MAP 139 141 a.Nil)
+    (cons (app (prim names.APPLY) (var 11 ∷ app (var 2) (prim names.CAR ∷ var 12 ∷ []) ∷ [])) (app (var 3) (var 11 ∷ app (var 2) (prim names.CDR ∷ var 12 ∷ []) ∷ [])))
 
 abbrev pub map_body : PlainCore
 map_body = two_armed (is_null (var 19)) (app (var 2) (var 17 ∷ var 18 ∷ [])) (app (var 3) (var 17 ∷ cons (var 18) (var 19) ∷ []))
@@ -105,7 +106,7 @@ map_text = letrec false (init (label 2) (lambda 4 (6 ∷ 7 ∷ []) None map_one)
 -- `for-each`
 
 abbrev pub for_each_body : PlainCore
-for_each_body = sequence (cores (app (prim 42) (prim 133 ∷ var 23 ∷ var 24 ∷ var 25 ∷ []) ∷ one_armed (datum_at 110 49 51 (a.Bool false)) (datum_at 110 52 54 (a.Bool false)) ∷ []))
+for_each_body = sequence (cores (app (prim names.APPLY) (prim names.MAP ∷ var 23 ∷ var 24 ∷ var 25 ∷ []) ∷ one_armed (datum_at names.FOR_EACH 49 51 (a.Bool false)) (datum_at names.FOR_EACH 52 54 (a.Bool false)) ∷ []))
 
 abbrev pub for_each_text : PlainCore
 for_each_text = lambda 21 (23 ∷ 24 ∷ []) (Some 25) for_each_body
@@ -113,13 +114,13 @@ for_each_text = lambda 21 (23 ∷ 24 ∷ []) (Some 25) for_each_body
 -- `for-all`
 
 abbrev pub for_all_next : PlainCore
-for_all_next = two_armed (on_cars (var 31) (var 32)) (app (var 28) (var 31 ∷ cdrs (var 32) ∷ [])) (datum_at 192 163 165 (a.Bool false))
+for_all_next = two_armed (on_cars (var 31) (var 32)) (app (var 28) (var 31 ∷ cdrs (var 32) ∷ [])) (datum_at names.FOR_ALL 163 165 (a.Bool false))
 
 abbrev pub for_all_some : PlainCore
 for_all_some = two_armed (is_null (cdr (car (var 32)))) (on_cars (var 31) (var 32)) for_all_next
 
 abbrev pub for_all_loop : PlainCore
-for_all_loop = two_armed (first_is_null (var 32)) (datum_at 192 50 52 (a.Bool true)) for_all_some
+for_all_loop = two_armed (first_is_null (var 32)) (datum_at names.FOR_ALL 50 52 (a.Bool true)) for_all_some
 
 abbrev pub for_all_text : PlainCore
 for_all_text = letrec false (init (label 28) (lambda 29 (31 ∷ 32 ∷ []) None for_all_loop) no_init)
@@ -137,7 +138,7 @@ abbrev pub exists_some : PlainCore
 exists_some = two_armed (is_null (cdr (car (var 46)))) (on_cars (var 45) (var 46)) exists_asked
 
 abbrev pub exists_loop : PlainCore
-exists_loop = two_armed (first_is_null (var 46)) (datum_at 193 50 52 (a.Bool false)) exists_some
+exists_loop = two_armed (first_is_null (var 46)) (datum_at names.EXISTS 50 52 (a.Bool false)) exists_some
 
 abbrev pub exists_text : PlainCore
 exists_text = letrec false (init (label 42) (lambda 43 (45 ∷ 46 ∷ []) None exists_loop) no_init)
@@ -149,7 +150,7 @@ abbrev pub filter_some : PlainCore
 filter_some = two_armed (app (var 63) (car (var 64) ∷ [])) (cons (car (var 64)) (app (var 60) (var 63 ∷ cdr (var 64) ∷ []))) (app (var 60) (var 63 ∷ cdr (var 64) ∷ []))
 
 abbrev pub filter_loop : PlainCore
-filter_loop = two_armed (is_null (var 64)) (datum_at 194 42 44 a.Nil) filter_some
+filter_loop = two_armed (is_null (var 64)) (datum_at names.FILTER 42 44 a.Nil) filter_some
 
 abbrev pub filter_text : PlainCore
 filter_text = letrec false (init (label 60) (lambda 61 (63 ∷ 64 ∷ []) None filter_loop) no_init) (var 60)
@@ -157,10 +158,10 @@ filter_text = letrec false (init (label 60) (lambda 61 (63 ∷ 64 ∷ []) None f
 -- `remp`
 
 abbrev pub remp_test : PlainCore
-remp_test = app (prim 140) (app (var 69) (var 74 ∷ []) ∷ [])
+remp_test = app (prim names.NOT) (app (var 69) (var 74 ∷ []) ∷ [])
 
 abbrev pub remp_body : PlainCore
-remp_body = app (prim 194) (lambda 72 (74 ∷ []) None remp_test ∷ var 70 ∷ [])
+remp_body = app (prim names.FILTER) (lambda 72 (74 ∷ []) None remp_test ∷ var 70 ∷ [])
 
 abbrev pub remp_text : PlainCore
 remp_text = lambda 67 (69 ∷ 70 ∷ []) None remp_body
@@ -171,7 +172,7 @@ abbrev pub find_some : PlainCore
 find_some = two_armed (app (var 80) (car (var 81) ∷ [])) (car (var 81)) (app (var 77) (var 80 ∷ cdr (var 81) ∷ []))
 
 abbrev pub find_loop : PlainCore
-find_loop = two_armed (is_null (var 81)) (datum_at 191 41 43 (a.Bool false)) find_some
+find_loop = two_armed (is_null (var 81)) (datum_at names.FIND 41 43 (a.Bool false)) find_some
 
 abbrev pub find_text : PlainCore
 find_text = letrec false (init (label 77) (lambda 78 (80 ∷ 81 ∷ []) None find_loop) no_init) (var 77)
@@ -182,7 +183,7 @@ abbrev pub memp_some : PlainCore
 memp_some = two_armed (app (var 88) (car (var 89) ∷ [])) (var 89) (app (var 85) (var 88 ∷ cdr (var 89) ∷ []))
 
 abbrev pub memp_loop : PlainCore
-memp_loop = two_armed (is_null (var 89)) (datum_at 202 41 43 (a.Bool false)) memp_some
+memp_loop = two_armed (is_null (var 89)) (datum_at names.MEMP 41 43 (a.Bool false)) memp_some
 
 abbrev pub memp_text : PlainCore
 memp_text = letrec false (init (label 85) (lambda 86 (88 ∷ 89 ∷ []) None memp_loop) no_init) (var 85)
@@ -191,7 +192,7 @@ memp_text = letrec false (init (label 85) (lambda 86 (88 ∷ 89 ∷ []) None mem
 
 abbrev pub fold_left_loop : PlainCore
 fold_left_loop = two_armed (first_is_null (var 98)) (var 97)
-    (app (var 93) (var 96 ∷ app (prim 42) (var 96 ∷ var 97 ∷ cars (var 98) ∷ []) ∷ cdrs (var 98) ∷ []))
+    (app (var 93) (var 96 ∷ app (prim names.APPLY) (var 96 ∷ var 97 ∷ cars (var 98) ∷ []) ∷ cdrs (var 98) ∷ []))
 
 abbrev pub fold_left_text : PlainCore
 fold_left_text = letrec false (init (label 93) (lambda 94 (96 ∷ 97 ∷ 98 ∷ []) None fold_left_loop) no_init)
@@ -201,11 +202,11 @@ fold_left_text = letrec false (init (label 93) (lambda 94 (96 ∷ 97 ∷ 98 ∷ 
 
 -- the first element, before what the fold of the rest gives
 abbrev pub fold_right_args : PlainCore
-fold_right_args = app (prim 41) (cars (var 114) ∷ app (prim 121) (app (var 109) (var 112 ∷ var 113 ∷ cdrs (var 114) ∷ []) ∷ []) ∷ [])
+fold_right_args = app (prim names.APPEND) (cars (var 114) ∷ app (prim names.LIST) (app (var 109) (var 112 ∷ var 113 ∷ cdrs (var 114) ∷ []) ∷ []) ∷ [])
 
 abbrev pub fold_right_loop : PlainCore
 fold_right_loop = two_armed (first_is_null (var 114)) (var 113)
-    (app (prim 42) (var 112 ∷ fold_right_args ∷ []))
+    (app (prim names.APPLY) (var 112 ∷ fold_right_args ∷ []))
 
 abbrev pub fold_right_text : PlainCore
 fold_right_text = letrec false (init (label 109) (lambda 110 (112 ∷ 113 ∷ 114 ∷ []) None fold_right_loop) no_init)

@@ -1,6 +1,7 @@
 -- Settings in which the procedures that are given as texts have their codes.
 use Rattle.std.specs.Prelude.{◌≡◌, List, [], ◌∷◌, Some}
 use Rattle.sx_base.specs.declared.name.CodeNo.{CodeNo}
+use Rattle.sx_base.specs.declared.op.names.TheConstants as names
 use Rattle.sx_core.specs.Core.{PlainCode}
 use Rattle.sx_eval.specs.Codes.{Codes, code_at, with_procedure}
 use Rattle.sx_eval.specs.Setting.{PlainSetting}
@@ -9,8 +10,8 @@ use Rattle.sx_given_laws.specs.Codes.{text_code, map_text, for_each_text, for_al
 -- the codes of all texts, in their order
 abbrev pub written : List PlainCode
 written =
-    text_code 133 map_text ∷ text_code 110 for_each_text ∷ text_code 192 for_all_text ∷ text_code 193 exists_text ∷ text_code 194 filter_text ∷
-    text_code 198 remp_text ∷ text_code 191 find_text ∷ text_code 202 memp_text ∷ text_code 196 fold_left_text ∷ text_code 197 fold_right_text ∷ []
+    text_code names.MAP map_text ∷ text_code names.FOR_EACH for_each_text ∷ text_code names.FOR_ALL for_all_text ∷ text_code names.EXISTS exists_text ∷ text_code names.FILTER filter_text ∷
+    text_code names.REMP remp_text ∷ text_code names.FIND find_text ∷ text_code names.MEMP memp_text ∷ text_code names.FOLD_LEFT fold_left_text ∷ text_code names.FOLD_RIGHT fold_right_text ∷ []
 
 -- the table that codes make, with those inside them
 abbrev pub table_of : Codes → List PlainCode → Codes

@@ -2,6 +2,7 @@
 
 ghost use Rattle.std.specs.Prelude.{◌≡◌, ◌⊎◌, ℕ, List, [], ◌∷◌, map, None, Some, codes};
 ghost use Rattle.sx_base.specs.Op.{op_named};
+ghost use Rattle.sx_base.specs.declared.op.names.TheConstants as names;
 ghost use Rattle.sx_core.specs.Core.{PlainCode};
 ghost use Rattle.sx_eval.specs.Codes.{Codes, code_at, with_code};
 ghost use Rattle.sx_eval.specs.Setting.{PlainSetting};
@@ -17,7 +18,7 @@ ghost use Rattle.sx_given_laws.specs.Texts.{HasTexts, Includes, written_table};
 /// The numbers of the procedures of which the laws speak, by their report names.
 pub fn numbers_are_by_name()
     ensures { map op_named (codes "map" ∷ codes "for-each" ∷ codes "filter" ∷ codes "remp" ∷ codes "find" ∷ codes "memp" ∷ codes "for-all" ∷ codes "exists" ∷ codes "fold-left" ∷ codes "fold-right" ∷ []) ≡
-        Some 133 ∷ Some 110 ∷ Some 194 ∷ Some 198 ∷ Some 191 ∷ Some 202 ∷ Some 192 ∷ Some 193 ∷ Some 196 ∷ Some 197 ∷ [] }
+        Some names.MAP ∷ Some names.FOR_EACH ∷ Some names.FILTER ∷ Some names.REMP ∷ Some names.FIND ∷ Some names.MEMP ∷ Some names.FOR_ALL ∷ Some names.EXISTS ∷ Some names.FOLD_LEFT ∷ Some names.FOLD_RIGHT ∷ [] }
 {}
 
 /// A call that gives a value with some fuel gives it with all that is more, and no other value and no other state.
@@ -36,12 +37,12 @@ pub fn texts_stay()
 /// (R6RS 11.9). And whenever it gives a value it has done so. Where each answer is what a function says, it is the list of what that says. Where a call faults, it is the last
 /// that is made, and its fault is that of `map`.
 pub fn map_gives_the_answers()
-    ensures answers { (w : PlainSetting) (f l : Value) (xs : List Value) (s : State) → HasTexts w → IsList s.cells xs l → AllGive w f xs s → Maps w (built_in 133) (f ∷ l ∷ []) f xs s }
-    ensures only { (w : PlainSetting) (f l : Value) (xs : List Value) (s t : State) (v : Value) → HasTexts w → IsList s.cells xs l → Calls w (built_in 133) (f ∷ l ∷ []) s v t → Mapped w f xs s v t }
+    ensures answers { (w : PlainSetting) (f l : Value) (xs : List Value) (s : State) → HasTexts w → IsList s.cells xs l → AllGive w f xs s → Maps w (built_in names.MAP) (f ∷ l ∷ []) f xs s }
+    ensures only { (w : PlainSetting) (f l : Value) (xs : List Value) (s t : State) (v : Value) → HasTexts w → IsList s.cells xs l → Calls w (built_in names.MAP) (f ∷ l ∷ []) s v t → Mapped w f xs s v t }
     ensures said { (w : PlainSetting) (f l : Value) (g : Value → Value) (xs : List Value) (s : State) → HasTexts w → IsList s.cells xs l → AllGiveBy w f g xs s →
-        MapsBy w (built_in 133) (f ∷ l ∷ []) g xs s }
+        MapsBy w (built_in names.MAP) (f ∷ l ∷ []) g xs s }
     ensures faults { (w : PlainSetting) (f l : Value) (xs : List Value) (s : State) → HasTexts w → IsList s.cells xs l → AllEnd w f xs s →
-        Maps w (built_in 133) (f ∷ l ∷ []) f xs s ⊎ Faults w (built_in 133) (f ∷ l ∷ []) f xs s }
+        Maps w (built_in names.MAP) (f ∷ l ∷ []) f xs s ⊎ Faults w (built_in names.MAP) (f ∷ l ∷ []) f xs s }
 {}
 
 /// `for-each` calls its procedure on each element of a list, from the first to the last, and gives nothing of it
@@ -49,36 +50,36 @@ pub fn map_gives_the_answers()
 /// is that of `for-each`.
 pub fn for_each_calls_in_order()
     ensures calls { (w : PlainSetting) (f l : Value) (xs : List Value) (s : State) → HasTexts w → IsList s.cells xs l → AllGive w f xs s →
-        Visits w (built_in 110) (f ∷ l ∷ []) f xs s value.Unspecified }
-    ensures only { (w : PlainSetting) (f l : Value) (xs : List Value) (s t : State) (v : Value) → HasTexts w → IsList s.cells xs l → Calls w (built_in 110) (f ∷ l ∷ []) s v t → Visited w f xs s v t }
+        Visits w (built_in names.FOR_EACH) (f ∷ l ∷ []) f xs s value.Unspecified }
+    ensures only { (w : PlainSetting) (f l : Value) (xs : List Value) (s t : State) (v : Value) → HasTexts w → IsList s.cells xs l → Calls w (built_in names.FOR_EACH) (f ∷ l ∷ []) s v t → Visited w f xs s v t }
     ensures faults { (w : PlainSetting) (f l : Value) (xs : List Value) (s : State) → HasTexts w → IsList s.cells xs l → AllEnd w f xs s →
-        Visits w (built_in 110) (f ∷ l ∷ []) f xs s value.Unspecified ⊎ Faults w (built_in 110) (f ∷ l ∷ []) f xs s }
+        Visits w (built_in names.FOR_EACH) (f ∷ l ∷ []) f xs s value.Unspecified ⊎ Faults w (built_in names.FOR_EACH) (f ∷ l ∷ []) f xs s }
 {}
 
 /// `filter` gives the list of the elements whose answer is not `#f`, and `remp` of those whose answer is `#f`, in their
 /// order; each is asked once, from the first to the last (R6RS libraries 3). And whenever one gives a value it
 /// has done so. Where a call faults, it is the last that is made, and its fault is given.
 pub fn filter_keeps_and_remp_leaves_out()
-    ensures filter { (w : PlainSetting) (f l : Value) (xs : List Value) (s : State) → HasTexts w → IsList s.cells xs l → AllGive w f xs s → Filters w (built_in 194) (f ∷ l ∷ []) f chosen xs s }
-    ensures filter_only { (w : PlainSetting) (f l : Value) (xs : List Value) (s t : State) (v : Value) → HasTexts w → IsList s.cells xs l → Calls w (built_in 194) (f ∷ l ∷ []) s v t → Filtered w f chosen xs s v t }
+    ensures filter { (w : PlainSetting) (f l : Value) (xs : List Value) (s : State) → HasTexts w → IsList s.cells xs l → AllGive w f xs s → Filters w (built_in names.FILTER) (f ∷ l ∷ []) f chosen xs s }
+    ensures filter_only { (w : PlainSetting) (f l : Value) (xs : List Value) (s t : State) (v : Value) → HasTexts w → IsList s.cells xs l → Calls w (built_in names.FILTER) (f ∷ l ∷ []) s v t → Filtered w f chosen xs s v t }
     ensures filter_faults { (w : PlainSetting) (f l : Value) (xs : List Value) (s : State) → HasTexts w → IsList s.cells xs l → AllEnd w f xs s →
-        Filters w (built_in 194) (f ∷ l ∷ []) f chosen xs s ⊎ Faults w (built_in 194) (f ∷ l ∷ []) f xs s }
-    ensures remp { (w : PlainSetting) (f l : Value) (xs : List Value) (s : State) → HasTexts w → IsList s.cells xs l → AllGive w f xs s → Filters w (built_in 198) (f ∷ l ∷ []) f others xs s }
-    ensures remp_only { (w : PlainSetting) (f l : Value) (xs : List Value) (s t : State) (v : Value) → HasTexts w → IsList s.cells xs l → Calls w (built_in 198) (f ∷ l ∷ []) s v t → Filtered w f others xs s v t }
+        Filters w (built_in names.FILTER) (f ∷ l ∷ []) f chosen xs s ⊎ Faults w (built_in names.FILTER) (f ∷ l ∷ []) f xs s }
+    ensures remp { (w : PlainSetting) (f l : Value) (xs : List Value) (s : State) → HasTexts w → IsList s.cells xs l → AllGive w f xs s → Filters w (built_in names.REMP) (f ∷ l ∷ []) f others xs s }
+    ensures remp_only { (w : PlainSetting) (f l : Value) (xs : List Value) (s t : State) (v : Value) → HasTexts w → IsList s.cells xs l → Calls w (built_in names.REMP) (f ∷ l ∷ []) s v t → Filtered w f others xs s v t }
     ensures remp_faults { (w : PlainSetting) (f l : Value) (xs : List Value) (s : State) → HasTexts w → IsList s.cells xs l → AllEnd w f xs s →
-        Filters w (built_in 198) (f ∷ l ∷ []) f others xs s ⊎ Faults w (built_in 198) (f ∷ l ∷ []) f xs s }
+        Filters w (built_in names.REMP) (f ∷ l ∷ []) f others xs s ⊎ Faults w (built_in names.REMP) (f ∷ l ∷ []) f xs s }
 {}
 
 /// `find` gives the first element whose answer is not `#f`, and `memp` what is left of the list itself from there on; both
 /// give `#f` where there is none, and ask no element behind the first (R6RS libraries 3). And whenever one gives a value it
 /// has done so. Where a call faults before an answer isn't `#f`, it is the last that is made, and its fault is given.
 pub fn find_and_memp_stop_at_the_first()
-    ensures find { (w : PlainSetting) (f l : Value) (xs : List Value) (s : State) → HasTexts w → IsList s.cells xs l → SearchGives w f xs s → Finds w (built_in 191) (f ∷ l ∷ []) f xs s }
-    ensures memp { (w : PlainSetting) (f l : Value) (xs : List Value) (s : State) → HasTexts w → IsList s.cells xs l → SearchGives w f xs s → FindsTail w (built_in 202) (f ∷ l ∷ []) f l xs s }
-    ensures find_only { (w : PlainSetting) (f l : Value) (xs : List Value) (s t : State) (v : Value) → HasTexts w → IsList s.cells xs l → Calls w (built_in 191) (f ∷ l ∷ []) s v t → Found w f xs s v t }
-    ensures memp_only { (w : PlainSetting) (f l : Value) (xs : List Value) (s t : State) (v : Value) → HasTexts w → IsList s.cells xs l → Calls w (built_in 202) (f ∷ l ∷ []) s v t → TailFound w f l xs s v t }
+    ensures find { (w : PlainSetting) (f l : Value) (xs : List Value) (s : State) → HasTexts w → IsList s.cells xs l → SearchGives w f xs s → Finds w (built_in names.FIND) (f ∷ l ∷ []) f xs s }
+    ensures memp { (w : PlainSetting) (f l : Value) (xs : List Value) (s : State) → HasTexts w → IsList s.cells xs l → SearchGives w f xs s → FindsTail w (built_in names.MEMP) (f ∷ l ∷ []) f l xs s }
+    ensures find_only { (w : PlainSetting) (f l : Value) (xs : List Value) (s t : State) (v : Value) → HasTexts w → IsList s.cells xs l → Calls w (built_in names.FIND) (f ∷ l ∷ []) s v t → Found w f xs s v t }
+    ensures memp_only { (w : PlainSetting) (f l : Value) (xs : List Value) (s t : State) (v : Value) → HasTexts w → IsList s.cells xs l → Calls w (built_in names.MEMP) (f ∷ l ∷ []) s v t → TailFound w f l xs s v t }
     ensures find_faults { (w : PlainSetting) (f l : Value) (xs : List Value) (s : State) → HasTexts w → IsList s.cells xs l → SearchEnds w f xs s →
-        Finds w (built_in 191) (f ∷ l ∷ []) f xs s ⊎ SearchFaults w (built_in 191) (f ∷ l ∷ []) f xs s }
+        Finds w (built_in names.FIND) (f ∷ l ∷ []) f xs s ⊎ SearchFaults w (built_in names.FIND) (f ∷ l ∷ []) f xs s }
     ensures memp_faults { (w : PlainSetting) (f l : Value) (xs : List Value) (s : State) → HasTexts w → IsList s.cells xs l → SearchEnds w f xs s →
-        FindsTail w (built_in 202) (f ∷ l ∷ []) f l xs s ⊎ SearchFaults w (built_in 202) (f ∷ l ∷ []) f xs s }
+        FindsTail w (built_in names.MEMP) (f ∷ l ∷ []) f l xs s ⊎ SearchFaults w (built_in names.MEMP) (f ∷ l ∷ []) f xs s }
 {}

@@ -1,5 +1,6 @@
 -- `exists` on lists, by its text.
 use Rattle.std.proofs.Common.{◌≡◌, List, [], ◌∷◌, ◌++◌, Some, None, true, false, Ok, Err, refl, ap, subst, arith}
+use Rattle.sx_base.specs.declared.op.names.TheConstants as ops
 use Rattle.sx_region.specs.declared.region.Place.{Place}
 use Rattle.sx_core.specs.Core.{none}
 use Rattle.sx_value.specs.declared.value.Value.{Value}
@@ -77,7 +78,7 @@ module _ (w : PlainSetting) (knows : Knows w.codes) (f : Value) (p : Place) wher
       pair-at = pair_still s.cells at.cells (later-stay s at enter) l x d pair
 
       -- (map car ls), where f is called
-      abbrev asked : Listed w (value.Prim (record { 0 = 133 })) (value.Prim (record { 0 = 51 }) ∷ lv ∷ []) at row
+      abbrev asked : Listed w (value.Prim (record { 0 = ops.MAP })) (value.Prim (record { 0 = ops.CAR }) ∷ lv ∷ []) at row
       asked = loop.asked w knows 43 42 45 46 exists_loop knows.exists_loop p home names f lv s round l more lists at (later-refl at) row (d ∷ ds) pairs
 
       asked-at : Later at asked.state
@@ -150,7 +151,7 @@ module _ (w : PlainSetting) (knows : Knows w.codes) (f : Value) (p : Place) wher
         pairs-looked : Pairs looked.cells row (d ∷ ds) (l ∷ more)
         pairs-looked = pairs-later s looked far-looked pairs
 
-        abbrev left : Listed w (value.Prim (record { 0 = 133 })) (value.Prim (record { 0 = 52 }) ∷ lv ∷ []) looked (d ∷ ds)
+        abbrev left : Listed w (value.Prim (record { 0 = ops.MAP })) (value.Prim (record { 0 = ops.CDR }) ∷ lv ∷ []) looked (d ∷ ds)
         left = cdrs-given w knows looked lv (l ∷ more) lists-looked row (d ∷ ds) pairs-looked
 
         left-looked : Later looked left.state
@@ -253,39 +254,39 @@ module _ (w : PlainSetting) (knows : Knows w.codes) (f l : Value) (more : List V
   abbrev enter_names : EnterNames 42 55 56 57 (value.Closure (code_no 43) (home_place w s 42 43))
   enter_names = record { procedure = λ f l ls. refl; list = λ f l ls. refl; lists = λ f l ls. refl; no_loop = λ f l ls. refl; loop = refl }
 
-  module _ (is_text : has_text 193 ≡ true) where
+  module _ (is_text : has_text ops.EXISTS ≡ true) where
     abbrev begun : State
-    begun = loop.loop_state w s 42 43 193 53 55 56 57 45 46 exists_loop refl refl is_text enter_names knows.exists_text knows.exists_body f l more
+    begun = loop.loop_state w s 42 43 ops.EXISTS 53 55 56 57 45 46 exists_loop refl refl is_text enter_names knows.exists_text knows.exists_body f l more
 
     abbrev lv : Value
-    lv = loop.lists_value w s 42 43 193 53 55 56 57 45 46 exists_loop refl refl is_text enter_names knows.exists_text knows.exists_body f l more
+    lv = loop.lists_value w s 42 43 ops.EXISTS 53 55 56 57 45 46 exists_loop refl refl is_text enter_names knows.exists_text knows.exists_body f l more
 
     far-begun : Later s begun
-    far-begun = loop.loop-later w s 42 43 193 53 55 56 57 45 46 exists_loop refl refl is_text enter_names knows.exists_text knows.exists_body f l more
+    far-begun = loop.loop-later w s 42 43 ops.EXISTS 53 55 56 57 45 46 exists_loop refl refl is_text enter_names knows.exists_text knows.exists_body f l more
 
     begun-home : Home begun.cells (home_place w s 42 43) (one_home (label 42) (code_no 43) (home_place w s 42 43))
-    begun-home = loop.loop-home w s 42 43 193 53 55 56 57 45 46 exists_loop refl refl is_text enter_names knows.exists_text knows.exists_body f l more
+    begun-home = loop.loop-home w s 42 43 ops.EXISTS 53 55 56 57 45 46 exists_loop refl refl is_text enter_names knows.exists_text knows.exists_body f l more
 
     begun-lists : IsList begun.cells (l ∷ more) lv
-    begun-lists = loop.lists-are w s 42 43 193 53 55 56 57 45 46 exists_loop refl refl is_text enter_names knows.exists_text knows.exists_body f l more
+    begun-lists = loop.lists-are w s 42 43 ops.EXISTS 53 55 56 57 45 46 exists_loop refl refl is_text enter_names knows.exists_text knows.exists_body f l more
 
-    begun-iff : (e : End) (t : State) → Iff (CallEnds w (value.Prim (record { 0 = 193 })) (f ∷ l ∷ more) s e t) (CallEnds w (value.Closure (code_no 43) (home_place w s 42 43)) (f ∷ lv ∷ []) begun e t)
-    begun-iff = loop.entered-iff w s 42 43 193 53 55 56 57 45 46 exists_loop refl refl is_text enter_names knows.exists_text knows.exists_body f l more
+    begun-iff : (e : End) (t : State) → Iff (CallEnds w (value.Prim (record { 0 = ops.EXISTS })) (f ∷ l ∷ more) s e t) (CallEnds w (value.Closure (code_no 43) (home_place w s 42 43)) (f ∷ lv ∷ []) begun e t)
+    begun-iff = loop.entered-iff w s 42 43 ops.EXISTS 53 55 56 57 45 46 exists_loop refl refl is_text enter_names knows.exists_text knows.exists_body f l more
 
-    ended-by : ExistsEnds w f rows s → (e : End) × (t : State) × CallEnds w (value.Prim (record { 0 = 193 })) (f ∷ l ∷ more) s e t × Exists w f rows s e t
+    ended-by : ExistsEnds w f rows s → (e : End) × (t : State) × CallEnds w (value.Prim (record { 0 = ops.EXISTS })) (f ∷ l ∷ more) s e t × Exists w f rows s e t
     ended-by give =
         let m = exists-ends w knows f (home_place w s 42 43) rows lv l more begun begun-home begun-lists (rows-later s begun far-begun r) (exists-ends-later w f rows s begun far-begun give) in
         (m.0, m.1, (begun-iff m.0 m.1).1 m.2, exists-from w f rows m.0 s begun m.1 far-begun m.3)
 
-    did-by : (e : End) (t : State) → CallEnds w (value.Prim (record { 0 = 193 })) (f ∷ l ∷ more) s e t → Exists w f rows s e t
+    did-by : (e : End) (t : State) → CallEnds w (value.Prim (record { 0 = ops.EXISTS })) (f ∷ l ∷ more) s e t → Exists w f rows s e t
     did-by e t called =
         exists-from w f rows e s begun t far-begun
         (exists-did w knows f (home_place w s 42 43) rows lv l more begun begun-home begun-lists (rows-later s begun far-begun r) e t ((begun-iff e t).0 called))
 
-  pub exists-ended : ExistsEnds w f rows s → (e : End) × (t : State) × CallEnds w (value.Prim (record { 0 = 193 })) (f ∷ l ∷ more) s e t × Exists w f rows s e t
+  pub exists-ended : ExistsEnds w f rows s → (e : End) × (t : State) × CallEnds w (value.Prim (record { 0 = ops.EXISTS })) (f ∷ l ∷ more) s e t × Exists w f rows s e t
   unfolding has_text
   exists-ended give = ended-by refl give
 
-  pub exists-only : (e : End) (t : State) → CallEnds w (value.Prim (record { 0 = 193 })) (f ∷ l ∷ more) s e t → Exists w f rows s e t
+  pub exists-only : (e : End) (t : State) → CallEnds w (value.Prim (record { 0 = ops.EXISTS })) (f ∷ l ∷ more) s e t → Exists w f rows s e t
   unfolding has_text
   exists-only e t called = did-by refl e t called

@@ -1,5 +1,6 @@
 -- `fold-left` on lists, by its text.
 use Rattle.std.proofs.Common.{◌≡◌, List, [], ◌∷◌, ◌++◌, Some, None, Bool, true, false, Ok, Err, refl, ap, subst}
+use Rattle.sx_base.specs.declared.op.names.TheConstants as names
 use Rattle.sx_region.specs.declared.region.Place.{Place}
 use Rattle.sx_core.specs.Core.{PlainCore, none, more}
 use Rattle.sx_value.specs.declared.value.Value.{Value}
@@ -88,7 +89,7 @@ module _ (w : PlainSetting) (knows : Knows w.codes) (f : Value) (p : Place) wher
       pairs-at = pairs-later s at enter pairs
 
       -- (map car ls), where f is called
-      abbrev asked : Listed w (value.Prim (record { 0 = 133 })) (value.Prim (record { 0 = 51 }) ∷ lv ∷ []) at row
+      abbrev asked : Listed w (value.Prim (record { 0 = names.MAP })) (value.Prim (record { 0 = names.CAR }) ∷ lv ∷ []) at row
       asked = cars-given w knows at lv (l ∷ ls) lists-at row (d ∷ ds) pairs-at
 
       asked-at : Later at asked.state
@@ -98,13 +99,13 @@ module _ (w : PlainSetting) (knows : Knows w.codes) (f : Value) (p : Place) wher
       till-asked = later-then s at asked.state enter asked-at
 
       abbrev on_row : PlainCore
-      on_row = app (prim 42) (var 96 ∷ var 97 ∷ cars (var 98) ∷ [])
+      on_row = app (prim names.APPLY) (var 96 ∷ var 97 ∷ cars (var 98) ∷ [])
 
       step-iff : (r : End) (t : State) → Iff (ExpressionEnds w on_row q at r t) (CallEnds w f (z ∷ row) asked.state r t)
       step-iff r t =
           iff-then
-          (three-iff w (prim 42) (var 96) (var 97) (cars (var 98)) q at at at at asked.state t (value.Prim (record { 0 = 42 })) f z asked.value r
-          (primitive-is w (record { 0 = 42 }) q at) (own w at q vars p home inside (label 96) f refl) (own w at q vars p home inside (label 97) z refl)
+          (three-iff w (prim names.APPLY) (var 96) (var 97) (cars (var 98)) q at at at at asked.state t (value.Prim (record { 0 = names.APPLY })) f z asked.value r
+          (primitive-is w (record { 0 = names.APPLY }) q at) (own w at q vars p home inside (label 96) f refl) (own w at q vars p home inside (label 97) z refl)
           (cars-is w knows at lv (l ∷ ls) lists-at row (d ∷ ds) pairs-at (var 98) q list-read))
           (apply-iff w f (z ∷ []) row asked.value asked.state r t (elements-of asked.state.cells row asked.value asked.list))
 
@@ -132,7 +133,7 @@ module _ (w : PlainSetting) (knows : Knows w.codes) (f : Value) (p : Place) wher
         pairs-then = pairs-later at u behind pairs-at
 
         -- (map cdr ls), on which the loop goes on
-        abbrev left : Listed w (value.Prim (record { 0 = 133 })) (value.Prim (record { 0 = 52 }) ∷ lv ∷ []) u (d ∷ ds)
+        abbrev left : Listed w (value.Prim (record { 0 = names.MAP })) (value.Prim (record { 0 = names.CDR }) ∷ lv ∷ []) u (d ∷ ds)
         left = cdrs-given w knows u lv (l ∷ ls) lists-then row (d ∷ ds) pairs-then
 
         till-left : Later u left.state
@@ -197,39 +198,39 @@ module _ (w : PlainSetting) (knows : Knows w.codes) (f z l : Value) (ls : List V
   abbrev enter_names : FoldNames 93 103 104 105 106 (value.Closure (code_no 94) (home_place w s 93 94))
   enter_names = record { procedure = λ f z l ls. refl; start = λ f z l ls. refl; list = λ f z l ls. refl; lists = λ f z l ls. refl; no_loop = λ f z l ls. refl; loop = refl }
 
-  module _ (is_text : has_text 196 ≡ true) where
+  module _ (is_text : has_text names.FOLD_LEFT ≡ true) where
     abbrev begun : State
-    begun = text.loop_state w s 93 94 196 101 103 104 105 106 96 97 98 fold_left_loop refl refl is_text enter_names knows.fold_left_text knows.fold_left_body f z l ls
+    begun = text.loop_state w s 93 94 names.FOLD_LEFT 101 103 104 105 106 96 97 98 fold_left_loop refl refl is_text enter_names knows.fold_left_text knows.fold_left_body f z l ls
 
     abbrev lv : Value
-    lv = text.lists_value w s 93 94 196 101 103 104 105 106 96 97 98 fold_left_loop refl refl is_text enter_names knows.fold_left_text knows.fold_left_body f z l ls
+    lv = text.lists_value w s 93 94 names.FOLD_LEFT 101 103 104 105 106 96 97 98 fold_left_loop refl refl is_text enter_names knows.fold_left_text knows.fold_left_body f z l ls
 
     far-begun : Later s begun
-    far-begun = text.loop-later w s 93 94 196 101 103 104 105 106 96 97 98 fold_left_loop refl refl is_text enter_names knows.fold_left_text knows.fold_left_body f z l ls
+    far-begun = text.loop-later w s 93 94 names.FOLD_LEFT 101 103 104 105 106 96 97 98 fold_left_loop refl refl is_text enter_names knows.fold_left_text knows.fold_left_body f z l ls
 
     begun-home : Home begun.cells (home_place w s 93 94) (one_home (label 93) (code_no 94) (home_place w s 93 94))
-    begun-home = text.loop-home w s 93 94 196 101 103 104 105 106 96 97 98 fold_left_loop refl refl is_text enter_names knows.fold_left_text knows.fold_left_body f z l ls
+    begun-home = text.loop-home w s 93 94 names.FOLD_LEFT 101 103 104 105 106 96 97 98 fold_left_loop refl refl is_text enter_names knows.fold_left_text knows.fold_left_body f z l ls
 
     begun-lists : IsList begun.cells (l ∷ ls) lv
-    begun-lists = text.lists-are w s 93 94 196 101 103 104 105 106 96 97 98 fold_left_loop refl refl is_text enter_names knows.fold_left_text knows.fold_left_body f z l ls
+    begun-lists = text.lists-are w s 93 94 names.FOLD_LEFT 101 103 104 105 106 96 97 98 fold_left_loop refl refl is_text enter_names knows.fold_left_text knows.fold_left_body f z l ls
 
-    begun-iff : (e : End) (t : State) → Iff (CallEnds w (value.Prim (record { 0 = 196 })) (f ∷ z ∷ l ∷ ls) s e t) (CallEnds w (value.Closure (code_no 94) (home_place w s 93 94)) (f ∷ z ∷ lv ∷ []) begun e t)
-    begun-iff = text.entered-iff w s 93 94 196 101 103 104 105 106 96 97 98 fold_left_loop refl refl is_text enter_names knows.fold_left_text knows.fold_left_body f z l ls
+    begun-iff : (e : End) (t : State) → Iff (CallEnds w (value.Prim (record { 0 = names.FOLD_LEFT })) (f ∷ z ∷ l ∷ ls) s e t) (CallEnds w (value.Closure (code_no 94) (home_place w s 93 94)) (f ∷ z ∷ lv ∷ []) begun e t)
+    begun-iff = text.entered-iff w s 93 94 names.FOLD_LEFT 101 103 104 105 106 96 97 98 fold_left_loop refl refl is_text enter_names knows.fold_left_text knows.fold_left_body f z l ls
 
-    ended-by : FoldLeftEnds w f z rows s → (e : End) × (t : State) × CallEnds w (value.Prim (record { 0 = 196 })) (f ∷ z ∷ l ∷ ls) s e t × FoldLeft w f z rows s e t
+    ended-by : FoldLeftEnds w f z rows s → (e : End) × (t : State) × CallEnds w (value.Prim (record { 0 = names.FOLD_LEFT })) (f ∷ z ∷ l ∷ ls) s e t × FoldLeft w f z rows s e t
     ended-by give =
         let m = fold-left-ends w knows f (home_place w s 93 94) rows z lv l ls begun begun-home begun-lists (rows-later s begun far-begun r) (left-ends-later w f z rows s begun far-begun give) in
         (m.0, m.1, (begun-iff m.0 m.1).1 m.2, left-from w f z rows m.0 s begun m.1 far-begun m.3)
 
-    did-by : (e : End) (t : State) → CallEnds w (value.Prim (record { 0 = 196 })) (f ∷ z ∷ l ∷ ls) s e t → FoldLeft w f z rows s e t
+    did-by : (e : End) (t : State) → CallEnds w (value.Prim (record { 0 = names.FOLD_LEFT })) (f ∷ z ∷ l ∷ ls) s e t → FoldLeft w f z rows s e t
     did-by e t called =
         left-from w f z rows e s begun t far-begun
         (fold-left-did w knows f (home_place w s 93 94) rows z lv l ls begun begun-home begun-lists (rows-later s begun far-begun r) e t ((begun-iff e t).0 called))
 
-  pub fold-left-ended : FoldLeftEnds w f z rows s → (e : End) × (t : State) × CallEnds w (value.Prim (record { 0 = 196 })) (f ∷ z ∷ l ∷ ls) s e t × FoldLeft w f z rows s e t
+  pub fold-left-ended : FoldLeftEnds w f z rows s → (e : End) × (t : State) × CallEnds w (value.Prim (record { 0 = names.FOLD_LEFT })) (f ∷ z ∷ l ∷ ls) s e t × FoldLeft w f z rows s e t
   unfolding has_text
   fold-left-ended give = ended-by refl give
 
-  pub fold-left-only : (e : End) (t : State) → CallEnds w (value.Prim (record { 0 = 196 })) (f ∷ z ∷ l ∷ ls) s e t → FoldLeft w f z rows s e t
+  pub fold-left-only : (e : End) (t : State) → CallEnds w (value.Prim (record { 0 = names.FOLD_LEFT })) (f ∷ z ∷ l ∷ ls) s e t → FoldLeft w f z rows s e t
   unfolding has_text
   fold-left-only e t called = did-by refl e t called

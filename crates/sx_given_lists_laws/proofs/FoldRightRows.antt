@@ -2,6 +2,7 @@
 use Rattle.std.proofs.Common.{◌≡◌, List, [], ◌∷◌, ◌++◌, Some, None, Bool, true, false, ◌≤◌, Ok, Err, refl, ap, subst, inl, inr, arith}
 use Rattle.std.specs.Prelude.{◌⊎◌}
 use Rattle.sx_base.specs.declared.fault.Bare.{Bare}
+use Rattle.sx_base.specs.declared.op.names.TheConstants as ops
 use Rattle.sx_region.specs.declared.region.Place.{Place}
 use Rattle.sx_core.specs.Core.{PlainCore, none}
 use Rattle.sx_value.specs.FromDatum.{pairs_stored}
@@ -99,7 +100,7 @@ module _ (w : PlainSetting) (knows : Knows w.codes) (f z : Value) (p : Place) wh
       pairs-at = pairs-later s at enter pairs
 
       -- (map car ls)
-      abbrev asked : Listed w (value.Prim (record { 0 = 133 })) (value.Prim (record { 0 = 51 }) ∷ lv ∷ []) at row
+      abbrev asked : Listed w (value.Prim (record { 0 = ops.MAP })) (value.Prim (record { 0 = ops.CAR }) ∷ lv ∷ []) at row
       asked = cars-given w knows at lv (l ∷ ls) lists-at row (d ∷ ds) pairs-at
 
       asked-at : Later at asked.state
@@ -115,7 +116,7 @@ module _ (w : PlainSetting) (knows : Knows w.codes) (f z : Value) (p : Place) wh
       pairs-asked = pairs-later at asked.state asked-at pairs-at
 
       -- (map cdr ls), on which the loop goes on
-      abbrev left : Listed w (value.Prim (record { 0 = 133 })) (value.Prim (record { 0 = 52 }) ∷ lv ∷ []) asked.state (d ∷ ds)
+      abbrev left : Listed w (value.Prim (record { 0 = ops.MAP })) (value.Prim (record { 0 = ops.CDR }) ∷ lv ∷ []) asked.state (d ∷ ds)
       left = cdrs-given w knows asked.state lv (l ∷ ls) lists-asked row (d ∷ ds) pairs-asked
 
       left-asked : Later asked.state left.state
@@ -128,7 +129,7 @@ module _ (w : PlainSetting) (knows : Knows w.codes) (f z : Value) (p : Place) wh
       again = app (var 109) (var 112 ∷ var 113 ∷ cdrs (var 114) ∷ [])
 
       abbrev in_list : PlainCore
-      in_list = app (prim 121) (again ∷ [])
+      in_list = app (prim ops.LIST) (again ∷ [])
 
       again-iff : (r : End) (t : State) → Iff (ExpressionEnds w again q asked.state r t) (CallEnds w g (f ∷ z ∷ left.value ∷ []) left.state r t)
       again-iff r t =
@@ -138,27 +139,27 @@ module _ (w : PlainSetting) (knows : Knows w.codes) (f z : Value) (p : Place) wh
           (cdrs-is w knows asked.state lv (l ∷ ls) lists-asked row (d ∷ ds) pairs-asked (var 114) q (own w asked.state q vars p home inside-asked (label 114) lv refl))
 
       -- (list (go f z (map cdr ls)))
-      list-iff : (r : End) (t : State) → Iff (ExpressionEnds w in_list q asked.state r t) (Split (eval_of w again q asked.state) (λ v. operands w (eval_of w) none q ((value.Prim (record { 0 = 121 }) ∷ []) ++ v ∷ [])) r t)
-      list-iff r t = first-iff w (prim 121) again none q asked.state asked.state (value.Prim (record { 0 = 121 })) r t (primitive-is w (record { 0 = 121 }) q asked.state)
+      list-iff : (r : End) (t : State) → Iff (ExpressionEnds w in_list q asked.state r t) (Split (eval_of w again q asked.state) (λ v. operands w (eval_of w) none q ((value.Prim (record { 0 = ops.LIST }) ∷ []) ++ v ∷ [])) r t)
+      list-iff r t = first-iff w (prim ops.LIST) again none q asked.state asked.state (value.Prim (record { 0 = ops.LIST })) r t (primitive-is w (record { 0 = ops.LIST }) q asked.state)
 
       cars-read : Evaluates w (cars (var 114)) q at asked.value asked.state
       cars-read = cars-is w knows at lv (l ∷ ls) lists-at row (d ∷ ds) pairs-at (var 114) q list-read
 
       -- (append (map car ls) (list ..))
       args-iff : (r : End) (t : State)
-          → Iff (ExpressionEnds w fold_right_args q at r t) (Split (eval_of w in_list q asked.state) (λ v. operands w (eval_of w) none q ((value.Prim (record { 0 = 41 }) ∷ asked.value ∷ []) ++ v ∷ [])) r t)
-      args-iff r t = second-iff w (prim 41) (cars (var 114)) in_list none q at at asked.state (value.Prim (record { 0 = 41 })) asked.value r t (primitive-is w (record { 0 = 41 }) q at) cars-read
+          → Iff (ExpressionEnds w fold_right_args q at r t) (Split (eval_of w in_list q asked.state) (λ v. operands w (eval_of w) none q ((value.Prim (record { 0 = ops.APPEND }) ∷ asked.value ∷ []) ++ v ∷ [])) r t)
+      args-iff r t = second-iff w (prim ops.APPEND) (cars (var 114)) in_list none q at at asked.state (value.Prim (record { 0 = ops.APPEND })) asked.value r t (primitive-is w (record { 0 = ops.APPEND }) q at) cars-read
 
       abbrev go_on : Go
-      go_on = λ v. operands w (eval_of w) none q ((value.Prim (record { 0 = 42 }) ∷ f ∷ []) ++ v ∷ [])
+      go_on = λ v. operands w (eval_of w) none q ((value.Prim (record { 0 = ops.APPLY }) ∷ f ∷ []) ++ v ∷ [])
 
-      not-empty : (r : End) (t : State) → Iff (CallEnds w g (f ∷ z ∷ lv ∷ []) s r t) (ExpressionEnds w (app (prim 42) (var 112 ∷ fold_right_args ∷ [])) q at r t)
+      not-empty : (r : End) (t : State) → Iff (CallEnds w g (f ∷ z ∷ lv ∷ []) s r t) (ExpressionEnds w (app (prim ops.APPLY) (var 112 ∷ fold_right_args ∷ [])) q at r t)
       not-empty r t = iff-then (body-iff r t) (false-iff w _ _ _ q at at (truth false) r t (first-null false (pair-not-nil s.cells l x d pair)) refl)
 
       next-iff : (r : End) (t : State) → Iff (CallEnds w g (f ∷ z ∷ lv ∷ []) s r t) (Split (eval_of w fold_right_args q at) go_on r t)
       next-iff r t =
           iff-then (not-empty r t)
-          (second-iff w (prim 42) (var 112) fold_right_args none q at at at (value.Prim (record { 0 = 42 })) f r t (primitive-is w (record { 0 = 42 }) q at) (own w at q vars p home inside (label 112) f refl))
+          (second-iff w (prim ops.APPLY) (var 112) fold_right_args none q at at at (value.Prim (record { 0 = ops.APPLY })) f r t (primitive-is w (record { 0 = ops.APPLY }) q at) (own w at q vars p home inside (label 112) f refl))
 
       -- where the loop gives a value
       module _ (y : Value) (u : State) (called : Calls w g (f ∷ z ∷ left.value ∷ []) left.state y u) where
@@ -194,16 +195,16 @@ module _ (w : PlainSetting) (knows : Knows w.codes) (f z : Value) (p : Place) wh
 
         gathered : Evaluates w fold_right_args q at arguments joined
         gathered =
-            call-two w (prim 41) (cars (var 114)) in_list q at at asked.state listed joined (value.Prim (record { 0 = 41 })) asked.value (next_pair w u) arguments
-            (primitive-is w (record { 0 = 41 }) q at) cars-read
+            call-two w (prim ops.APPEND) (cars (var 114)) in_list q at at asked.state listed joined (value.Prim (record { 0 = ops.APPEND })) asked.value (next_pair w u) arguments
+            (primitive-is w (record { 0 = ops.APPEND }) q at) cars-read
             (list-is w again q asked.state u y ((again-iff (Ok y) u).1 called))
             (appended w asked.value (next_pair w u) row listed row-elements)
 
         value-iff : (r : End) (t : State) → Iff (CallEnds w g (f ∷ z ∷ lv ∷ []) s r t) (CallEnds w f (row ++ y ∷ []) joined r t)
         value-iff r t =
             iff-then (not-empty r t)
-            (iff-then (two-iff w (prim 42) (var 112) fold_right_args q at at at joined t (value.Prim (record { 0 = 42 })) f arguments r
-            (primitive-is w (record { 0 = 42 }) q at) (own w at q vars p home inside (label 112) f refl) gathered)
+            (iff-then (two-iff w (prim ops.APPLY) (var 112) fold_right_args q at at at joined t (value.Prim (record { 0 = ops.APPLY })) f arguments r
+            (primitive-is w (record { 0 = ops.APPLY }) q at) (own w at q vars p home inside (label 112) f refl) gathered)
             (apply-iff w f [] (row ++ y ∷ []) arguments joined r t (elements-of joined.cells (row ++ y ∷ []) arguments arguments-are)))
 
       -- where it faults
@@ -225,7 +226,7 @@ module _ (w : PlainSetting) (knows : Knows w.codes) (f z : Value) (p : Place) wh
       abbrev LoopCame : End → State → Type 0
       LoopCame r t = ((y : Value) × (u : State) × Calls w g (f ∷ z ∷ left.value ∷ []) left.state y u) ⊎ ((e : Bare) × (Err e ≡ r) × CallEnds w g (f ∷ z ∷ left.value ∷ []) left.state (Err e) t)
 
-      of-list : (r : End) (t : State) → Split (eval_of w again q asked.state) (λ v. operands w (eval_of w) none q ((value.Prim (record { 0 = 121 }) ∷ []) ++ v ∷ [])) r t → LoopCame r t
+      of-list : (r : End) (t : State) → Split (eval_of w again q asked.state) (λ v. operands w (eval_of w) none q ((value.Prim (record { 0 = ops.LIST }) ∷ []) ++ v ∷ [])) r t → LoopCame r t
       of-list r t (went y u h onward) = inl (y, u, (again-iff (Ok y) u).0 h)
       of-list r t (stopped {e = e} h) = inr (e, refl, (again-iff (Err e) t).0 h)
 
@@ -233,7 +234,7 @@ module _ (w : PlainSetting) (knows : Knows w.codes) (f z : Value) (p : Place) wh
       gave r t v (inl h) = h
       gave r t v (inr h) = let wrong : Err h.0 ≡ Ok v = h.1 in absurd (cc)
 
-      of-args : (r : End) (t : State) → Split (eval_of w in_list q asked.state) (λ v. operands w (eval_of w) none q ((value.Prim (record { 0 = 41 }) ∷ asked.value ∷ []) ++ v ∷ [])) r t → LoopCame r t
+      of-args : (r : End) (t : State) → Split (eval_of w in_list q asked.state) (λ v. operands w (eval_of w) none q ((value.Prim (record { 0 = ops.APPEND }) ∷ asked.value ∷ []) ++ v ∷ [])) r t → LoopCame r t
       of-args r t (went v u h onward) = inl (gave (Ok v) u v (of-list (Ok v) u ((list-iff (Ok v) u).0 h)))
       of-args r t (stopped {e = e} h) = of-list (Err e) t ((list-iff (Err e) t).0 h)
 
@@ -281,39 +282,39 @@ module _ (w : PlainSetting) (knows : Knows w.codes) (f z l : Value) (ls : List V
   abbrev enter_names : FoldNames 109 119 120 121 122 (value.Closure (code_no 110) (home_place w s 109 110))
   enter_names = record { procedure = λ f z l ls. refl; start = λ f z l ls. refl; list = λ f z l ls. refl; lists = λ f z l ls. refl; no_loop = λ f z l ls. refl; loop = refl }
 
-  module _ (is_text : has_text 197 ≡ true) where
+  module _ (is_text : has_text ops.FOLD_RIGHT ≡ true) where
     abbrev begun : State
-    begun = text.loop_state w s 109 110 197 117 119 120 121 122 112 113 114 fold_right_loop refl refl is_text enter_names knows.fold_right_text knows.fold_right_body f z l ls
+    begun = text.loop_state w s 109 110 ops.FOLD_RIGHT 117 119 120 121 122 112 113 114 fold_right_loop refl refl is_text enter_names knows.fold_right_text knows.fold_right_body f z l ls
 
     abbrev lv : Value
-    lv = text.lists_value w s 109 110 197 117 119 120 121 122 112 113 114 fold_right_loop refl refl is_text enter_names knows.fold_right_text knows.fold_right_body f z l ls
+    lv = text.lists_value w s 109 110 ops.FOLD_RIGHT 117 119 120 121 122 112 113 114 fold_right_loop refl refl is_text enter_names knows.fold_right_text knows.fold_right_body f z l ls
 
     far-begun : Later s begun
-    far-begun = text.loop-later w s 109 110 197 117 119 120 121 122 112 113 114 fold_right_loop refl refl is_text enter_names knows.fold_right_text knows.fold_right_body f z l ls
+    far-begun = text.loop-later w s 109 110 ops.FOLD_RIGHT 117 119 120 121 122 112 113 114 fold_right_loop refl refl is_text enter_names knows.fold_right_text knows.fold_right_body f z l ls
 
     begun-home : Home begun.cells (home_place w s 109 110) (one_home (label 109) (code_no 110) (home_place w s 109 110))
-    begun-home = text.loop-home w s 109 110 197 117 119 120 121 122 112 113 114 fold_right_loop refl refl is_text enter_names knows.fold_right_text knows.fold_right_body f z l ls
+    begun-home = text.loop-home w s 109 110 ops.FOLD_RIGHT 117 119 120 121 122 112 113 114 fold_right_loop refl refl is_text enter_names knows.fold_right_text knows.fold_right_body f z l ls
 
     begun-lists : IsList begun.cells (l ∷ ls) lv
-    begun-lists = text.lists-are w s 109 110 197 117 119 120 121 122 112 113 114 fold_right_loop refl refl is_text enter_names knows.fold_right_text knows.fold_right_body f z l ls
+    begun-lists = text.lists-are w s 109 110 ops.FOLD_RIGHT 117 119 120 121 122 112 113 114 fold_right_loop refl refl is_text enter_names knows.fold_right_text knows.fold_right_body f z l ls
 
-    begun-iff : (e : End) (t : State) → Iff (CallEnds w (value.Prim (record { 0 = 197 })) (f ∷ z ∷ l ∷ ls) s e t) (CallEnds w (value.Closure (code_no 110) (home_place w s 109 110)) (f ∷ z ∷ lv ∷ []) begun e t)
-    begun-iff = text.entered-iff w s 109 110 197 117 119 120 121 122 112 113 114 fold_right_loop refl refl is_text enter_names knows.fold_right_text knows.fold_right_body f z l ls
+    begun-iff : (e : End) (t : State) → Iff (CallEnds w (value.Prim (record { 0 = ops.FOLD_RIGHT })) (f ∷ z ∷ l ∷ ls) s e t) (CallEnds w (value.Closure (code_no 110) (home_place w s 109 110)) (f ∷ z ∷ lv ∷ []) begun e t)
+    begun-iff = text.entered-iff w s 109 110 ops.FOLD_RIGHT 117 119 120 121 122 112 113 114 fold_right_loop refl refl is_text enter_names knows.fold_right_text knows.fold_right_body f z l ls
 
-    ended-by : FoldRightEnds w f z rows s → (e : End) × (t : State) × CallEnds w (value.Prim (record { 0 = 197 })) (f ∷ z ∷ l ∷ ls) s e t × FoldRight w f z rows s e t
+    ended-by : FoldRightEnds w f z rows s → (e : End) × (t : State) × CallEnds w (value.Prim (record { 0 = ops.FOLD_RIGHT })) (f ∷ z ∷ l ∷ ls) s e t × FoldRight w f z rows s e t
     ended-by give =
         let m = fold-right-ends w knows f z (home_place w s 109 110) rows lv l ls begun begun-home begun-lists (rows-later s begun far-begun r) (right-ends-later w f z rows s begun far-begun give) in
         (m.0, m.1, (begun-iff m.0 m.1).1 m.2, right-from w f z rows m.0 s begun m.1 far-begun m.3)
 
-    did-by : (e : End) (t : State) → CallEnds w (value.Prim (record { 0 = 197 })) (f ∷ z ∷ l ∷ ls) s e t → FoldRight w f z rows s e t
+    did-by : (e : End) (t : State) → CallEnds w (value.Prim (record { 0 = ops.FOLD_RIGHT })) (f ∷ z ∷ l ∷ ls) s e t → FoldRight w f z rows s e t
     did-by e t called =
         right-from w f z rows e s begun t far-begun
         (fold-right-did w knows f z (home_place w s 109 110) rows lv l ls begun begun-home begun-lists (rows-later s begun far-begun r) e t ((begun-iff e t).0 called))
 
-  pub fold-right-ended : FoldRightEnds w f z rows s → (e : End) × (t : State) × CallEnds w (value.Prim (record { 0 = 197 })) (f ∷ z ∷ l ∷ ls) s e t × FoldRight w f z rows s e t
+  pub fold-right-ended : FoldRightEnds w f z rows s → (e : End) × (t : State) × CallEnds w (value.Prim (record { 0 = ops.FOLD_RIGHT })) (f ∷ z ∷ l ∷ ls) s e t × FoldRight w f z rows s e t
   unfolding has_text
   fold-right-ended give = ended-by refl give
 
-  pub fold-right-only : (e : End) (t : State) → CallEnds w (value.Prim (record { 0 = 197 })) (f ∷ z ∷ l ∷ ls) s e t → FoldRight w f z rows s e t
+  pub fold-right-only : (e : End) (t : State) → CallEnds w (value.Prim (record { 0 = ops.FOLD_RIGHT })) (f ∷ z ∷ l ∷ ls) s e t → FoldRight w f z rows s e t
   unfolding has_text
   fold-right-only e t called = did-by refl e t called

@@ -1,6 +1,7 @@
 -- `for-all` on lists, by its text.
 use Rattle.std.proofs.Common.{◌≡◌, List, [], ◌∷◌, Some, true, false, Ok, Err, refl, ap, subst}
 use Rattle.sx_base.specs.declared.atom.Atom.TheVariants as a
+use Rattle.sx_base.specs.declared.op.names.TheConstants as ops
 use Rattle.sx_region.specs.declared.region.Place.{Place}
 use Rattle.sx_core.specs.Core.{PlainCore}
 use Rattle.sx_value.specs.declared.value.Value.{Value}
@@ -76,7 +77,7 @@ module _ (w : PlainSetting) (knows : Knows w.codes) (f : Value) (p : Place) wher
       pair-at = pair_still s.cells at.cells (later-stay s at enter) l x d pair
 
       -- (map car ls), where f is called
-      abbrev asked : Listed w (value.Prim (record { 0 = 133 })) (value.Prim (record { 0 = 51 }) ∷ lv ∷ []) at row
+      abbrev asked : Listed w (value.Prim (record { 0 = ops.MAP })) (value.Prim (record { 0 = ops.CAR }) ∷ lv ∷ []) at row
       asked = loop.asked w knows 29 28 31 32 for_all_loop knows.for_all_loop p home names f lv s round l more lists at (later-refl at) row (d ∷ ds) pairs
 
       asked-at : Later at asked.state
@@ -97,7 +98,7 @@ module _ (w : PlainSetting) (knows : Knows w.codes) (f : Value) (p : Place) wher
           (ask-iff r t)))
 
       abbrev no_more : PlainCore
-      no_more = datum_at 192 163 165 (a.Bool false)
+      no_more = datum_at ops.FOR_ALL 163 165 (a.Bool false)
 
       -- a row before it
       next-iff : is_nil d ≡ false → (r : End) (t : State) → Iff (CallEnds w g (f ∷ lv ∷ []) s r t) (Split (eval_of w (on_cars (var 31) (var 32)) q at) (two_arms w (eval_of w) (app (var 28) (var 31 ∷ cdrs (var 32) ∷ [])) no_more q) r t)
@@ -113,7 +114,7 @@ module _ (w : PlainSetting) (knows : Knows w.codes) (f : Value) (p : Place) wher
         behind = later-then at asked.state u asked-at (calls-later w f row asked.state y u called)
 
         -- (map cdr ls), on which the loop goes on
-        abbrev left : Listed w (value.Prim (record { 0 = 133 })) (value.Prim (record { 0 = 52 }) ∷ lv ∷ []) u (d ∷ ds)
+        abbrev left : Listed w (value.Prim (record { 0 = ops.MAP })) (value.Prim (record { 0 = ops.CDR }) ∷ lv ∷ []) u (d ∷ ds)
         left = loop.left w knows 29 28 31 32 for_all_loop knows.for_all_loop p home names f lv s round l more lists u behind row (d ∷ ds) pairs
 
         till-left : Later u left.state
@@ -199,39 +200,39 @@ module _ (w : PlainSetting) (knows : Knows w.codes) (f l : Value) (more : List V
   abbrev enter_names : EnterNames 28 37 38 39 (value.Closure (code_no 29) (home_place w s 28 29))
   enter_names = record { procedure = λ f l ls. refl; list = λ f l ls. refl; lists = λ f l ls. refl; no_loop = λ f l ls. refl; loop = refl }
 
-  module _ (is_text : has_text 192 ≡ true) where
+  module _ (is_text : has_text ops.FOR_ALL ≡ true) where
     abbrev begun : State
-    begun = loop.loop_state w s 28 29 192 35 37 38 39 31 32 for_all_loop refl refl is_text enter_names knows.for_all_text knows.for_all_body f l more
+    begun = loop.loop_state w s 28 29 ops.FOR_ALL 35 37 38 39 31 32 for_all_loop refl refl is_text enter_names knows.for_all_text knows.for_all_body f l more
 
     abbrev lv : Value
-    lv = loop.lists_value w s 28 29 192 35 37 38 39 31 32 for_all_loop refl refl is_text enter_names knows.for_all_text knows.for_all_body f l more
+    lv = loop.lists_value w s 28 29 ops.FOR_ALL 35 37 38 39 31 32 for_all_loop refl refl is_text enter_names knows.for_all_text knows.for_all_body f l more
 
     far-begun : Later s begun
-    far-begun = loop.loop-later w s 28 29 192 35 37 38 39 31 32 for_all_loop refl refl is_text enter_names knows.for_all_text knows.for_all_body f l more
+    far-begun = loop.loop-later w s 28 29 ops.FOR_ALL 35 37 38 39 31 32 for_all_loop refl refl is_text enter_names knows.for_all_text knows.for_all_body f l more
 
     begun-home : Home begun.cells (home_place w s 28 29) (one_home (label 28) (code_no 29) (home_place w s 28 29))
-    begun-home = loop.loop-home w s 28 29 192 35 37 38 39 31 32 for_all_loop refl refl is_text enter_names knows.for_all_text knows.for_all_body f l more
+    begun-home = loop.loop-home w s 28 29 ops.FOR_ALL 35 37 38 39 31 32 for_all_loop refl refl is_text enter_names knows.for_all_text knows.for_all_body f l more
 
     begun-lists : IsList begun.cells (l ∷ more) lv
-    begun-lists = loop.lists-are w s 28 29 192 35 37 38 39 31 32 for_all_loop refl refl is_text enter_names knows.for_all_text knows.for_all_body f l more
+    begun-lists = loop.lists-are w s 28 29 ops.FOR_ALL 35 37 38 39 31 32 for_all_loop refl refl is_text enter_names knows.for_all_text knows.for_all_body f l more
 
-    begun-iff : (e : End) (t : State) → Iff (CallEnds w (value.Prim (record { 0 = 192 })) (f ∷ l ∷ more) s e t) (CallEnds w (value.Closure (code_no 29) (home_place w s 28 29)) (f ∷ lv ∷ []) begun e t)
-    begun-iff = loop.entered-iff w s 28 29 192 35 37 38 39 31 32 for_all_loop refl refl is_text enter_names knows.for_all_text knows.for_all_body f l more
+    begun-iff : (e : End) (t : State) → Iff (CallEnds w (value.Prim (record { 0 = ops.FOR_ALL })) (f ∷ l ∷ more) s e t) (CallEnds w (value.Closure (code_no 29) (home_place w s 28 29)) (f ∷ lv ∷ []) begun e t)
+    begun-iff = loop.entered-iff w s 28 29 ops.FOR_ALL 35 37 38 39 31 32 for_all_loop refl refl is_text enter_names knows.for_all_text knows.for_all_body f l more
 
-    ended-by : ForAllEnds w f rows s → (e : End) × (t : State) × CallEnds w (value.Prim (record { 0 = 192 })) (f ∷ l ∷ more) s e t × ForAll w f rows s e t
+    ended-by : ForAllEnds w f rows s → (e : End) × (t : State) × CallEnds w (value.Prim (record { 0 = ops.FOR_ALL })) (f ∷ l ∷ more) s e t × ForAll w f rows s e t
     ended-by give =
         let m = for-all-ends w knows f (home_place w s 28 29) rows lv l more begun begun-home begun-lists (rows-later s begun far-begun r) (for-all-ends-later w f rows s begun far-begun give) in
         (m.0, m.1, (begun-iff m.0 m.1).1 m.2, all-from w f rows m.0 s begun m.1 far-begun m.3)
 
-    did-by : (e : End) (t : State) → CallEnds w (value.Prim (record { 0 = 192 })) (f ∷ l ∷ more) s e t → ForAll w f rows s e t
+    did-by : (e : End) (t : State) → CallEnds w (value.Prim (record { 0 = ops.FOR_ALL })) (f ∷ l ∷ more) s e t → ForAll w f rows s e t
     did-by e t called =
         all-from w f rows e s begun t far-begun
         (for-all-did w knows f (home_place w s 28 29) rows lv l more begun begun-home begun-lists (rows-later s begun far-begun r) e t ((begun-iff e t).0 called))
 
-  pub for-all-ended : ForAllEnds w f rows s → (e : End) × (t : State) × CallEnds w (value.Prim (record { 0 = 192 })) (f ∷ l ∷ more) s e t × ForAll w f rows s e t
+  pub for-all-ended : ForAllEnds w f rows s → (e : End) × (t : State) × CallEnds w (value.Prim (record { 0 = ops.FOR_ALL })) (f ∷ l ∷ more) s e t × ForAll w f rows s e t
   unfolding has_text
   for-all-ended give = ended-by refl give
 
-  pub for-all-only : (e : End) (t : State) → CallEnds w (value.Prim (record { 0 = 192 })) (f ∷ l ∷ more) s e t → ForAll w f rows s e t
+  pub for-all-only : (e : End) (t : State) → CallEnds w (value.Prim (record { 0 = ops.FOR_ALL })) (f ∷ l ∷ more) s e t → ForAll w f rows s e t
   unfolding has_text
   for-all-only e t called = did-by refl e t called

@@ -2,6 +2,7 @@
 use Rattle.std.proofs.Common.{◌≡◌, List, [], ◌∷◌, ◌++◌, Some, None, Bool, true, false, length, Ok, Err, refl, ap, subst, if◌then◌else◌}
 use Rattle.sx_base.specs.declared.fault.Bare.{Bare}
 use Rattle.sx_base.specs.declared.op.Op.{Op}
+use Rattle.sx_base.specs.declared.op.names.TheConstants as names
 use Rattle.sx_region.specs.declared.region.Place.{Place}
 use Rattle.sx_region.proofs.Laws.{slice_get-added}
 use Rattle.sx_core.specs.Core.{PlainCore, none, more}
@@ -102,67 +103,67 @@ module _ (w : PlainSetting) (knows : Knows w.codes) (f : Value) (p : Place) wher
         pairs-then = pairs-later s u (later-then s at u enter behind) pairs
 
         -- (one car ls) and (one cdr ls)
-        abbrev cars_then : Listed w one (value.Prim (record { 0 = 51 }) ∷ lv ∷ []) u row
-        cars_then = cars-listed w one lv (l ∷ ls) row (d ∷ ds) u pairs-then (λ give. map-one w knows.map_one (value.Prim (record { 0 = 51 })) p (l ∷ ls) lv u home-then lists-then give)
+        abbrev cars_then : Listed w one (value.Prim (record { 0 = names.CAR }) ∷ lv ∷ []) u row
+        cars_then = cars-listed w one lv (l ∷ ls) row (d ∷ ds) u pairs-then (λ give. map-one w knows.map_one (value.Prim (record { 0 = names.CAR })) p (l ∷ ls) lv u home-then lists-then give)
 
-        abbrev cdrs_then : Listed w one (value.Prim (record { 0 = 52 }) ∷ lv ∷ []) u (d ∷ ds)
-        cdrs_then = cdrs-listed w one lv (l ∷ ls) row (d ∷ ds) u pairs-then (λ give. map-one w knows.map_one (value.Prim (record { 0 = 52 })) p (l ∷ ls) lv u home-then lists-then give)
+        abbrev cdrs_then : Listed w one (value.Prim (record { 0 = names.CDR }) ∷ lv ∷ []) u (d ∷ ds)
+        cdrs_then = cdrs-listed w one lv (l ∷ ls) row (d ∷ ds) u pairs-then (λ give. map-one w knows.map_one (value.Prim (record { 0 = names.CDR })) p (l ∷ ls) lv u home-then lists-then give)
 
         part-is : (op : Op) (v : Value) (t : State) → Calls w one (value.Prim op ∷ lv ∷ []) u v t → Evaluates w (app (var 2) (prim op.0 ∷ var 12 ∷ [])) q u v t
         part-is op v t h =
             call-two w (var 2) (prim op.0) (var 12) q u u u u t one (value.Prim op) lv v
             (outer w u q vars p (map_home p) inside-then (label 2) one refl refl) (primitive-is w op q u) (own w u q vars p (map_home p) inside-then (label 12) lv refl) h
 
-      abbrev asked : Listed w one (value.Prim (record { 0 = 51 }) ∷ lv ∷ []) at row
+      abbrev asked : Listed w one (value.Prim (record { 0 = names.CAR }) ∷ lv ∷ []) at row
       asked = cars_then at (later-refl at)
 
       asked-at : Later at asked.state
-      asked-at = calls-later w one (value.Prim (record { 0 = 51 }) ∷ lv ∷ []) at asked.value asked.state asked.called
+      asked-at = calls-later w one (value.Prim (record { 0 = names.CAR }) ∷ lv ∷ []) at asked.value asked.state asked.called
 
       till-asked : Later s asked.state
       till-asked = later-then s at asked.state enter asked-at
 
       abbrev on_row : PlainCore
-      on_row = app (prim 42) (var 11 ∷ app (var 2) (prim 51 ∷ var 12 ∷ []) ∷ [])
+      on_row = app (prim names.APPLY) (var 11 ∷ app (var 2) (prim names.CAR ∷ var 12 ∷ []) ∷ [])
 
       abbrev on_rest : PlainCore
-      on_rest = app (var 3) (var 11 ∷ app (var 2) (prim 52 ∷ var 12 ∷ []) ∷ [])
+      on_rest = app (var 3) (var 11 ∷ app (var 2) (prim names.CDR ∷ var 12 ∷ []) ∷ [])
 
       ask-iff : (r : End) (t : State) → Iff (ExpressionEnds w on_row q at r t) (CallEnds w f row asked.state r t)
       ask-iff r t =
           iff-then
-          (two-iff w (prim 42) (var 11) (app (var 2) (prim 51 ∷ var 12 ∷ [])) q at at at asked.state t (value.Prim (record { 0 = 42 })) f asked.value r
-          (primitive-is w (record { 0 = 42 }) q at) (own w at q vars p (map_home p) inside (label 11) f refl)
-          (part-is at (later-refl at) (record { 0 = 51 }) asked.value asked.state asked.called))
+          (two-iff w (prim names.APPLY) (var 11) (app (var 2) (prim names.CAR ∷ var 12 ∷ [])) q at at at asked.state t (value.Prim (record { 0 = names.APPLY })) f asked.value r
+          (primitive-is w (record { 0 = names.APPLY }) q at) (own w at q vars p (map_home p) inside (label 11) f refl)
+          (part-is at (later-refl at) (record { 0 = names.CAR }) asked.value asked.state asked.called))
           (apply-iff w f [] row asked.value asked.state r t (elements-of asked.state.cells row asked.value asked.list))
 
       abbrev go_on : Go
-      go_on = λ v. operands w (eval_of w) (more on_rest none) q ((value.Prim (record { 0 = 90 }) ∷ []) ++ v ∷ [])
+      go_on = λ v. operands w (eval_of w) (more on_rest none) q ((value.Prim (record { 0 = names.CONS }) ∷ []) ++ v ∷ [])
 
       next-iff : (r : End) (t : State) → Iff (CallEnds w g (f ∷ lv ∷ []) s r t) (Split (eval_of w on_row q at) go_on r t)
       next-iff r t =
           iff-then (body-iff r t)
           (iff-then (false-iff w _ _ _ q at at (truth false) r t (first-null false (pair-not-nil s.cells l x d pair)) refl)
-          (first-iff w (prim 90) on_row (more on_rest none) q at at (value.Prim (record { 0 = 90 })) r t (primitive-is w (record { 0 = 90 }) q at)))
+          (first-iff w (prim names.CONS) on_row (more on_rest none) q at at (value.Prim (record { 0 = names.CONS })) r t (primitive-is w (record { 0 = names.CONS }) q at)))
 
       module _ (y : Value) (u : State) (called : Calls w f row asked.state y u) where
         behind : Later at u
         behind = later-then at asked.state u asked-at (calls-later w f row asked.state y u called)
 
-        abbrev left : Listed w one (value.Prim (record { 0 = 52 }) ∷ lv ∷ []) u (d ∷ ds)
+        abbrev left : Listed w one (value.Prim (record { 0 = names.CDR }) ∷ lv ∷ []) u (d ∷ ds)
         left = cdrs_then u behind
 
         till-left : Later u left.state
-        till-left = calls-later w one (value.Prim (record { 0 = 52 }) ∷ lv ∷ []) u left.value left.state left.called
+        till-left = calls-later w one (value.Prim (record { 0 = names.CDR }) ∷ lv ∷ []) u left.value left.state left.called
 
         far : Later s left.state
         far = later-then s at left.state enter (later-then at u left.state behind till-left)
 
         again-iff : (r : End) (t : State) → Iff (ExpressionEnds w on_rest q u r t) (CallEnds w g (f ∷ left.value ∷ []) left.state r t)
         again-iff r t =
-            two-iff w (var 3) (var 11) (app (var 2) (prim 52 ∷ var 12 ∷ [])) q u u u left.state t g f left.value r
+            two-iff w (var 3) (var 11) (app (var 2) (prim names.CDR ∷ var 12 ∷ [])) q u u u left.state t g f left.value r
             (outer w u q vars p (map_home p) (inside-then u behind) (label 3) g refl refl) (own w u q vars p (map_home p) (inside-then u behind) (label 11) f refl)
-            (part-is u behind (record { 0 = 52 }) left.value left.state left.called)
+            (part-is u behind (record { 0 = names.CDR }) left.value left.state left.called)
 
         -- the pair of the answer and the list of the others
         paired : (v : Value) (t : State) → Calls w g (f ∷ left.value ∷ []) left.state v t → CallEnds w g (f ∷ lv ∷ []) s (Ok (next_pair w t)) (with_cell (cell.Pair y v) t)
@@ -172,7 +173,7 @@ module _ (w : PlainSetting) (knows : Knows w.codes) (f : Value) (p : Place) wher
             (cons-is w on_row q at u y ((ask-iff (Ok y) u).1 called) on_rest v t ((again-iff (Ok v) t).1 h)))
 
         fault-behind : (e : Bare) (t : State) → CallEnds w g (f ∷ left.value ∷ []) left.state (Err e) t → CallEnds w g (f ∷ lv ∷ []) s (Err e) t
-        fault-behind e t h = (next-iff (Err e) t).1 (went y u ((ask-iff (Ok y) u).1 called) (operand-stops w on_rest none q (value.Prim (record { 0 = 90 }) ∷ y ∷ []) u t e ((again-iff (Err e) t).1 h)))
+        fault-behind e t h = (next-iff (Err e) t).1 (went y u ((ask-iff (Ok y) u).1 called) (operand-stops w on_rest none q (value.Prim (record { 0 = names.CONS }) ∷ y ∷ []) u t e ((again-iff (Err e) t).1 h)))
 
         -- what was done with the rests and with the row
         whole : (rows : List (List Value)) (v : Value) (t : State) → MapDid w f rows u (Ok v) t → MapDid w f (row ∷ rows) s (Ok (next_pair w t)) (with_cell (cell.Pair y v) t)
@@ -208,7 +209,7 @@ module _ (w : PlainSetting) (knows : Knows w.codes) (f : Value) (p : Place) wher
               (subst (λ a. MapDid w f (row ∷ rows) s a o) (ends-one-end (call_of w g (f ∷ lv ∷ []) s) e r o t other called) did)
 
           of-operand : (y : Value) (u : State) (h : Calls w f row asked.state y u) (r : End) (t : State) → CallEnds w g (f ∷ lv ∷ []) s r t
-              → Split (eval_of w on_rest q u) (λ v. operands w (eval_of w) none q ((value.Prim (record { 0 = 90 }) ∷ y ∷ []) ++ v ∷ [])) r t → MapDid w f (row ∷ rows) s r t
+              → Split (eval_of w on_rest q u) (λ v. operands w (eval_of w) none q ((value.Prim (record { 0 = names.CONS }) ∷ y ∷ []) ++ v ∷ [])) r t → MapDid w f (row ∷ rows) s r t
           of-operand y u h r t called (stopped {e = e} k) = stops_behind till-asked h (of-rest y u h (Err e) t k)
           of-operand y u h r t called (went v o k onward) =
               same r t called (Ok (next_pair w o)) (with_cell (cell.Pair y v) o) (paired y u h v o ((again-iff y u h (Ok v) o).0 k)) (whole y u h rows v o (of-rest y u h (Ok v) o k))
@@ -216,7 +217,7 @@ module _ (w : PlainSetting) (knows : Knows w.codes) (f : Value) (p : Place) wher
           by : (r : End) (t : State) → CallEnds w g (f ∷ lv ∷ []) s r t → Split (eval_of w on_row q at) go_on r t → MapDid w f (row ∷ rows) s r t
           by r t called (stopped {e = b} h) = stops_here till-asked ((ask-iff (Err b) t).0 h)
           by r t called (went y u h onward) =
-              of-operand y u ((ask-iff (Ok y) u).0 h) r t called (operand-split w on_rest none q (value.Prim (record { 0 = 90 }) ∷ y ∷ []) u r t (call-real w g (f ∷ lv ∷ []) s r t called) onward)
+              of-operand y u ((ask-iff (Ok y) u).0 h) r t called (operand-split w on_rest none q (value.Prim (record { 0 = names.CONS }) ∷ y ∷ []) u r t (call-real w g (f ∷ lv ∷ []) s r t called) onward)
 
   many-ends : (rows : List (List Value)) (lv l : Value) (ls : List Value) (s : State) → Home s.cells p (map_home p) → IsList s.cells (l ∷ ls) lv → InRows s.cells rows (l ∷ ls)
       → AllEnd w f rows s → Gives rows lv s
@@ -299,11 +300,11 @@ module _ (w : PlainSetting) (knows : Knows w.codes) (f l m : Value) (ms : List V
   lists-are : IsList begun.cells (l ∷ m ∷ ms) lists
   lists-are = list-more inner.cells l rest (m ∷ ms) (list-later kept inner kept-inner (m ∷ ms) rest (rest-is (m ∷ ms) ready))
 
-  entered-iff : has_text 133 ≡ true → (e : End) (t : State)
-      → Iff (CallEnds w (value.Prim (record { 0 = 133 })) (f ∷ l ∷ m ∷ ms) s e t) (CallEnds w (value.Closure (code_no 9) home_at) (f ∷ lists ∷ []) begun e t)
+  entered-iff : has_text names.MAP ≡ true → (e : End) (t : State)
+      → Iff (CallEnds w (value.Prim (record { 0 = names.MAP })) (f ∷ l ∷ m ∷ ms) s e t) (CallEnds w (value.Closure (code_no 9) home_at) (f ∷ lists ∷ []) begun e t)
   entered-iff is_text e t =
       iff-then
-      (text-iff w (record { 0 = 133 }) (f ∷ l ∷ m ∷ ms) s ready t (text_code 133 map_text) map_text (code_no 15) home_at e refl is_text knows.map_text refl (text-is w s))
+      (text-iff w (record { 0 = names.MAP }) (f ∷ l ∷ m ∷ ms) s ready t (text_code names.MAP map_text) map_text (code_no 15) home_at e refl is_text knows.map_text refl (text-is w s))
       (iff-then
       (case-iff w (code_no 15) home_at (f ∷ l ∷ m ∷ ms) ready (procedure_code (code_no 15) (one_case (17 ∷ 18 ∷ []) (Some 19) map_body) true) (formals (17 ∷ 18 ∷ []) (Some 19)) map_body e t knows.map_body
       (ap (λ h. if h then Some (formals (17 ∷ 18 ∷ []) (Some 19), map_body) else None) (two-and-more (length (m ∷ ms)))))
@@ -315,13 +316,13 @@ module _ (w : PlainSetting) (knows : Knows w.codes) (f l m : Value) (ms : List V
       (cons-is w (var 18) place inner inner l (own w inner place entries home_at (map_home home_at) inside-inner (label 18) l refl) (var 19) rest inner (own w inner place entries home_at (map_home home_at) inside-inner (label 19) rest refl)))))
 
   module _ (rows : List (List Value)) (r : InRows s.cells rows (l ∷ m ∷ ms)) where
-    pub map-ended : AllEnd w f rows s → (e : End) × (t : State) × CallEnds w (value.Prim (record { 0 = 133 })) (f ∷ l ∷ m ∷ ms) s e t × MapDid w f rows s e t
+    pub map-ended : AllEnd w f rows s → (e : End) × (t : State) × CallEnds w (value.Prim (record { 0 = names.MAP })) (f ∷ l ∷ m ∷ ms) s e t × MapDid w f rows s e t
     unfolding has_text
     map-ended give =
         let d = many-ends w knows f home_at rows lists l (m ∷ ms) begun home-begun lists-are (rows-later s begun far-begun r) (all-end-later w f rows s begun far-begun give) in
         (d.0, d.1, (entered-iff refl d.0 d.1).1 d.2, did-from w f rows d.0 s begun d.1 far-begun d.3)
 
-    pub map-only : (e : End) (t : State) → CallEnds w (value.Prim (record { 0 = 133 })) (f ∷ l ∷ m ∷ ms) s e t → MapDid w f rows s e t
+    pub map-only : (e : End) (t : State) → CallEnds w (value.Prim (record { 0 = names.MAP })) (f ∷ l ∷ m ∷ ms) s e t → MapDid w f rows s e t
     unfolding has_text
     map-only e t called =
         did-from w f rows e s begun t far-begun

@@ -3,6 +3,8 @@ use Rattle.std.proofs.Common.{◌≡◌, ℕ, suc, List, [], ◌∷◌, Some, No
 use Rattle.std.specs.Prelude.{nat_le}
 use Rattle.std.specs.Map.{lookup}
 use Rattle.std.proofs.lemmas.Bool.{le-leb}
+use Rattle.sx_base.specs.declared.op.names.TheConstants.{APPLY}
+use Rattle.sx_base.specs.declared.op.names.TheConstants as ops
 use Rattle.sx_region.specs.declared.region.Place.{Place}
 use Rattle.sx_core.specs.Core.{PlainCore}
 use Rattle.sx_core.specs.Labels.{same_label}
@@ -19,7 +21,6 @@ use Rattle.sx_eval.specs.Procedures.{has_text}
 use Rattle.sx_eval.specs.Setting.{PlainSetting}
 use Rattle.sx_eval.specs.State.{State, store, next_place, with_cell}
 use Rattle.sx_eval.specs.Variables.{Entries}
-use Rattle.sx_eval.specs.declared.spread.TheConstants.{APPLY}
 use Rattle.sx_eval_laws.specs.Kept.{Later}
 use Rattle.sx_list_laws.specs.Runs.{IsList}
 use Rattle.sx_list_laws.proofs.RunLemmas.{stored_runs}
@@ -75,13 +76,13 @@ module _ (w : PlainSetting) (knows : Knows w.codes) (code go m n : ℕ) (body : 
       pub pairs-then : Pairs u.cells row rest (l ∷ more)
       pairs-then = pairs-later s u far pairs
 
-      abbrev pub asked : Listed w (value.Prim (record { 0 = 133 })) (value.Prim (record { 0 = 51 }) ∷ lv ∷ []) u row
+      abbrev pub asked : Listed w (value.Prim (record { 0 = ops.MAP })) (value.Prim (record { 0 = ops.CAR }) ∷ lv ∷ []) u row
       asked = cars-given w knows u lv (l ∷ more) lists-then row rest pairs-then
 
       pub asked-later : Later u asked.state
       asked-later = cars-later w knows u lv (l ∷ more) lists-then row rest pairs-then
 
-      abbrev pub left : Listed w (value.Prim (record { 0 = 133 })) (value.Prim (record { 0 = 52 }) ∷ lv ∷ []) u rest
+      abbrev pub left : Listed w (value.Prim (record { 0 = ops.MAP })) (value.Prim (record { 0 = ops.CDR }) ∷ lv ∷ []) u rest
       left = cdrs-given w knows u lv (l ∷ more) lists-then row rest pairs-then
 
       pub left-later : Later u left.state

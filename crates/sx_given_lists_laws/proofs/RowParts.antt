@@ -1,5 +1,6 @@
 -- `(map car ls)`, `(map cdr ls)` and `(apply f (map car ls))`, where ls is a list of lists.
 use Rattle.std.proofs.Common.{◌≡◌, List, [], ◌∷◌, Option, Some, None, map, refl, ap, ap₂, sym, subst}
+use Rattle.sx_base.specs.declared.op.names.TheConstants as names
 use Rattle.sx_region.specs.declared.region.Place.{Place}
 use Rattle.sx_core.specs.Core.{PlainCore}
 use Rattle.sx_value.specs.declared.value.Value.{Value}
@@ -57,71 +58,71 @@ cdrs-are no_pair = refl
 cdrs-are (one_pair {l = l} e r) = ap₂ (λ z zs. z ∷ zs) (ap (cdr_or l) e) (cdrs-are r)
 
 module _ (w : PlainSetting) (s : State) where
-  cars-by : {xs ds ls : List Value} → Pairs s.cells xs ds ls → AllGiveBy w (value.Prim (record { 0 = 51 })) (car_in s.cells) ls s
+  cars-by : {xs ds ls : List Value} → Pairs s.cells xs ds ls → AllGiveBy w (value.Prim (record { 0 = names.CAR })) (car_in s.cells) ls s
   cars-by no_pair = tt
   cars-by (one_pair {x = x} {d = d} {l = l} e r) =
-      (λ t k. (t, subst (λ v. Calls w (value.Prim (record { 0 = 51 })) (l ∷ []) t v t) (sym (ap (car_or l) e)) (car-called w l x d t (pair_still s.cells t.cells (later-stay s t k) l x d e))), cars-by r)
+      (λ t k. (t, subst (λ v. Calls w (value.Prim (record { 0 = names.CAR })) (l ∷ []) t v t) (sym (ap (car_or l) e)) (car-called w l x d t (pair_still s.cells t.cells (later-stay s t k) l x d e))), cars-by r)
 
-  cdrs-by : {xs ds ls : List Value} → Pairs s.cells xs ds ls → AllGiveBy w (value.Prim (record { 0 = 52 })) (cdr_in s.cells) ls s
+  cdrs-by : {xs ds ls : List Value} → Pairs s.cells xs ds ls → AllGiveBy w (value.Prim (record { 0 = names.CDR })) (cdr_in s.cells) ls s
   cdrs-by no_pair = tt
   cdrs-by (one_pair {x = x} {d = d} {l = l} e r) =
-      (λ t k. (t, subst (λ v. Calls w (value.Prim (record { 0 = 52 })) (l ∷ []) t v t) (sym (ap (cdr_or l) e)) (cdr-called w l x d t (pair_still s.cells t.cells (later-stay s t k) l x d e))), cdrs-by r)
+      (λ t k. (t, subst (λ v. Calls w (value.Prim (record { 0 = names.CDR })) (l ∷ []) t v t) (sym (ap (cdr_or l) e)) (cdr-called w l x d t (pair_still s.cells t.cells (later-stay s t k) l x d e))), cdrs-by r)
 
 -- by whatever calls a procedure on each element of a list
 module _ (w : PlainSetting) (g : Value) (lv : Value) (ls row rest : List Value) (s : State) (pairs : Pairs s.cells row rest ls) where
-  pub cars-listed : (AllGive w (value.Prim (record { 0 = 51 })) ls s → Maps w g (value.Prim (record { 0 = 51 }) ∷ lv ∷ []) (value.Prim (record { 0 = 51 })) ls s)
-      → Listed w g (value.Prim (record { 0 = 51 }) ∷ lv ∷ []) s row
+  pub cars-listed : (AllGive w (value.Prim (record { 0 = names.CAR })) ls s → Maps w g (value.Prim (record { 0 = names.CAR }) ∷ lv ∷ []) (value.Prim (record { 0 = names.CAR })) ls s)
+      → Listed w g (value.Prim (record { 0 = names.CAR }) ∷ lv ∷ []) s row
   cars-listed mapping = record {
     value = m.value;
     state = m.state;
     called = m.called;
     list = subst (λ ys. IsList m.state.cells ys m.value) (cars-are pairs)
-        (subst (λ ys. IsList m.state.cells ys m.value) (by-answers w (value.Prim (record { 0 = 51 })) (car_in s.cells) ls m.answers s m.state (cars-by w s pairs) m.in_turn) m.list);
+        (subst (λ ys. IsList m.state.cells ys m.value) (by-answers w (value.Prim (record { 0 = names.CAR })) (car_in s.cells) ls m.answers s m.state (cars-by w s pairs) m.in_turn) m.list);
   }
     where
-      m : Maps w g (value.Prim (record { 0 = 51 }) ∷ lv ∷ []) (value.Prim (record { 0 = 51 })) ls s
-      m = mapping (by-all w (value.Prim (record { 0 = 51 })) (car_in s.cells) ls s (cars-by w s pairs))
+      m : Maps w g (value.Prim (record { 0 = names.CAR }) ∷ lv ∷ []) (value.Prim (record { 0 = names.CAR })) ls s
+      m = mapping (by-all w (value.Prim (record { 0 = names.CAR })) (car_in s.cells) ls s (cars-by w s pairs))
 
-  pub cdrs-listed : (AllGive w (value.Prim (record { 0 = 52 })) ls s → Maps w g (value.Prim (record { 0 = 52 }) ∷ lv ∷ []) (value.Prim (record { 0 = 52 })) ls s)
-      → Listed w g (value.Prim (record { 0 = 52 }) ∷ lv ∷ []) s rest
+  pub cdrs-listed : (AllGive w (value.Prim (record { 0 = names.CDR })) ls s → Maps w g (value.Prim (record { 0 = names.CDR }) ∷ lv ∷ []) (value.Prim (record { 0 = names.CDR })) ls s)
+      → Listed w g (value.Prim (record { 0 = names.CDR }) ∷ lv ∷ []) s rest
   cdrs-listed mapping = record {
     value = m.value;
     state = m.state;
     called = m.called;
     list = subst (λ ys. IsList m.state.cells ys m.value) (cdrs-are pairs)
-        (subst (λ ys. IsList m.state.cells ys m.value) (by-answers w (value.Prim (record { 0 = 52 })) (cdr_in s.cells) ls m.answers s m.state (cdrs-by w s pairs) m.in_turn) m.list);
+        (subst (λ ys. IsList m.state.cells ys m.value) (by-answers w (value.Prim (record { 0 = names.CDR })) (cdr_in s.cells) ls m.answers s m.state (cdrs-by w s pairs) m.in_turn) m.list);
   }
     where
-      m : Maps w g (value.Prim (record { 0 = 52 }) ∷ lv ∷ []) (value.Prim (record { 0 = 52 })) ls s
-      m = mapping (by-all w (value.Prim (record { 0 = 52 })) (cdr_in s.cells) ls s (cdrs-by w s pairs))
+      m : Maps w g (value.Prim (record { 0 = names.CDR }) ∷ lv ∷ []) (value.Prim (record { 0 = names.CDR })) ls s
+      m = mapping (by-all w (value.Prim (record { 0 = names.CDR })) (cdr_in s.cells) ls s (cdrs-by w s pairs))
 
 module _ (w : PlainSetting) (knows : Knows w.codes) (s : State) (lv : Value) (ls : List Value) (lists : IsList s.cells ls lv) (row rest : List Value) (pairs : Pairs s.cells row rest ls) where
-  pub cars-given : Listed w (value.Prim (record { 0 = 133 })) (value.Prim (record { 0 = 51 }) ∷ lv ∷ []) s row
-  cars-given = cars-listed w (value.Prim (record { 0 = 133 })) lv ls row rest s pairs (λ give. map-given w s knows (value.Prim (record { 0 = 51 })) lv ls lists give)
+  pub cars-given : Listed w (value.Prim (record { 0 = names.MAP })) (value.Prim (record { 0 = names.CAR }) ∷ lv ∷ []) s row
+  cars-given = cars-listed w (value.Prim (record { 0 = names.MAP })) lv ls row rest s pairs (λ give. map-given w s knows (value.Prim (record { 0 = names.CAR })) lv ls lists give)
 
-  pub cdrs-given : Listed w (value.Prim (record { 0 = 133 })) (value.Prim (record { 0 = 52 }) ∷ lv ∷ []) s rest
-  cdrs-given = cdrs-listed w (value.Prim (record { 0 = 133 })) lv ls row rest s pairs (λ give. map-given w s knows (value.Prim (record { 0 = 52 })) lv ls lists give)
+  pub cdrs-given : Listed w (value.Prim (record { 0 = names.MAP })) (value.Prim (record { 0 = names.CDR }) ∷ lv ∷ []) s rest
+  cdrs-given = cdrs-listed w (value.Prim (record { 0 = names.MAP })) lv ls row rest s pairs (λ give. map-given w s knows (value.Prim (record { 0 = names.CDR })) lv ls lists give)
 
   pub cars-later : Later s cars-given.state
-  cars-later = calls-later w (value.Prim (record { 0 = 133 })) (value.Prim (record { 0 = 51 }) ∷ lv ∷ []) s cars-given.value cars-given.state cars-given.called
+  cars-later = calls-later w (value.Prim (record { 0 = names.MAP })) (value.Prim (record { 0 = names.CAR }) ∷ lv ∷ []) s cars-given.value cars-given.state cars-given.called
 
   pub cdrs-later : Later s cdrs-given.state
-  cdrs-later = calls-later w (value.Prim (record { 0 = 133 })) (value.Prim (record { 0 = 52 }) ∷ lv ∷ []) s cdrs-given.value cdrs-given.state cdrs-given.called
+  cdrs-later = calls-later w (value.Prim (record { 0 = names.MAP })) (value.Prim (record { 0 = names.CDR }) ∷ lv ∷ []) s cdrs-given.value cdrs-given.state cdrs-given.called
 
   module _ (c : PlainCore) (scope : Place) (h : Evaluates w c scope s lv s) where
     pub cars-is : Evaluates w (cars c) scope s cars-given.value cars-given.state
     cars-is =
-        call-two w (prim 133) (prim 51) c scope s s s s cars-given.state (value.Prim (record { 0 = 133 })) (value.Prim (record { 0 = 51 })) lv cars-given.value
-        (primitive-is w (record { 0 = 133 }) scope s) (primitive-is w (record { 0 = 51 }) scope s) h cars-given.called
+        call-two w (prim names.MAP) (prim names.CAR) c scope s s s s cars-given.state (value.Prim (record { 0 = names.MAP })) (value.Prim (record { 0 = names.CAR })) lv cars-given.value
+        (primitive-is w (record { 0 = names.MAP }) scope s) (primitive-is w (record { 0 = names.CAR }) scope s) h cars-given.called
 
     pub cdrs-is : Evaluates w (cdrs c) scope s cdrs-given.value cdrs-given.state
     cdrs-is =
-        call-two w (prim 133) (prim 52) c scope s s s s cdrs-given.state (value.Prim (record { 0 = 133 })) (value.Prim (record { 0 = 52 })) lv cdrs-given.value
-        (primitive-is w (record { 0 = 133 }) scope s) (primitive-is w (record { 0 = 52 }) scope s) h cdrs-given.called
+        call-two w (prim names.MAP) (prim names.CDR) c scope s s s s cdrs-given.state (value.Prim (record { 0 = names.MAP })) (value.Prim (record { 0 = names.CDR })) lv cdrs-given.value
+        (primitive-is w (record { 0 = names.MAP }) scope s) (primitive-is w (record { 0 = names.CDR }) scope s) h cdrs-given.called
 
     -- f is called on the row
     pub on-cars-iff : (e : PlainCore) (f : Value) → Evaluates w e scope s f s → (r : End) (t : State) → Iff (ExpressionEnds w (on_cars e c) scope s r t) (CallEnds w f row cars-given.state r t)
     on-cars-iff e f k r t =
         iff-then
-        (two-iff w (prim 42) e (cars c) scope s s s cars-given.state t (value.Prim (record { 0 = 42 })) f cars-given.value r (primitive-is w (record { 0 = 42 }) scope s) k cars-is)
+        (two-iff w (prim names.APPLY) e (cars c) scope s s s cars-given.state t (value.Prim (record { 0 = names.APPLY })) f cars-given.value r (primitive-is w (record { 0 = names.APPLY }) scope s) k cars-is)
         (apply-iff w f [] row cars-given.value cars-given.state r t (elements-of cars-given.state.cells row cars-given.value cars-given.list))

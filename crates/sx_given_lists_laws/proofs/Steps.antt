@@ -2,6 +2,7 @@
 use Rattle.std.proofs.Common.{◌≡◌, ◌+◌, ℕ, zero, suc, List, [], ◌∷◌, ◌++◌, Some, None, Bool, true, false, length, Ok, Err, ap, sym, ◌∙◌, arith, if◌then◌else◌, nat_eq}
 use Rattle.sx_base.specs.declared.name.CodeNo.{CodeNo}
 use Rattle.sx_base.specs.declared.op.Op.{Op}
+use Rattle.sx_base.specs.declared.op.names.TheConstants as names
 use Rattle.sx_region.specs.declared.region.Place.{Place}
 use Rattle.sx_core.specs.Core.{PlainCore, two_armed, sequence, call, PlainCores, none, more, PlainCode}
 use Rattle.sx_core.specs.declared.formals.Formals.{Formals}
@@ -15,7 +16,6 @@ use Rattle.sx_eval.specs.Meaning.{eval_of, expressed, unrolled, operands, in_seq
 use Rattle.sx_eval.specs.Procedures.{first_case, bindings, has_text, text_number, text_body, truth_of}
 use Rattle.sx_eval.specs.Setting.{PlainSetting}
 use Rattle.sx_eval.specs.State.{State, faulted, next_place, with_cell}
-use Rattle.sx_eval.specs.declared.spread.TheConstants.{APPLY}
 use Rattle.sx_eval.proofs.Fuel.{eval_of_is}
 use Rattle.sx_eval_laws.specs.Runs.{ByFuel}
 use Rattle.sx_eval_laws.proofs.Carried.{AllCarried, all_carried}
@@ -192,13 +192,13 @@ module _ (w : PlainSetting) where
 
   -- the call that a call of `apply` stands for
   apply-back : (f : Value) (front xs : List Value) (l : Value) (s : State) (r : End) (t : State) → list_elements s.cells l ≡ Some xs
-      → CallEnds w (value.Prim (record { 0 = APPLY })) (f ∷ (front ++ l ∷ [])) s r t → CallEnds w f (front ++ xs) s r t
+      → CallEnds w (value.Prim (record { 0 = names.APPLY })) (f ∷ (front ++ l ∷ [])) s r t → CallEnds w f (front ++ xs) s r t
   apply-back f front xs l s r t has g =
-      enough-ends (call_of w f (front ++ xs) s) (all_carried.calls w (f ∷ (front ++ xs)) s) r t g.0 (length xs) (call-real (value.Prim (record { 0 = APPLY })) (f ∷ (front ++ l ∷ [])) s r t g)
+      enough-ends (call_of w f (front ++ xs) s) (all_carried.calls w (f ∷ (front ++ xs)) s) r t g.0 (length xs) (call-real (value.Prim (record { 0 = names.APPLY })) (f ∷ (front ++ l ∷ [])) s r t g)
       (sym (applies w f front xs l s (length xs + g.0) g.0 (omega arith) has) ∙ g.1 (length xs))
 
   pub apply-iff : (f : Value) (front xs : List Value) (l : Value) (s : State) (r : End) (t : State) → list_elements s.cells l ≡ Some xs
-      → Iff (CallEnds w (value.Prim (record { 0 = APPLY })) (f ∷ (front ++ l ∷ [])) s r t) (CallEnds w f (front ++ xs) s r t)
+      → Iff (CallEnds w (value.Prim (record { 0 = names.APPLY })) (f ∷ (front ++ l ∷ [])) s r t) (CallEnds w f (front ++ xs) s r t)
   apply-iff f front xs l s r t has = (apply-back f front xs l s r t has, apply-ends w f front xs l s r t has)
 
   -- Of procedures and texts.
@@ -222,7 +222,7 @@ module _ (w : PlainSetting) where
   case-iff number parent args s code f body r t is takes = (case-back number parent args s code f body r t is takes, case-ends w number parent args s code f body r t is takes)
 
   text-back : (op : Op) (args : List Value) (s t u : State) (code : PlainCode) (body : PlainCore) (number : CodeNo) (parent : Place) (r : End)
-      → nat_eq op.0 APPLY ≡ false → has_text op.0 ≡ true → code_at w.codes (text_number op.0) ≡ Some code → text_body (Some code) ≡ Some body
+      → nat_eq op.0 names.APPLY ≡ false → has_text op.0 ≡ true → code_at w.codes (text_number op.0) ≡ Some code → text_body (Some code) ≡ Some body
       → Evaluates w body (next_place s) (with_cell (cell.Scope [] None) s) (value.Closure number parent) t
       → CallEnds w (value.Prim op) args s r u → Ends (procedure_called w (eval_of w) number parent args t) r u
   unfolding op_called
@@ -238,7 +238,7 @@ module _ (w : PlainSetting) where
           ∙ ap (λ o. by_text w (eval_of w) args s n (text_body o)) is ∙ ap (by_text w (eval_of w) args s n) text)
 
   pub text-iff : (op : Op) (args : List Value) (s t u : State) (code : PlainCode) (body : PlainCore) (number : CodeNo) (parent : Place) (r : End)
-      → nat_eq op.0 APPLY ≡ false → has_text op.0 ≡ true → code_at w.codes (text_number op.0) ≡ Some code → text_body (Some code) ≡ Some body
+      → nat_eq op.0 names.APPLY ≡ false → has_text op.0 ≡ true → code_at w.codes (text_number op.0) ≡ Some code → text_body (Some code) ≡ Some body
       → Evaluates w body (next_place s) (with_cell (cell.Scope [] None) s) (value.Closure number parent) t
       → Iff (CallEnds w (value.Prim op) args s r u) (Ends (procedure_called w (eval_of w) number parent args t) r u)
   text-iff op args s t u code body number parent r other some is text given =

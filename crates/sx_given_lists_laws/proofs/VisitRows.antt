@@ -1,6 +1,7 @@
 -- `for-each` on two lists and more, by its text: it calls `map` and gives nothing of it.
 use Rattle.std.proofs.Common.{◌≡◌, List, [], ◌∷◌, Some, None, true, false, length, Ok, Err, refl, ap, subst, if◌then◌else◌}
 use Rattle.sx_base.specs.declared.atom.Atom.TheVariants as a
+use Rattle.sx_base.specs.declared.op.names.TheConstants as names
 use Rattle.sx_region.specs.declared.region.Place.{Place}
 use Rattle.sx_region.proofs.Laws.{slice_get-added}
 use Rattle.sx_core.specs.Core.{PlainCore, one_armed, none, more}
@@ -71,29 +72,29 @@ module _ (w : PlainSetting) (knows : Knows w.codes) (f l m : Value) (ms : List V
       (home-later outside kept outside-kept p [] (record { around = None; is = slice_get-added s.cells (cell.Scope [] None) }))
 
   abbrev mapping : PlainCore
-  mapping = app (prim 42) (prim 133 ∷ var 23 ∷ var 24 ∷ var 25 ∷ [])
+  mapping = app (prim names.APPLY) (prim names.MAP ∷ var 23 ∷ var 24 ∷ var 25 ∷ [])
 
   abbrev no_value : PlainCore
-  no_value = one_armed (datum_at 110 49 51 (a.Bool false)) (datum_at 110 52 54 (a.Bool false))
+  no_value = one_armed (datum_at names.FOR_EACH 49 51 (a.Bool false)) (datum_at names.FOR_EACH 52 54 (a.Bool false))
 
   abbrev go_on : Go
   go_on = λ x. in_sequence w (eval_of w) (more no_value none) q
 
-  mapping-iff : (r : End) (t : State) → Iff (ExpressionEnds w mapping q inner r t) (CallEnds w (value.Prim (record { 0 = 133 })) (f ∷ l ∷ m ∷ ms) inner r t)
+  mapping-iff : (r : End) (t : State) → Iff (ExpressionEnds w mapping q inner r t) (CallEnds w (value.Prim (record { 0 = names.MAP })) (f ∷ l ∷ m ∷ ms) inner r t)
   mapping-iff r t =
       iff-then
-      (four-iff w (prim 42) (prim 133) (var 23) (var 24) (var 25) q inner inner inner inner inner inner t (value.Prim (record { 0 = 42 })) (value.Prim (record { 0 = 133 })) f l rest r
-      (primitive-is w (record { 0 = 42 }) q inner) (primitive-is w (record { 0 = 133 }) q inner)
+      (four-iff w (prim names.APPLY) (prim names.MAP) (var 23) (var 24) (var 25) q inner inner inner inner inner inner t (value.Prim (record { 0 = names.APPLY })) (value.Prim (record { 0 = names.MAP })) f l rest r
+      (primitive-is w (record { 0 = names.APPLY }) q inner) (primitive-is w (record { 0 = names.MAP }) q inner)
       (own w inner q entries p [] inside (label 23) f refl) (own w inner q entries p [] inside (label 24) l refl) (own w inner q entries p [] inside (label 25) rest refl))
-      (apply-iff w (value.Prim (record { 0 = 133 })) (f ∷ l ∷ []) (m ∷ ms) rest inner r t (elements-of inner.cells (m ∷ ms) rest (list-later kept inner kept-inner (m ∷ ms) rest (rest-is (m ∷ ms) outside))))
+      (apply-iff w (value.Prim (record { 0 = names.MAP })) (f ∷ l ∷ []) (m ∷ ms) rest inner r t (elements-of inner.cells (m ∷ ms) rest (list-later kept inner kept-inner (m ∷ ms) rest (rest-is (m ∷ ms) outside))))
 
   second : (t : State) → Evaluates w no_value q t value.Unspecified t
   second t = no-arm w _ _ q t t (truth false) (bool-is w _ false q t) refl
 
-  entered-iff : has_text 110 ≡ true → (r : End) (t : State) → Iff (CallEnds w (value.Prim (record { 0 = 110 })) (f ∷ l ∷ m ∷ ms) s r t) (Split (eval_of w mapping q inner) go_on r t)
+  entered-iff : has_text names.FOR_EACH ≡ true → (r : End) (t : State) → Iff (CallEnds w (value.Prim (record { 0 = names.FOR_EACH })) (f ∷ l ∷ m ∷ ms) s r t) (Split (eval_of w mapping q inner) go_on r t)
   entered-iff is_text r t =
       iff-then
-      (text-iff w (record { 0 = 110 }) (f ∷ l ∷ m ∷ ms) s outside t (text_code 110 for_each_text) for_each_text (code_no 21) p r refl is_text knows.for_each_text refl
+      (text-iff w (record { 0 = names.FOR_EACH }) (f ∷ l ∷ m ∷ ms) s outside t (text_code names.FOR_EACH for_each_text) for_each_text (code_no 21) p r refl is_text knows.for_each_text refl
       (procedure-is w (code_no 21) (one_case (23 ∷ 24 ∷ []) (Some 25) for_each_body) true p outside))
       (iff-then
       (case-iff w (code_no 21) p (f ∷ l ∷ m ∷ ms) outside (procedure_code (code_no 21) (one_case (23 ∷ 24 ∷ []) (Some 25) for_each_body) true) (formals (23 ∷ 24 ∷ []) (Some 25)) for_each_body r t knows.for_each_body
@@ -102,8 +103,8 @@ module _ (w : PlainSetting) (knows : Knows w.codes) (f l m : Value) (ms : List V
 
   module _ (rows : List (List Value)) (r : InRows s.cells rows (l ∷ m ∷ ms)) where
     -- what `map` did, and nothing of it
-    visited : (e : End) (t : State) → CallEnds w (value.Prim (record { 0 = 133 })) (f ∷ l ∷ m ∷ ms) inner e t → MapDid w f rows inner e t → has_text 110 ≡ true
-        → (e : End) × (t : State) × CallEnds w (value.Prim (record { 0 = 110 })) (f ∷ l ∷ m ∷ ms) s e t × VisitDid w f rows s e t
+    visited : (e : End) (t : State) → CallEnds w (value.Prim (record { 0 = names.MAP })) (f ∷ l ∷ m ∷ ms) inner e t → MapDid w f rows inner e t → has_text names.FOR_EACH ≡ true
+        → (e : End) × (t : State) × CallEnds w (value.Prim (record { 0 = names.FOR_EACH })) (f ∷ l ∷ m ∷ ms) s e t × VisitDid w f rows s e t
     visited (Ok v) t h d is_text = (
       Ok value.Unspecified,
       t,
@@ -112,7 +113,7 @@ module _ (w : PlainSetting) (knows : Knows w.codes) (f l m : Value) (ms : List V
     )
     visited (Err b) t h d is_text = (Err b, t, (entered-iff is_text (Err b) t).1 (stopped ((mapping-iff (Err b) t).1 h)), stops-from w f rows b s inner t far d)
 
-    pub for-each-ended : AllEnd w f rows s → (e : End) × (t : State) × CallEnds w (value.Prim (record { 0 = 110 })) (f ∷ l ∷ m ∷ ms) s e t × VisitDid w f rows s e t
+    pub for-each-ended : AllEnd w f rows s → (e : End) × (t : State) × CallEnds w (value.Prim (record { 0 = names.FOR_EACH })) (f ∷ l ∷ m ∷ ms) s e t × VisitDid w f rows s e t
     unfolding has_text
     for-each-ended give =
         let d = map-ended w knows f l m ms inner rows (rows-later s inner far r) (all-end-later w f rows s inner far give) in
@@ -125,6 +126,6 @@ module _ (w : PlainSetting) (knows : Knows w.codes) (f l m : Value) (ms : List V
         subst (λ c. VisitDid w f rows s e c) (ends-one-state (go_on v u) (Ok value.Unspecified) e u t (second u) onward)
         (subst (λ c. VisitDid w f rows s c u) (ends-one-end (go_on v u) (Ok value.Unspecified) e u t (second u) onward) (d.0, in-turn-from w f rows d.0 s inner u far d.1, refl))
 
-    pub for-each-only : (e : End) (t : State) → CallEnds w (value.Prim (record { 0 = 110 })) (f ∷ l ∷ m ∷ ms) s e t → VisitDid w f rows s e t
+    pub for-each-only : (e : End) (t : State) → CallEnds w (value.Prim (record { 0 = names.FOR_EACH })) (f ∷ l ∷ m ∷ ms) s e t → VisitDid w f rows s e t
     unfolding has_text
     for-each-only e t called = did-by e t ((entered-iff refl e t).0 called)

@@ -19,10 +19,18 @@ use sx_core::core_form::CoreForm;
 use sx_shapes::forms::shape;
 use sx_shapes::lists::is_id;
 use sx_shapes::shape::{BindingSpec, Shape};
-use sx_standing::binders::BoundSpec;
+use sx_standing::binders::{BinderContext, BoundSpec};
 use sx_standing::expansion::{Expansion, symbol_in};
 use sx_standing::standing::{Role, Standing, is_keyword, role_of};
 use sx_syntax::syn::{Opened, Syn};
+
+/// A form of a body, and what is known round it.
+#[derive(Drop)]
+struct ItemContext<'a> {
+    at: &'a BodyAt,
+    depth: u16,
+    form: &'a Syn,
+}
 
 /// Whether definitions and expressions may be mixed.
 fn is_mixed(kind: BodyKind) -> bool
@@ -187,7 +195,12 @@ fn define(
     if taken.has_expression && !is_mixed(at.kind) {
         return Err(state.fault_form(FaultKind::DefinitionPlace, form, &at.place));
     }
-    let label = state.bind_variable(&at.frame, &at.place, at.level, is_top(at.kind), id)?;
+    let binders = BinderContext {
+        frame: &at.frame,
+        place: &at.place,
+        level: at.level,
+    };
+    let label = state.bind_variable(&binders, is_top(at.kind), id)?;
     in_time(state, at, taken, id)?;
     Ok(label)
 }
@@ -206,7 +219,12 @@ pub fn define_keyword(
     if taken.has_expression && !is_mixed(at.kind) {
         return Err(state.fault_form(FaultKind::DefinitionPlace, form, &at.place));
     }
-    let bound = state.bind_keyword(&at.frame, &at.place, at.level, spec)?;
+    let binders = BinderContext {
+        frame: &at.frame,
+        place: &at.place,
+        level: at.level,
+    };
+    let bound = state.bind_keyword(&binders, spec)?;
     keyword_in_time(state, at, taken, &spec.id)?;
     Ok(bound)
 }
@@ -228,82 +246,76 @@ fn defined(
 #[tactic(auto, unfolding(crate::specs::Items::define_item))]
 fn define_item(
     state: &mut Expansion,
-    at: &BodyAt,
-    depth: u16,
+    context: &ItemContext,
     taken: &mut Taken,
-    form: &Syn,
     shape: Shape,
 ) -> Result<(), Stop>
-    ensures { GivesAfter (λ _. taken.new) result state.new (define_item at.now depth taken.old form.now shape state.old) }
+    ensures { GivesAfter (λ _. taken.new) result state.new (define_item context.now.at.now context.now.depth taken.old context.now.form.now shape state.old) }
 {
     match shape {
         Shape::Define(id, value) => {
-            let label = define(state, at, taken, form, &id)?;
-            defined(state, at, depth, taken, Waits::Variable(label, value))
-        }
-        Shape::DefineProcedure(id, ids, forms) => {
-            let label = define(state, at, taken, form, &id)?;
-            let whole = form.share()?;
+            let label = define(state, context.at, taken, context.form, &id)?;
             defined(
                 state,
-                at,
-                depth,
+                context.at,
+                context.depth,
+                taken,
+                Waits::Variable(label, value),
+            )
+        }
+        Shape::DefineProcedure(id, ids, forms) => {
+            let label = define(state, context.at, taken, context.form, &id)?;
+            let whole = context.form.share()?;
+            defined(
+                state,
+                context.at,
+                context.depth,
                 taken,
                 Waits::Procedure(label, whole, ids, forms),
             )
         }
-        _ => Err(state.fault_form(FaultKind::BadForm, form, &at.place)),
+        _ => Err(state.fault_form(FaultKind::BadForm, context.form, &context.at.place)),
     }
 }
 
 /// A form that waits as an expression.
-fn alone(
-    state: &mut Expansion,
-    at: &BodyAt,
-    depth: u16,
-    taken: &mut Taken,
-    form: &Syn,
-) -> Result<Item, Stop>
-    ensures { GivesAfter (λ i. (taken.new, i)) result state.new (alone (wait at.now depth taken.old form.now) state.old) }
+fn alone(state: &mut Expansion, context: &ItemContext, taken: &mut Taken) -> Result<Item, Stop>
+    ensures { GivesAfter (λ i. (taken.new, i)) result state.new (alone (wait context.now.at.now context.now.depth taken.old context.now.form.now) state.old) }
 {
-    wait(state, at, depth, taken, form)?;
+    wait(state, context.at, context.depth, taken, context.form)?;
     Ok(Item::Nothing)
 }
 
 fn target_item(
     state: &mut Expansion,
-    at: &BodyAt,
-    depth: u16,
+    context: &ItemContext,
     taken: &mut Taken,
-    form: &Syn,
     standing: &Standing,
 ) -> Result<Item, Stop>
-    ensures { GivesAfter (λ i. (taken.new, i)) result state.new (target_item at.now depth taken.old form.now standing.now state.old) }
+    ensures { GivesAfter (λ i. (taken.new, i)) result state.new (target_item context.now.at.now context.now.depth taken.old context.now.form.now standing.now state.old) }
 {
     match standing {
         Standing::Keyword(label) => Ok(Item::SetUse(label.share()?)),
-        _ => alone(state, at, depth, taken, form),
+        _ => alone(state, context, taken),
     }
 }
 
 fn set_item(
     state: &mut Expansion,
-    at: &BodyAt,
-    depth: u16,
+    context: &ItemContext,
     taken: &mut Taken,
-    form: &Syn,
     which: CoreForm,
 ) -> Result<Item, Stop>
-    ensures { GivesAfter (λ i. (taken.new, i)) result state.new (set_item at.now depth taken.old form.now (shape which form.now at.now.place) state.old) }
+    ensures { GivesAfter (λ i. (taken.new, i)) result state.new (set_item context.now.at.now context.now.depth taken.old context.now.form.now (shape which context.now.form.now context.now.at.now.place) state.old) }
 {
-    match shape(state.alloc(), form, which, &at.place) {
+    match shape(state.alloc(), context.form, which, &context.at.place) {
         Ok(Shape::Set(id, _)) => {
             keep(state, taken, &id)?;
             let standing = state.standing(&id)?;
-            target_item(state, at, depth, taken, form, &standing)
+            target_item(state, context, taken, &standing)
         }
-        Ok(_) => alone(state, at, depth, taken, form),
-        Err(Stop::Fault(_)) => alone(state, at, depth, taken, form),
+        Ok(_) => alone(state, context, taken),
+        Err(Stop::Fault(_)) => alone(state, context, taken),
         Err(Stop::Memory) => Err(Stop::Memory),
     }
 }
@@ -311,86 +323,80 @@ fn set_item(
 #[tactic(auto, unfolding(crate::specs::Items::begin_item))]
 fn begin_item(
     state: &mut Expansion,
-    at: &BodyAt,
+    context: &ItemContext,
     taken: &Taken,
-    form: &Syn,
     shape: Shape,
 ) -> Result<Item, Stop>
-    ensures { GivesAfter (λ i. (taken.now, i)) result state.new (begin_item at.now taken.now form.now shape state.old) }
+    ensures { GivesAfter (λ i. (taken.now, i)) result state.new (begin_item context.now.at.now taken.now context.now.form.now shape state.old) }
 {
     match shape {
         Shape::Begin(forms) => Ok(Item::Forms(forms)),
-        _ => Err(state.fault_form(FaultKind::BadForm, form, &at.place)),
+        _ => Err(state.fault_form(FaultKind::BadForm, context.form, &context.at.place)),
     }
 }
 
 #[tactic(auto, unfolding(crate::specs::Items::keywords_item))]
 fn keywords_item(
     state: &mut Expansion,
-    at: &BodyAt,
+    context: &ItemContext,
     taken: &Taken,
-    form: &Syn,
     which: CoreForm,
     shape: Shape,
 ) -> Result<Item, Stop>
-    ensures { GivesAfter (λ i. (taken.now, i)) result state.new (keywords_item at.now taken.now form.now which shape state.old) }
+    ensures { GivesAfter (λ i. (taken.now, i)) result state.new (keywords_item context.now.at.now taken.now context.now.form.now which shape state.old) }
 {
     match shape {
         Shape::DefineSyntax(id, init) => Ok(Item::Keyword(BindingSpec { id, init })),
         Shape::LetSyntax(specs, forms) => Ok(Item::Keywords(is_letrec_syntax(which), specs, forms)),
-        _ => Err(state.fault_form(FaultKind::BadForm, form, &at.place)),
+        _ => Err(state.fault_form(FaultKind::BadForm, context.form, &context.at.place)),
     }
 }
 
 #[tactic(auto, unfolding(crate::specs::Items::core_item))]
 fn core_item(
     state: &mut Expansion,
-    at: &BodyAt,
-    depth: u16,
+    context: &ItemContext,
     taken: &mut Taken,
-    form: &Syn,
     which: CoreForm,
 ) -> Result<Item, Stop>
-    ensures { GivesAfter (λ i. (taken.new, i)) result state.new (core_item at.now depth taken.old form.now which state.old) }
+    ensures { GivesAfter (λ i. (taken.new, i)) result state.new (core_item context.now.at.now context.now.depth taken.old context.now.form.now which state.old) }
 {
     match role_of(which) {
-        Role::Expression => alone(state, at, depth, taken, form),
-        Role::Assignment => set_item(state, at, depth, taken, form, which),
+        Role::Expression => alone(state, context, taken),
+        Role::Assignment => set_item(state, context, taken, which),
         Role::Sequence => {
-            let shape = shape(state.alloc(), form, which, &at.place)?;
-            begin_item(state, at, taken, form, shape)
+            let shape = shape(state.alloc(), context.form, which, &context.at.place)?;
+            begin_item(state, context, taken, shape)
         }
         Role::Definition => {
-            let shape = shape(state.alloc(), form, which, &at.place)?;
-            define_item(state, at, depth, taken, form, shape)?;
+            let shape = shape(state.alloc(), context.form, which, &context.at.place)?;
+            define_item(state, context, taken, shape)?;
             Ok(Item::Nothing)
         }
         Role::Keywords => {
-            let shape = shape(state.alloc(), form, which, &at.place)?;
-            keywords_item(state, at, taken, form, which, shape)
+            let shape = shape(state.alloc(), context.form, which, &context.at.place)?;
+            keywords_item(state, context, taken, which, shape)
         }
         Role::Record => Ok(Item::Use(KeywordUse::Record(which))),
         Role::RecordValue => Ok(Item::Use(KeywordUse::Record(which))),
-        Role::Auxiliary => alone(state, at, depth, taken, form),
+        Role::Auxiliary => alone(state, context, taken),
     }
 }
 
 fn headed_item(
     state: &mut Expansion,
-    at: &BodyAt,
-    depth: u16,
+    context: &ItemContext,
     taken: &mut Taken,
-    form: &Syn,
     standing: &Standing,
 ) -> Result<Item, Stop>
-    ensures { GivesAfter (λ i. (taken.new, i)) result state.new (headed_item at.now depth taken.old form.now standing.now state.old) }
+    ensures { GivesAfter (λ i. (taken.new, i)) result state.new (headed_item context.now.at.now context.now.depth taken.old context.now.form.now standing.now state.old) }
 {
     match standing {
-        Standing::Nothing => alone(state, at, depth, taken, form),
-        Standing::Variable(_) => alone(state, at, depth, taken, form),
-        Standing::PatternVariable => alone(state, at, depth, taken, form),
-        Standing::Primitive(_) => alone(state, at, depth, taken, form),
-        Standing::Core(which) => core_item(state, at, depth, taken, form, *which),
+        Standing::Nothing => alone(state, context, taken),
+        Standing::Variable(_) => alone(state, context, taken),
+        Standing::PatternVariable => alone(state, context, taken),
+        Standing::Primitive(_) => alone(state, context, taken),
+        Standing::Core(which) => core_item(state, context, taken, *which),
         Standing::Keyword(label) => Ok(Item::Use(KeywordUse::Macro(label.share()?))),
     }
 }
@@ -398,55 +404,45 @@ fn headed_item(
 #[tactic(auto, unfolding(crate::specs::Items::list_item))]
 fn list_item(
     state: &mut Expansion,
-    at: &BodyAt,
-    depth: u16,
+    context: &ItemContext,
     taken: &mut Taken,
-    form: &Syn,
     head: &Syn,
 ) -> Result<Item, Stop>
-    ensures { GivesAfter (λ i. (taken.new, i)) result state.new (list_item at.now depth taken.old form.now head.now state.old) }
+    ensures { GivesAfter (λ i. (taken.new, i)) result state.new (list_item context.now.at.now context.now.depth taken.old context.now.form.now head.now state.old) }
 {
     if !is_id(state.alloc(), head)? {
-        return alone(state, at, depth, taken, form);
+        return alone(state, context, taken);
     }
     keep(state, taken, head)?;
     let standing = state.standing(head)?;
-    headed_item(state, at, depth, taken, form, &standing)
+    headed_item(state, context, taken, &standing)
 }
 
 fn leaf_by(
     state: &mut Expansion,
-    at: &BodyAt,
-    depth: u16,
+    context: &ItemContext,
     taken: &mut Taken,
-    form: &Syn,
     standing: &Standing,
 ) -> Result<Item, Stop>
-    ensures { GivesAfter (λ i. (taken.new, i)) result state.new (leaf_by at.now depth taken.old form.now standing.now state.old) }
+    ensures { GivesAfter (λ i. (taken.new, i)) result state.new (leaf_by context.now.at.now context.now.depth taken.old context.now.form.now standing.now state.old) }
 {
     match standing {
-        Standing::Nothing => alone(state, at, depth, taken, form),
-        Standing::Variable(_) => alone(state, at, depth, taken, form),
-        Standing::PatternVariable => alone(state, at, depth, taken, form),
-        Standing::Primitive(_) => alone(state, at, depth, taken, form),
-        Standing::Core(_) => alone(state, at, depth, taken, form),
+        Standing::Nothing => alone(state, context, taken),
+        Standing::Variable(_) => alone(state, context, taken),
+        Standing::PatternVariable => alone(state, context, taken),
+        Standing::Primitive(_) => alone(state, context, taken),
+        Standing::Core(_) => alone(state, context, taken),
         Standing::Keyword(label) => Ok(Item::Use(KeywordUse::Macro(label.share()?))),
     }
 }
 
 #[tactic(auto, unfolding(crate::specs::Items::leaf_item))]
-fn leaf_item(
-    state: &mut Expansion,
-    at: &BodyAt,
-    depth: u16,
-    taken: &mut Taken,
-    form: &Syn,
-) -> Result<Item, Stop>
-    ensures { GivesAfter (λ i. (taken.new, i)) result state.new (leaf_item at.now depth taken.old form.now state.old) }
+fn leaf_item(state: &mut Expansion, context: &ItemContext, taken: &mut Taken) -> Result<Item, Stop>
+    ensures { GivesAfter (λ i. (taken.new, i)) result state.new (leaf_item context.now.at.now context.now.depth taken.old context.now.form.now state.old) }
 {
-    keep(state, taken, form)?;
-    let standing = state.standing(form)?;
-    leaf_by(state, at, depth, taken, form, &standing)
+    keep(state, taken, context.form)?;
+    let standing = state.standing(context.form)?;
+    leaf_by(state, context, taken, &standing)
 }
 
 /// What comes of a form of a body: what else is to be done with it. A use of a keyword isn't made here.
@@ -460,10 +456,11 @@ pub fn item_plan(
 ) -> Result<Item, Stop>
     ensures { GivesAfter (λ i. (taken.new, i)) result state.new (item_plan at.now depth taken.old form.now state.old) }
 {
+    let context = ItemContext { at, depth, form };
     match form.open(state.alloc())? {
-        Opened::Symbol(_) => leaf_item(state, at, depth, taken, form),
-        Opened::Atom(_) => alone(state, at, depth, taken, form),
-        Opened::Pair(head, _) => list_item(state, at, depth, taken, form, &head),
-        Opened::Vector(_) => alone(state, at, depth, taken, form),
+        Opened::Symbol(_) => leaf_item(state, &context, taken),
+        Opened::Atom(_) => alone(state, &context, taken),
+        Opened::Pair(head, _) => list_item(state, &context, taken, &head),
+        Opened::Vector(_) => alone(state, &context, taken),
     }
 }

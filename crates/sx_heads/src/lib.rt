@@ -20,6 +20,7 @@
 //! Nothing in a form is expanded here. That is what the crate above does, by these plans.
 #![tactic(auto)]
 
+pub mod context;
 pub mod depth;
 pub mod item;
 pub mod items;

@@ -12,6 +12,7 @@ ghost use Rattle.sx_tree.specs.Leaves.{strip};
 ghost use Rattle.sx_heads.specs.declared.plan.Plan.TheVariants as plans;
 ghost use Rattle.sx_heads.specs.Plan.{done, plan_of, list_plan, by_head, keyword_plan, with_shape, shape_plan, application, in_sequence, assign, is_star, is_letrec_syntax, keywords_plan, operand_plan, reference, refer, variable_at, constant, target_by, target_variable};
 
+use crate::context::FormContext;
 use sx_base::atom::Atom;
 use sx_base::fault::{FaultKind, Stop};
 use sx_base::items::Items;
@@ -166,16 +167,16 @@ fn reference(state: &mut Expansion, id: &Syn, place: &Span, level: u32) -> Resul
 #[tactic(auto, unfolding(crate::specs::Plan::target_variable))]
 fn target_variable(
     state: &mut Expansion,
-    form: &Syn,
+    context: &FormContext,
     id: &Syn,
     variable: &Variable,
-    place: &Span,
-    level: u32,
 ) -> Result<Label, Stop>
-    ensures { GivesAfter (λ l. l) result state.new (target_variable place.now level form.now id.now variable.now state.old) }
+    ensures { GivesAfter (λ l. l) result state.new (target_variable context.now.place.now context.now.level context.now.form.now id.now variable.now state.old) }
 {
+    let form = context.form;
+    let place = context.place;
     if variable.own {
-        if variable.level != level {
+        if variable.level != context.level {
             return Err(state.fault_word(FaultKind::OutOfContext, id, id, place));
         }
         if !state.is_in_scope(variable) {
@@ -197,17 +198,17 @@ fn target_variable(
 
 fn target_by(
     state: &mut Expansion,
-    form: &Syn,
+    context: &FormContext,
     id: &Syn,
     standing: &Standing,
-    place: &Span,
-    level: u32,
 ) -> Result<Label, Stop>
-    ensures { GivesAfter (λ l. l) result state.new (target_by place.now level form.now id.now standing.now state.old) }
+    ensures { GivesAfter (λ l. l) result state.new (target_by context.now.place.now context.now.level context.now.form.now id.now standing.now state.old) }
 {
+    let form = context.form;
+    let place = context.place;
     match standing {
         Standing::Nothing => Err(state.fault_word(FaultKind::Unbound, id, form, place)),
-        Standing::Variable(variable) => target_variable(state, form, id, variable, place, level),
+        Standing::Variable(variable) => target_variable(state, context, id, variable),
         Standing::PatternVariable => Err(state.fault_word(FaultKind::KeywordMisuse, id, id, place)),
         Standing::Primitive(_) => Err(state.fault_word(FaultKind::AssignedImport, id, form, place)),
         Standing::Core(_) => Err(state.fault_word(FaultKind::KeywordMisuse, id, form, place)),
@@ -216,37 +217,29 @@ fn target_by(
 }
 
 #[tactic(auto, unfolding(crate::specs::Plan::assign))]
-fn assign(
-    state: &mut Expansion,
-    form: &Syn,
-    id: &Syn,
-    value: Syn,
-    place: &Span,
-    level: u32,
-) -> Result<Plan, Stop>
-    ensures { GivesAfter (λ p. p) result state.new (assign place.now level form.now id.now value state.old) }
+fn assign(state: &mut Expansion, context: &FormContext, id: &Syn, value: Syn) -> Result<Plan, Stop>
+    ensures { GivesAfter (λ p. p) result state.new (assign context.now.place.now context.now.level context.now.form.now id.now value state.old) }
 {
     let standing = state.standing(id)?;
     if let Standing::Keyword(label) = &standing {
         return Ok(Plan::SetUse(label.share()?, id.share()?));
     }
-    let label = target_by(state, form, id, &standing, place, level)?;
+    let label = target_by(state, context, id, &standing)?;
     Ok(Plan::Assignment(label, value))
 }
 
 #[tactic(auto, unfolding(crate::specs::Plan::application))]
 fn application(
     state: &Expansion,
-    form: &Syn,
+    context: &FormContext,
     head: &Syn,
     rest: &Syn,
-    place: &Span,
 ) -> Result<Plan, Stop>
-    ensures { GivesAfter (λ p. p) result state.now (application place.now form.now head.now rest.now state.now) }
+    ensures { GivesAfter (λ p. p) result state.now (application context.now.place.now context.now.form.now head.now rest.now state.now) }
 {
     match proper(state.alloc(), rest)? {
         Some(operands) => Ok(Plan::Call(head.share()?, operands)),
-        None => Err(state.fault_form(FaultKind::BadForm, form, place)),
+        None => Err(state.fault_form(FaultKind::BadForm, context.form, context.place)),
     }
 }
 
@@ -261,85 +254,75 @@ fn in_sequence(state: &Expansion, form: &Syn, forms: Items<Syn>, place: &Span) -
 
 fn keywords_plan(
     state: &Expansion,
-    form: &Syn,
+    context: &FormContext,
     which: CoreForm,
     specs: Items<BindingSpec>,
     forms: Items<Syn>,
-    place: &Span,
 ) -> Result<Plan, Stop>
-    ensures { GivesAfter (λ p. p) result state.now (keywords_plan place.now form.now which specs forms state.now) }
+    ensures { GivesAfter (λ p. p) result state.now (keywords_plan context.now.place.now context.now.form.now which specs forms state.now) }
 {
     if forms.as_slice().is_empty() {
-        return Err(state.fault_form(FaultKind::NoExpression, form, place));
+        return Err(state.fault_form(FaultKind::NoExpression, context.form, context.place));
     }
     Ok(Plan::Keywords(is_letrec_syntax(which), specs, forms))
 }
 
 /// The instance of a template.
-fn syntax_plan(
-    state: &mut Expansion,
-    form: &Syn,
-    operand: &Syn,
-    place: &Span,
-    level: u32,
-) -> Result<Plan, Stop>
-    ensures { GivesAfter (λ p. p) result state.new (operand_plan place.now level form.now core_forms.Syntax operand.now state.old) }
+fn syntax_plan(state: &mut Expansion, context: &FormContext, operand: &Syn) -> Result<Plan, Stop>
+    ensures { GivesAfter (λ p. p) result state.new (operand_plan context.now.place.now context.now.level context.now.form.now core_forms.Syntax operand.now state.old) }
 {
-    let template = state.template(operand, place, level)?;
-    let span = place_of(form, place)?;
+    let template = state.template(operand, context.place, context.level)?;
+    let span = place_of(context.form, context.place)?;
     done(state, CoreNode::Syntax(template, span))
 }
 
 fn operand_plan(
     state: &mut Expansion,
-    form: &Syn,
+    context: &FormContext,
     which: CoreForm,
     operand: &Syn,
-    place: &Span,
-    level: u32,
 ) -> Result<Plan, Stop>
-    ensures { GivesAfter (λ p. p) result state.new (operand_plan place.now level form.now which operand.now state.old) }
+    ensures { GivesAfter (λ p. p) result state.new (operand_plan context.now.place.now context.now.level context.now.form.now which operand.now state.old) }
 {
     match which {
-        CoreForm::Syntax => syntax_plan(state, form, operand, place, level),
+        CoreForm::Syntax => syntax_plan(state, context, operand),
         CoreForm::Quasiquote => Ok(Plan::Quasi(Family::Quote, operand.share()?)),
         CoreForm::Quasisyntax => Ok(Plan::Quasi(Family::Syntax, operand.share()?)),
-        _ => Err(state.fault_form(FaultKind::BadForm, form, place)),
+        _ => Err(state.fault_form(FaultKind::BadForm, context.form, context.place)),
     }
 }
 
 /// `syntax-case`.
 fn matching(
     state: &Expansion,
-    form: &Syn,
+    context: &FormContext,
     subject: Syn,
     literals: Items<Syn>,
     clauses: Items<PatternCase>,
-    place: &Span,
 ) -> Result<Plan, Stop>
-    ensures { GivesAfter (λ p. p) result state.now (give (plans.Matching subject literals clauses (place_of form.now place.now)) state.now) }
+    ensures { GivesAfter (λ p. p) result state.now (give (plans.Matching subject literals clauses (place_of context.now.form.now context.now.place.now)) state.now) }
 {
-    let span = place_of(form, place)?;
+    let span = place_of(context.form, context.place)?;
     Ok(Plan::Matching(subject, literals, clauses, span))
 }
 
 #[tactic(auto, unfolding(crate::specs::Plan::shape_plan))]
 fn shape_plan(
     state: &mut Expansion,
-    form: &Syn,
+    context: &FormContext,
     which: CoreForm,
     shape: Shape,
-    place: &Span,
-    level: u32,
 ) -> Result<Plan, Stop>
-    ensures { GivesAfter (λ p. p) result state.new (shape_plan place.now level form.now which shape state.old) }
+    ensures { GivesAfter (λ p. p) result state.new (shape_plan context.now.place.now context.now.level context.now.form.now which shape state.old) }
 {
+    let form = context.form;
+    let place = context.place;
     match shape {
         Shape::Quote(datum) => quotation(state, &datum),
         Shape::Lambda(ids, forms) => Ok(Plan::Lambda(ids, forms)),
         Shape::CaseLambda(cases) => Ok(Plan::CaseLambda(cases)),
         Shape::If(test, consequent, other) => Ok(Plan::Conditional(test, consequent, other)),
-        Shape::Set(id, value) => assign(state, form, &id, value, place, level),
+        Shape::Set(id, value) => assign(state, context, &id, value),
         Shape::Begin(forms) => in_sequence(state, form, forms, place),
         Shape::Letrec(specs, forms) => Ok(Plan::Letrec(is_star(which), specs, forms)),
         Shape::Define(_, _) => Err(state.fault_form(FaultKind::DefinitionPlace, form, place)),
@@ -349,44 +332,38 @@ fn shape_plan(
             place,
         )),
         Shape::DefineSyntax(_, _) => Err(state.fault_form(FaultKind::DefinitionPlace, form, place)),
-        Shape::LetSyntax(specs, forms) => keywords_plan(state, form, which, specs, forms, place),
-        Shape::Operand(operand) => operand_plan(state, form, which, &operand, place, level),
+        Shape::LetSyntax(specs, forms) => keywords_plan(state, context, which, specs, forms),
+        Shape::Operand(operand) => operand_plan(state, context, which, &operand),
         Shape::SyntaxCase(subject, literals, clauses) => matching(
-            state, form, subject, literals, clauses, place,
+            state, context, subject, literals, clauses,
         ),
     }
 }
 
-fn shaped_plan(
-    state: &mut Expansion,
-    form: &Syn,
-    which: CoreForm,
-    place: &Span,
-    level: u32,
-) -> Result<Plan, Stop>
-    ensures { GivesAfter (λ p. p) result state.new (with_shape place.now level form.now which (shape which form.now place.now) state.old) }
+fn shaped_plan(state: &mut Expansion, context: &FormContext, which: CoreForm) -> Result<Plan, Stop>
+    ensures { GivesAfter (λ p. p) result state.new (with_shape context.now.place.now context.now.level context.now.form.now which (shape which context.now.form.now context.now.place.now) state.old) }
 {
-    let shape = shape(state.alloc(), form, which, place)?;
-    shape_plan(state, form, which, shape, place, level)
+    let shape = shape(state.alloc(), context.form, which, context.place)?;
+    shape_plan(state, context, which, shape)
 }
 
 #[tactic(auto, unfolding(crate::specs::Plan::keyword_plan))]
 fn keyword_plan(
     state: &mut Expansion,
-    form: &Syn,
+    context: &FormContext,
     head: &Syn,
     which: CoreForm,
-    place: &Span,
-    level: u32,
 ) -> Result<Plan, Stop>
-    ensures { GivesAfter (λ p. p) result state.new (keyword_plan place.now level form.now head.now which state.old) }
+    ensures { GivesAfter (λ p. p) result state.new (keyword_plan context.now.place.now context.now.level context.now.form.now head.now which state.old) }
 {
+    let form = context.form;
+    let place = context.place;
     match role_of(which) {
-        Role::Expression => shaped_plan(state, form, which, place, level),
-        Role::Assignment => shaped_plan(state, form, which, place, level),
-        Role::Sequence => shaped_plan(state, form, which, place, level),
-        Role::Definition => shaped_plan(state, form, which, place, level),
-        Role::Keywords => shaped_plan(state, form, which, place, level),
+        Role::Expression => shaped_plan(state, context, which),
+        Role::Assignment => shaped_plan(state, context, which),
+        Role::Sequence => shaped_plan(state, context, which),
+        Role::Definition => shaped_plan(state, context, which),
+        Role::Keywords => shaped_plan(state, context, which),
         Role::Record => Err(state.fault_form(FaultKind::DefinitionPlace, form, place)),
         Role::RecordValue => Ok(Plan::Use(KeywordUse::Record(which))),
         Role::Auxiliary => Err(state.fault_word(FaultKind::KeywordMisuse, head, head, place)),
@@ -395,21 +372,19 @@ fn keyword_plan(
 
 fn by_head(
     state: &mut Expansion,
-    form: &Syn,
+    context: &FormContext,
     head: &Syn,
     rest: &Syn,
     standing: &Standing,
-    place: &Span,
-    level: u32,
 ) -> Result<Plan, Stop>
-    ensures { GivesAfter (λ p. p) result state.new (by_head place.now level form.now head.now rest.now standing.now state.old) }
+    ensures { GivesAfter (λ p. p) result state.new (by_head context.now.place.now context.now.level context.now.form.now head.now rest.now standing.now state.old) }
 {
     match standing {
-        Standing::Nothing => application(state, form, head, rest, place),
-        Standing::Variable(_) => application(state, form, head, rest, place),
-        Standing::PatternVariable => application(state, form, head, rest, place),
-        Standing::Primitive(_) => application(state, form, head, rest, place),
-        Standing::Core(which) => keyword_plan(state, form, head, *which, place, level),
+        Standing::Nothing => application(state, context, head, rest),
+        Standing::Variable(_) => application(state, context, head, rest),
+        Standing::PatternVariable => application(state, context, head, rest),
+        Standing::Primitive(_) => application(state, context, head, rest),
+        Standing::Core(which) => keyword_plan(state, context, head, *which),
         Standing::Keyword(label) => Ok(Plan::Use(KeywordUse::Macro(label.share()?))),
     }
 }
@@ -417,19 +392,17 @@ fn by_head(
 #[tactic(auto, unfolding(crate::specs::Plan::list_plan))]
 fn list_plan(
     state: &mut Expansion,
-    form: &Syn,
+    context: &FormContext,
     head: &Syn,
     rest: &Syn,
-    place: &Span,
-    level: u32,
 ) -> Result<Plan, Stop>
-    ensures { GivesAfter (λ p. p) result state.new (list_plan place.now level form.now head.now rest.now state.old) }
+    ensures { GivesAfter (λ p. p) result state.new (list_plan context.now.place.now context.now.level context.now.form.now head.now rest.now state.old) }
 {
     if !is_id(state.alloc(), head)? {
-        return application(state, form, head, rest, place);
+        return application(state, context, head, rest);
     }
     let standing = state.standing(head)?;
-    by_head(state, form, head, rest, &standing, place, level)
+    by_head(state, context, head, rest, &standing)
 }
 
 /// What is to be done with a form.
@@ -440,7 +413,10 @@ pub fn plan_of(state: &mut Expansion, form: &Syn, place: &Span, level: u32) -> R
     match form.open(state.alloc())? {
         Opened::Symbol(_) => reference(state, form, place, level),
         Opened::Atom(atom) => constant(state, form, &atom, place),
-        Opened::Pair(head, rest) => list_plan(state, form, &head, &rest, place, level),
+        Opened::Pair(head, rest) => {
+            let context = FormContext { form, place, level };
+            list_plan(state, &context, &head, &rest)
+        }
         Opened::Vector(_) => Err(state.fault_form(FaultKind::BadForm, form, place)),
     }
 }

@@ -256,7 +256,7 @@ pub(crate) fn prefixed(
 ) -> Result<Items<(Symbol, Label)>, Memory>
     ensures { IfOk result (λ rows. rows ≡ prefixed symbol.now names.now) }
 {
-    let mut rows = Items::new(alloc);
+    let mut rows = Items::from_vec(Vec::with_capacity(alloc, names.len())?);
     for (name, label) in names {
         let name = with_prefix(alloc, symbol, name)?;
         rows.push((name, label.share()?))?;
@@ -267,8 +267,11 @@ pub(crate) fn prefixed(
 fn with_prefix(alloc: Global, symbol: &Symbol, name: &Symbol) -> Result<Symbol, Memory>
     ensures { IfOk result (λ s. s ≡ symbol.now ++ name.now) }
 {
-    let mut text = String::from_str(alloc, symbol.as_str())?;
-    text.push_str(name.as_str())?;
+    let prefix = symbol.as_str();
+    let name = name.as_str();
+    let mut text = String::with_capacity(alloc, prefix.len() + name.len())?;
+    text.push_str(prefix)?;
+    text.push_str(name)?;
     Symbol::from_string(text)
 }
 

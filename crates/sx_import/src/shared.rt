@@ -16,6 +16,7 @@ use crate::names::{
     taken,
 };
 use crate::set::{NameAt, Renaming, Step};
+use crate::sources::Source;
 use std::alloc::Global;
 use std::marker::Model;
 use sx_base::fault::Stop;
@@ -115,20 +116,26 @@ fn first_names(
     }
 }
 
-// The names that a step and others leave, joined to those of a form.
+// The steps of an import set that has some.
+#[derive(Drop)]
+struct Steps<'a> {
+    innermost: &'a Step,
+    others: &'a [Step],
+}
+
+// The names that these steps leave, joined to those of a form.
 #[tactic(auto, using(crate::proofs::SharedLemmas::first_stops, crate::proofs::SharedLemmas::first_gives))]
 fn join_others(
     alloc: Global,
     all: &mut Names,
     exports: &Exports,
-    step: &Step,
-    others: &[Step],
+    steps: &Steps,
     span: &Span,
 ) -> Result<(), Stop>
-    ensures { Gives (λ _. all.new) result (steps_joined span.now all.old exports.now (step.now ∷ others.now)) }
+    ensures { Gives (λ _. all.new) result (steps_joined span.now all.old exports.now (steps.now.innermost.now ∷ steps.now.others.now)) }
 {
-    let names = first_names(alloc, exports, step, span)?;
-    join_taken(alloc, all, names, others, span)
+    let names = first_names(alloc, exports, steps.innermost, span)?;
+    join_taken(alloc, all, names, steps.others, span)
 }
 
 #[tactic(auto, using(crate::proofs::TurnLemmas::bind_stops, crate::proofs::TurnLemmas::bind_ok))]
@@ -149,15 +156,15 @@ fn join_taken(
 fn join_whole(
     alloc: Global,
     all: &mut Names,
-    exports: &Exports,
-    fresh: &[(Symbol, Label)],
+    source: &Source,
     span: &Span,
 ) -> Result<Option<Items<(Symbol, Label)>>, Stop>
-    requires { IsEnough all.old exports.now fresh.now }
-    ensures names { Gives (λ _. all.new) result (joined span.now all.old exports.now) }
+    requires { IsEnough all.old source.now.exports source.now.fresh }
+    ensures names { Gives (λ _. all.new) result (joined span.now all.old source.now.exports) }
     ensures front { OnOk result ((tail : Labelled) × (all.new ≡ all.old ++ tail)) }
-    ensures fresh { IfOk result (λ f. IsEnoughIf all.new exports.now f) }
+    ensures fresh { IfOk result (λ f. IsEnoughIf all.new source.now.exports f) }
 {
+    let fresh = source.fresh.as_slice();
     if fresh.is_empty() {
         return Ok(None);
     }
@@ -169,16 +176,16 @@ fn join_whole(
 fn join_but(
     alloc: Global,
     all: &mut Names,
-    exports: &Exports,
-    fresh: &[(Symbol, Label)],
+    source: &Source,
     ids: &[NameAt],
     span: &Span,
 ) -> Result<Option<Items<(Symbol, Label)>>, Stop>
-    requires { IsEnough all.old exports.now fresh.now }
-    ensures names { Gives (λ _. all.new) result (joined span.now all.old (except ids.now exports.now)) }
+    requires { IsEnough all.old source.now.exports source.now.fresh }
+    ensures names { Gives (λ _. all.new) result (joined span.now all.old (except ids.now source.now.exports)) }
     ensures front { OnOk result ((tail : Labelled) × (all.new ≡ all.old ++ tail)) }
-    ensures fresh { IfOk result (λ f. IsEnoughIf all.new exports.now f) }
+    ensures fresh { IfOk result (λ f. IsEnoughIf all.new source.now.exports f) }
 {
+    let fresh = source.fresh.as_slice();
     if fresh.is_empty() {
         return Ok(None);
     }
@@ -192,18 +199,17 @@ fn join_but(
 fn join_except(
     alloc: Global,
     all: &mut Names,
-    exports: &Exports,
-    fresh: &[(Symbol, Label)],
+    source: &Source,
     ids: &[NameAt],
     span: &Span,
 ) -> Result<Option<Items<(Symbol, Label)>>, Stop>
-    requires { IsEnough all.old exports.now fresh.now }
-    ensures names { Gives (λ _. all.new) result (need exports.now ids.now (joined span.now all.old (except ids.now exports.now))) }
+    requires { IsEnough all.old source.now.exports source.now.fresh }
+    ensures names { Gives (λ _. all.new) result (need source.now.exports ids.now (joined span.now all.old (except ids.now source.now.exports))) }
     ensures front { OnOk result ((tail : Labelled) × (all.new ≡ all.old ++ tail)) }
-    ensures fresh { IfOk result (λ f. IsEnoughIf all.new exports.now f) }
+    ensures fresh { IfOk result (λ f. IsEnoughIf all.new source.now.exports f) }
 {
-    need_in(alloc, exports.names(), ids)?;
-    join_but(alloc, all, exports, fresh, ids, span)
+    need_in(alloc, source.exports.names(), ids)?;
+    join_but(alloc, all, source, ids, span)
 }
 
 // The names that a set leaves out, where it does nothing else.
@@ -219,41 +225,41 @@ fn left_out<'a>(step: &'a Step, others: &[Step]) -> Option<&'a Items<NameAt>>
 fn join_steps(
     alloc: Global,
     all: &mut Names,
-    exports: &Exports,
-    fresh: &[(Symbol, Label)],
-    step: &Step,
-    others: &[Step],
+    source: &Source,
+    steps: &Steps,
     span: &Span,
 ) -> Result<Option<Items<(Symbol, Label)>>, Stop>
-    requires { IsEnough all.old exports.now fresh.now }
-    ensures names { Gives (λ _. all.new) result (steps_joined span.now all.old exports.now (step.now ∷ others.now)) }
+    requires { IsEnough all.old source.now.exports source.now.fresh }
+    ensures names { Gives (λ _. all.new) result (steps_joined span.now all.old source.now.exports (steps.now.innermost.now ∷ steps.now.others.now)) }
     ensures front { OnOk result ((tail : Labelled) × (all.new ≡ all.old ++ tail)) }
-    ensures fresh { IfOk result (λ f. IsEnoughIf all.new exports.now f) }
+    ensures fresh { IfOk result (λ f. IsEnoughIf all.new source.now.exports f) }
 {
-    if let Some(ids) = left_out(step, others) {
-        return join_except(alloc, all, exports, fresh, ids.as_slice(), span);
+    if let Some(ids) = left_out(steps.innermost, steps.others) {
+        return join_except(alloc, all, source, ids.as_slice(), span);
     }
-    join_others(alloc, all, exports, step, others, span)?;
+    join_others(alloc, all, &source.exports, steps, span)?;
     Ok(None)
 }
 
-/// Joins the names that an import set with these steps gives of a library to those of a form. `fresh` is enough of the
-/// library's names to join all; the answer is what is enough then, where that changes.
+/// Joins the names that an import set with these steps gives of a library to those of a form. The answer is what is
+/// enough of the library's names then, where that changes.
 pub fn join_set(
     alloc: Global,
     all: &mut Names,
-    exports: &Exports,
-    fresh: &[(Symbol, Label)],
+    source: &Source,
     steps: &[Step],
     span: &Span,
 ) -> Result<Option<Items<(Symbol, Label)>>, Stop>
-    requires { IsEnough all.old exports.now fresh.now }
-    ensures names { Gives (λ _. all.new) result (steps_joined span.now all.old exports.now steps.now) }
+    requires { IsEnough all.old source.now.exports source.now.fresh }
+    ensures names { Gives (λ _. all.new) result (steps_joined span.now all.old source.now.exports steps.now) }
     ensures front { OnOk result ((tail : Labelled) × (all.new ≡ all.old ++ tail)) }
-    ensures fresh { IfOk result (λ f. IsEnoughIf all.new exports.now f) }
+    ensures fresh { IfOk result (λ f. IsEnoughIf all.new source.now.exports f) }
 {
     match steps.split_first() {
-        None => join_whole(alloc, all, exports, fresh, span),
-        Some((step, others)) => join_steps(alloc, all, exports, fresh, step, others, span),
+        None => join_whole(alloc, all, source, span),
+        Some((innermost, others)) => {
+            let steps = Steps { innermost, others };
+            join_steps(alloc, all, source, &steps, span)
+        }
     }
 }

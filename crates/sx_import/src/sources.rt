@@ -69,14 +69,7 @@ fn join_from(
     ensures fresh { IfOk result (λ f. (s : Source) → source_in set.now.library sources.now.entries ≡ Some s → IsEnoughIf all.new s.exports f) }
 {
     match sources.get(&set.library) {
-        Some(source) => join_set(
-            alloc,
-            all,
-            &source.exports,
-            source.fresh.as_slice(),
-            set.steps.as_slice(),
-            span,
-        ),
+        Some(source) => join_set(alloc, all, source, set.steps.as_slice(), span),
         None => Err(Stop::Memory),
     }
 }

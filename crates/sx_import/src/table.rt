@@ -2,11 +2,12 @@
 
 ghost use Rattle.std.specs.Map.{lookup};
 ghost use Rattle.std.specs.Option.{option_copied, option_map};
-ghost use Rattle.std.specs.Prelude.{◌≡◌, ◌≤◌, ℕ, List, [], ◌∷◌, ◌++◌, take, length, slice_get, None, Some, Ok, IfOk, OnOk, OnErr, if◌then◌else◌, is_some};
+ghost use Rattle.std.specs.Prelude.{◌≡◌, ◌≤◌, ℕ, List, [], ◌∷◌, ◌++◌, take, length, map, slice_get, None, Some, Ok, IfOk, OnOk, OnErr, if◌then◌else◌, is_some};
 ghost use Rattle.sx_import.specs.Table.{value_of, put_first, pair_now};
 ghost use Rattle.sx_import.specs.Shared.{place_of, IsOwn};
 
 use indexmap::IndexMap;
+use indexmap::map::IntoValues;
 use std::alloc::Global;
 use std::marker::Model;
 use sx_base::memory::Memory;
@@ -69,6 +70,13 @@ impl<V: Drop> Table<V> {
         ensures { option_map pair_now result ≡ slice_get self.now place }
     {
         self.rows.get_index(place)
+    }
+
+    /// The values in order. The names go.
+    pub fn into_values(self) -> IntoValues<Symbol, V>
+        ensures { result ≡ map (λ e. e.1) self }
+    {
+        self.rows.into_values()
     }
 
     /// Puts a value at the end, unless its name has one. A refusal changes nothing.

@@ -4,7 +4,7 @@ use std::process::Abort;
 use std::test::Fail;
 use sx_base::items::Items;
 use sx_base::library::LibName;
-use sx_base::op::Op;
+use sx_base::op::{Op, names};
 use sx_base::symbol::Symbol;
 use sx_builtin::exports::{exports, op_name};
 
@@ -68,6 +68,6 @@ fn the_libraries_export_their_names_and_no_other_is_given(rt: HostRuntime) -> Re
     let alloc = rt.alloc();
     check(&rt, alloc, ROWS)?;
     assert!(rt; exports(alloc, &LibName::Core)?.is_none());
-    assert_eq!(rt; op_name(Op(51)), "car");
+    assert_eq!(rt; op_name(Op(names::CAR)), "car");
     Ok(())
 }

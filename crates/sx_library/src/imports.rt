@@ -11,7 +11,7 @@ ghost use Rattle.sx_library.specs.Listed.{AreListed};
 ghost use Rattle.sx_library.specs.Records.{needed_records};
 ghost use Rattle.sx_load.specs.Load.{fitting, builtin_version};
 
-use crate::records::Records;
+use crate::records::Needed;
 use indexmap::IndexMap;
 use std::alloc::Global;
 use sx_base::fault::{FaultKind, Stop};
@@ -36,39 +36,29 @@ use sx_standing::share::share_library;
 /// The names that the imports of a form give, each once and in order, with their labels. First each library
 /// must be there in a version that fits, and then each name is looked for.
 #[tactic(auto, unfolding(crate::specs::Imports::form_names))]
-pub fn form_names(
-    alloc: Global,
-    records: &Records,
-    needs: &[bool],
-    imports: &[Import],
-) -> Result<Names, Stop>
-    ensures { Gives (λ names. names) result (form_names (needed_records records.now needs.now) imports.now) }
+pub fn form_names(alloc: Global, needed: &Needed, imports: &[Import]) -> Result<Names, Stop>
+    ensures { Gives (λ names. names) result (form_names (needed_records needed.now.records.now needed.now.marks.now) imports.now) }
 {
-    refer_all(alloc, records, needs, imports)?;
-    import_all(alloc, records, needs, imports)
+    refer_all(alloc, needed, imports)?;
+    import_all(alloc, needed, imports)
 }
 
-fn refer_all(
-    alloc: Global,
-    records: &Records,
-    needs: &[bool],
-    imports: &[Import],
-) -> Result<(), Stop>
-    ensures { Gives (λ u. u) result (turns (refer (needed_records records.now needs.now)) tt imports.now) }
+fn refer_all(alloc: Global, needed: &Needed, imports: &[Import]) -> Result<(), Stop>
+    ensures { Gives (λ u. u) result (turns (refer (needed_records needed.now.records.now needed.now.marks.now)) tt imports.now) }
 {
     for import in imports {
-        referred(alloc, records, needs, &import.set)?;
+        referred(alloc, needed, &import.set)?;
     }
     Ok(())
 }
 
-fn referred(alloc: Global, records: &Records, needs: &[bool], set: &ImportSet) -> Result<(), Stop>
-    ensures { Gives (λ u. u) result (referred (needed_records records.now needs.now) set.now) }
+fn referred(alloc: Global, needed: &Needed, set: &ImportSet) -> Result<(), Stop>
+    ensures { Gives (λ u. u) result (referred (needed_records needed.now.records.now needed.now.marks.now) set.now) }
 {
     if is_builtin(&set.library) {
         check_version(alloc, &VERSION, set)
     } else {
-        record_referred(alloc, set, records.named(needs, &set.library))
+        record_referred(alloc, set, needed.named(&set.library))
     }
 }
 
@@ -82,18 +72,13 @@ fn record_referred(alloc: Global, set: &ImportSet, one: Option<&LibRecord>) -> R
 }
 
 #[tactic(auto, using(crate::proofs::SourceLemmas::no_names, crate::proofs::SourceLemmas::none_enough))]
-fn import_all(
-    alloc: Global,
-    records: &Records,
-    needs: &[bool],
-    imports: &[Import],
-) -> Result<Names, Stop>
-    ensures { Gives (λ names. names) result (turns (import_into (needed_records records.now needs.now)) [] imports.now) }
+fn import_all(alloc: Global, needed: &Needed, imports: &[Import]) -> Result<Names, Stop>
+    ensures { Gives (λ names. names) result (turns (import_into (needed_records needed.now.records.now needed.now.marks.now)) [] imports.now) }
 {
     let mut names = Table::new(alloc);
     let mut sources = IndexMap::new(alloc);
     for import in imports {
-        import_into(alloc, records, needs, &mut sources, &mut names, import)?;
+        import_into(alloc, needed, &mut sources, &mut names, import)?;
     }
     Ok(names)
 }
@@ -101,48 +86,39 @@ fn import_all(
 // The names of a library are listed with its first import set, and then each set asks the list.
 fn import_into(
     alloc: Global,
-    records: &Records,
-    needs: &[bool],
+    needed: &Needed,
     sources: &mut Sources,
     names: &mut Names,
     import: &Import,
 ) -> Result<(), Stop>
-    requires listed { AreListed (needed_records records.now needs.now) sources.old.entries }
+    requires listed { AreListed (needed_records needed.now.records.now needed.now.marks.now) sources.old.entries }
     requires enough { AreEnough names.old sources.old.entries }
-    ensures names { Gives (λ _. names.new) result (import_into (needed_records records.now needs.now) names.old import.now) }
-    ensures listed { OnOk result (AreListed (needed_records records.now needs.now) sources.new.entries) }
+    ensures names { Gives (λ _. names.new) result (import_into (needed_records needed.now.records.now needed.now.marks.now) names.old import.now) }
+    ensures listed { OnOk result (AreListed (needed_records needed.now.records.now needed.now.marks.now) sources.new.entries) }
     ensures enough { OnOk result (AreEnough names.new sources.new.entries) }
 {
-    list_source(
-        alloc,
-        records,
-        needs,
-        sources,
-        &import.set.library,
-        &import.span,
-    )?;
+    list_source(alloc, needed, sources, &import.set.library, &import.span)?;
     join_source(alloc, sources, names, &import.set, &import.span)
 }
 
 // Lists the names of a library, unless they are listed.
 fn list_source(
     alloc: Global,
-    records: &Records,
-    needs: &[bool],
+    needed: &Needed,
     sources: &mut Sources,
     library: &LibName,
     span: &Span,
 ) -> Result<(), Stop>
-    requires { AreListed (needed_records records.now needs.now) sources.old.entries }
-    ensures stop { IfErr result (λ stop. Stops stop (joined span.now [] (exported (needed_records records.now needs.now) library.now))) }
-    ensures listed { OnOk result (AreListed (needed_records records.now needs.now) sources.new.entries) }
+    requires { AreListed (needed_records needed.now.records.now needed.now.marks.now) sources.old.entries }
+    ensures stop { IfErr result (λ stop. Stops stop (joined span.now [] (exported (needed_records needed.now.records.now needed.now.marks.now) library.now))) }
+    ensures listed { OnOk result (AreListed (needed_records needed.now.records.now needed.now.marks.now) sources.new.entries) }
     ensures there { OnOk result (is_some (names_in library.now sources.new.entries) ≡ true) }
     ensures enough { OnOk result ((all : Labelled) → AreEnough all sources.old.entries → AreEnough all sources.new.entries) }
 {
     if has_source(sources, library) {
         return Ok(());
     }
-    let exports = exported(alloc, records, needs, library)?;
+    let exports = exported(alloc, needed, library)?;
     let exports = Exports::new(alloc, exports.as_slice(), span)?;
     let name = share_library(alloc, library)?;
     add_source(alloc, sources, name, exports)?;
@@ -151,15 +127,14 @@ fn list_source(
 
 fn exported(
     alloc: Global,
-    records: &Records,
-    needs: &[bool],
+    needed: &Needed,
     library: &LibName,
 ) -> Result<Items<(Symbol, Label)>, Memory>
-    ensures { IfOk result (λ names. names ≡ exported (needed_records records.now needs.now) library.now) }
+    ensures { IfOk result (λ names. names ≡ exported (needed_records needed.now.records.now needed.now.marks.now) library.now) }
 {
     match exports(alloc, library)? {
-        Some(names) => given_names(alloc, records.named(needs, &LibName::Derived), names),
-        None => record_exports(alloc, records.named(needs, library)),
+        Some(names) => given_names(alloc, needed.named(&LibName::Derived), names),
+        None => record_exports(alloc, needed.named(library)),
     }
 }
 

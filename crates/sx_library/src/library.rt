@@ -9,7 +9,7 @@ ghost use Rattle.sx_library.specs.Records.{needed_records};
 ghost use Rattle.sx_library.specs.Library.{at_datum, tree_at, trees_at, export_tree, expander_of, body_of, expand_body};
 
 use crate::imports::form_names;
-use crate::records::Records;
+use crate::records::Needed;
 use indexmap::IndexMap;
 use std::alloc::Global;
 use std::rc::Rc;
@@ -24,6 +24,7 @@ use sx_base::span::Span;
 use sx_base::symbol::Symbol;
 use sx_core::code::Code;
 use sx_core::record::LibRecord;
+use sx_derived::implementation::Implementation;
 use sx_expand::expander::Expander;
 use sx_forms::form::LibraryForm;
 use sx_import::names::rows;
@@ -44,101 +45,118 @@ pub struct Body {
     pub forms: Items<Syn>,
 }
 
+/// A library or a program that is to be expanded.
+#[derive(Drop)]
+pub struct Unexpanded {
+    /// Of its file.
+    pub path: Symbol,
+    pub form: LibraryForm,
+    pub body: Body,
+}
+
+// What stands in the record of a library beside what the forms of its body give, and these forms.
+#[derive(Drop)]
+struct Text<'a> {
+    /// Of the library's name.
+    place: &'a Span,
+    version: Items<u64>,
+    exports: &'a [(Symbol, Syn)],
+    forms: Items<Syn>,
+}
+
+// Where a library comes from: its name, and the path of its file.
+#[derive(Drop)]
+struct Origin {
+    name: LibName,
+    path: Symbol,
+}
+
 /// The body of a library or a program, from its form and the data of its body, which may go then. First each library
 /// that it imports must fit, and then each name.
 #[tactic(auto, unfolding(crate::specs::Library::body_of))]
 pub fn body_of(
     alloc: Global,
-    records: &Records,
-    needs: &[bool],
+    needed: &Needed,
     form: &LibraryForm,
     body: &[Datum],
 ) -> Result<Body, Stop>
-    ensures { Gives (λ b. b) result (body_of (needed_records records.now needs.now) form.now body.now) }
+    ensures { Gives (λ b. b) result (body_of (needed_records needed.now.records.now needed.now.marks.now) form.now body.now) }
 {
-    let names = form_names(alloc, records, needs, form.imports.as_slice())?;
+    let names = form_names(alloc, needed, form.imports.as_slice())?;
     let names = rows(alloc, &names)?;
     let forms = trees_at(alloc, &form.name_span, body)?;
     Ok(Body { names, forms })
 }
 
-/// The record of a library or a program, from its form and its body. The records before it are those of `records` that
-/// `needs` marks.
+/// The record of a library or a program, from its form and its body, which goes on the way, behind the records that
+/// it needs.
 #[tactic(auto, unfolding(crate::specs::Library::expand_body))]
 pub fn expand_body<N: Ledger, L: Ledger>(
     alloc: Global,
-    prelude: &Prelude,
-    records: &Records,
-    needs: &[bool],
-    path: &Symbol,
-    form: &LibraryForm,
-    body: &Body,
-    prims: &PrimTable,
+    implementation: &Implementation,
+    needed: &Needed,
+    unexpanded: Unexpanded,
     counts: &mut Counts<N, L>,
 ) -> Result<LibRecord, Stop>
-    ensures { Gives (λ r. r) result (expand_body (kept prelude.now) (needed_records records.now needs.now) path.now form.now body.now) }
+    ensures { Gives (λ r. r) result (expand_body (kept implementation.now.prelude) (needed_records needed.now.records.now needed.now.marks.now) unexpanded.path unexpanded.form unexpanded.body) }
 {
-    let exports = export_trees(alloc, &form.exports)?;
-    let version = share_version(alloc, form.version.as_slice())?;
-    let begun = expander_of(
-        alloc,
-        prelude,
-        form,
-        path,
-        records,
-        needs,
-        body.names.as_slice(),
-    )?;
-    record_behind(
-        begun,
-        records,
-        needs,
-        body.forms.as_slice(),
-        &form.name_span,
-        exports.as_slice(),
+    let exports = export_trees(alloc, &unexpanded.form.exports)?;
+    let version = share_version(alloc, unexpanded.form.version.as_slice())?;
+    let begun = expander_of(alloc, &implementation.prelude, needed, &unexpanded)?;
+    let Unexpanded { form, body, .. } = unexpanded;
+    let Body { forms, .. } = body;
+    let text = Text {
+        place: &form.name_span,
         version,
-        prims,
-        counts,
-    )
+        exports: exports.as_slice(),
+        forms,
+    };
+    record_behind(begun, needed, text, implementation.primitives, counts)
 }
 
 // An expander behind the records that are marked, which knows what the procedures mean that are texts.
 fn expander_of(
     alloc: Global,
     prelude: &Prelude,
-    form: &LibraryForm,
-    path: &Symbol,
-    records: &Records,
-    needs: &[bool],
-    names: &[(Symbol, Label)],
+    needed: &Needed,
+    unexpanded: &Unexpanded,
 ) -> Result<Expander, Stop>
-    ensures given { Gives (λ e. e) result (expander_of (kept prelude.now) form.now.name path.now (needed_records records.now needs.now) names.now) }
+    ensures given { Gives (λ e. e) result (expander_of (kept prelude.now) unexpanded.now.form.name unexpanded.now.path (needed_records needed.now.records.now needed.now.marks.now) unexpanded.now.body.names) }
     ensures ok { IfOk result (λ e. e.failed ≡ false) }
 {
-    let name = share_library(alloc, &form.name)?;
-    let path = path.share()?;
+    let name = share_library(alloc, &unexpanded.form.name)?;
+    let path = unexpanded.path.share()?;
     let codes = prelude.codes(alloc)?;
-    expander_behind(alloc, name, path, records, needs, names, codes)
+    let origin = Origin { name, path };
+    expander_behind(
+        alloc,
+        origin,
+        needed,
+        unexpanded.body.names.as_slice(),
+        codes,
+    )
 }
 
-// The record of a library, from its exports, its version and the forms of its body.
+// The record of a library behind those that it needs.
 fn record_behind<N: Ledger, L: Ledger>(
     begun: Expander,
-    records: &Records,
-    needs: &[bool],
-    forms: &[Syn],
-    place: &Span,
-    exports: &[(Symbol, Syn)],
-    version: Items<u64>,
+    needed: &Needed,
+    text: Text,
     prims: &PrimTable,
     counts: &mut Counts<N, L>,
 ) -> Result<LibRecord, Stop>
     requires { begun.failed ≡ false }
-    ensures { Gives (λ r. r) result (library_record begun (needed_records records.now needs.now) version place.now exports.now forms.now) }
+    ensures { Gives (λ r. r) result (library_record begun (needed_records needed.now.records.now needed.now.marks.now) text.entry.version text.entry.place.now text.entry.exports.now text.entry.forms) }
 {
+    let Text {
+        place,
+        version,
+        exports,
+        forms,
+    } = text;
     let earlier = Earlier {
-        records: records.ready().as_slice(),
-        needs,
+        records: needed.records.ready().as_slice(),
+        needs: needed.marks,
     };
     let means = Means { earlier, prims };
     begun.top(forms, place, exports, version, &means, counts)
@@ -147,16 +165,16 @@ fn record_behind<N: Ledger, L: Ledger>(
 // An expander behind the records that are marked.
 fn expander_behind(
     alloc: Global,
-    name: LibName,
-    path: Symbol,
-    records: &Records,
-    needs: &[bool],
+    origin: Origin,
+    needed: &Needed,
     names: &[(Symbol, Label)],
     codes: IndexMap<CodeNo, Rc<Code>>,
 ) -> Result<Expander, Stop>
-    ensures { Gives (λ e. e) result (Ok (ready name path (needed_records records.now needs.now) names.now (table.seen codes.entries))) }
+    ensures { Gives (λ e. e) result (Ok (ready origin.name origin.path (needed_records needed.now.records.now needed.now.marks.now) names.now (table.seen codes.entries))) }
 {
-    Expander::new(alloc, name, path, records.ready(), needs, names, codes)
+    let Origin { name, path } = origin;
+    let ready = needed.records.ready();
+    Expander::new(alloc, name, path, ready, needed.marks, names, codes)
 }
 
 fn share_version(alloc: Global, version: &[u64]) -> Result<Items<u64>, Memory>

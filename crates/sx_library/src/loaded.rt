@@ -6,10 +6,11 @@ ghost use Rattle.sx_base.specs.Gives.{Gives, Stops};
 ghost use Rattle.sx_prelude.specs.Prelude.{kept};
 ghost use Rattle.sx_import.specs.Turns.{turns};
 ghost use Rattle.sx_forms.specs.Form.{library_body, program_body};
+ghost use Rattle.sx_load.specs.declared.found.Loading.{Loading};
 ghost use Rattle.sx_library.specs.Loaded.{expand_found, expand_next, all_records, planned_text, text_of};
 
-use crate::library::{Body, body_of, expand_body};
-use crate::records::Records;
+use crate::library::{Unexpanded, body_of, expand_body};
+use crate::records::{Needed, Records};
 use std::alloc::Global;
 use std::sync::ledger::Ledger;
 use sx_base::fault::{Fault, Stop};
@@ -19,12 +20,11 @@ use sx_base::symbol::Symbol;
 use sx_core::record::LibRecord;
 use sx_core_text::whole::core_text;
 use sx_derived::derived::derived_record;
+use sx_derived::implementation::Implementation;
 use sx_forms::form::{LibraryForm, library_body, program_body};
 use sx_import::table::Table;
-use sx_load::found::{Found, Loading, Opened};
+use sx_load::found::{Found, Opened};
 use sx_plan::planned::planned;
-use sx_prelude::prelude::Prelude;
-use sx_prims::table::PrimTable;
 use sx_standing::means::Counts;
 
 // The marks of the libraries that are needed, behind that of the derived library, which all need.
@@ -51,92 +51,76 @@ fn without_data(found: Found) -> (Symbol, LibraryForm)
 
 fn expand_next<N: Ledger, L: Ledger>(
     alloc: Global,
-    prelude: &Prelude,
+    implementation: &Implementation,
     records: &mut Records,
-    found: &Found,
-    prims: &PrimTable,
+    found: Found,
     counts: &mut Counts<N, L>,
 ) -> Result<(), Stop>
-    ensures { Gives (λ _. records.new) result (expand_next (kept prelude.now) records.old ([], found.now)) }
+    ensures { Gives (λ _. records.new) result (expand_next (kept implementation.now.prelude) records.old ([], found)) }
 {
-    let record = expand_one(alloc, prelude, records, found, prims, counts)?;
+    let record = expand_one(alloc, implementation, records, found, counts)?;
     records.push(alloc, record)?;
     Ok(())
 }
 
-// The record of a library behind those that it needs.
+// The record of a library behind those that it needs. Its data go once they are syntax objects.
 fn expand_one<N: Ledger, L: Ledger>(
     alloc: Global,
-    prelude: &Prelude,
+    implementation: &Implementation,
     records: &Records,
-    found: &Found,
-    prims: &PrimTable,
+    found: Found,
     counts: &mut Counts<N, L>,
 ) -> Result<LibRecord, Stop>
-    ensures { Gives (λ r. r) result (expand_found (kept prelude.now) records.now found.now (library_body found.now.opened.«data»)) }
+    ensures { Gives (λ r. r) result (expand_found (kept implementation.now.prelude) records.now found (library_body found.opened.«data»)) }
 {
-    let opened = &found.opened;
-    let needs = with_derived(alloc, found.needs.as_slice())?;
-    let data = library_body(opened.data.as_slice());
-    let body = body_of(alloc, records, needs.as_slice(), &opened.form, data)?;
-    expand_body(
-        alloc,
-        prelude,
+    let marks = with_derived(alloc, found.needs.as_slice())?;
+    let needed = Needed {
         records,
-        needs.as_slice(),
-        &opened.path,
-        &opened.form,
-        &body,
-        prims,
-        counts,
-    )
+        marks: marks.as_slice(),
+    };
+    let data = library_body(found.opened.data.as_slice());
+    let body = body_of(alloc, &needed, &found.opened.form, data)?;
+    let (path, form) = without_data(found);
+    let unexpanded = Unexpanded { path, form, body };
+    expand_body(alloc, implementation, &needed, unexpanded, counts)
 }
 
 // The record of a program behind those that it needs. Its data go once they are syntax objects.
 fn expand_program<N: Ledger, L: Ledger>(
     alloc: Global,
-    prelude: &Prelude,
+    implementation: &Implementation,
     records: &Records,
     found: Found,
-    prims: &PrimTable,
     counts: &mut Counts<N, L>,
 ) -> Result<LibRecord, Stop>
-    ensures { Gives (λ r. r) result (expand_found (kept prelude.now) records.now found (program_body found.opened.«data»)) }
+    ensures { Gives (λ r. r) result (expand_found (kept implementation.now.prelude) records.now found (program_body found.opened.«data»)) }
 {
-    let needs = with_derived(alloc, found.needs.as_slice())?;
-    let data = program_body(found.opened.data.as_slice());
-    let body = body_of(alloc, records, needs.as_slice(), &found.opened.form, data)?;
-    let (path, form) = without_data(found);
-    expand_body(
-        alloc,
-        prelude,
+    let marks = with_derived(alloc, found.needs.as_slice())?;
+    let needed = Needed {
         records,
-        needs.as_slice(),
-        &path,
-        &form,
-        &body,
-        prims,
-        counts,
-    )
+        marks: marks.as_slice(),
+    };
+    let data = program_body(found.opened.data.as_slice());
+    let body = body_of(alloc, &needed, &found.opened.form, data)?;
+    let (path, form) = without_data(found);
+    let unexpanded = Unexpanded { path, form, body };
+    expand_body(alloc, implementation, &needed, unexpanded, counts)
 }
 
 // Records, and behind them those of libraries in the order of loading.
+#[tactic(auto, using(crate::proofs::LoadedLemmas::by_value))]
 fn records_behind<N: Ledger, L: Ledger>(
     alloc: Global,
-    prelude: &Prelude,
+    implementation: &Implementation,
     records: Records,
-    libraries: &Table<Found>,
-    prims: &PrimTable,
+    libraries: Table<Found>,
     counts: &mut Counts<N, L>,
 ) -> Result<Records, Stop>
-    ensures { Gives (λ rs. rs) result (turns (expand_next (kept prelude.now)) records libraries.now) }
+    ensures { Gives (λ rs. rs) result (turns (expand_next (kept implementation.now.prelude)) records libraries) }
 {
     let mut records = records;
-    for place in 0..libraries.size() {
-        let Some((_, found)) = libraries.at(place) else {
-            return Err(Stop::Memory);
-        };
-        expand_next(alloc, prelude, &mut records, found, prims, counts)?;
+    for found in libraries.into_values() {
+        expand_next(alloc, implementation, &mut records, found, counts)?;
     }
     Ok(records)
 }
@@ -144,16 +128,15 @@ fn records_behind<N: Ledger, L: Ledger>(
 // The record of the derived library, and behind it those of the others.
 fn all_records<N: Ledger, L: Ledger>(
     alloc: Global,
-    prelude: &Prelude,
-    libraries: &Table<Found>,
-    prims: &PrimTable,
+    implementation: &Implementation,
+    libraries: Table<Found>,
     counts: &mut Counts<N, L>,
 ) -> Result<Records, Stop>
-    ensures { Gives (λ rs. rs) result (all_records (kept prelude.now) libraries.now) }
+    ensures { Gives (λ rs. rs) result (all_records (kept implementation.now.prelude) libraries) }
 {
-    let derived = derived_record(alloc, prelude, prims, counts)?;
+    let derived = derived_record(alloc, implementation, counts)?;
     let records = Records::of_one(alloc, derived)?;
-    records_behind(alloc, prelude, records, libraries, prims, counts)
+    records_behind(alloc, implementation, records, libraries, counts)
 }
 
 // A program, with the libraries that it needs when it runs before it.
@@ -164,21 +147,20 @@ fn planned_text(alloc: Global, records: &[LibRecord], program: &LibRecord) -> Re
     core_text(alloc, records, &plan, program)
 }
 
-/// The core text of a program that was loaded, or the first fault of a library or of the program. The program's data go
+/// The core text of a program that was loaded, or the first fault of a library or of the program. The data of each file go
 /// once they are syntax objects.
 #[tactic(auto, unfolding(crate::specs::Loaded::text_of))]
 pub fn program_text<N: Ledger, L: Ledger>(
     alloc: Global,
-    prelude: &Prelude,
+    implementation: &Implementation,
     found: Found,
-    loading: &Loading,
-    prims: &PrimTable,
+    libraries: Table<Found>,
     counts: &mut Counts<N, L>,
 ) -> Result<String, Stop>
-    ensures { Gives string_bytes result (text_of (kept prelude.now) (Ok (found, loading.now))) }
+    ensures { (l : Loading) → l.done ≡ libraries → Gives string_bytes result (text_of (kept implementation.now.prelude) (Ok (found, l))) }
 {
-    let records = all_records(alloc, prelude, &loading.done, prims, counts)?;
-    let program = expand_program(alloc, prelude, &records, found, prims, counts)?;
+    let records = all_records(alloc, implementation, libraries, counts)?;
+    let program = expand_program(alloc, implementation, &records, found, counts)?;
     let records = records.into_records();
     planned_text(alloc, &records, &program)
 }
@@ -187,15 +169,14 @@ pub fn program_text<N: Ledger, L: Ledger>(
 #[tactic(auto, unfolding(crate::specs::Loaded::text_of))]
 pub fn first_fault<N: Ledger, L: Ledger>(
     alloc: Global,
-    prelude: &Prelude,
-    loading: &Loading,
+    implementation: &Implementation,
+    libraries: Table<Found>,
     fault: Fault,
-    prims: &PrimTable,
     counts: &mut Counts<N, L>,
 ) -> Stop
-    ensures { Stops result (text_of (kept prelude.now) (Err (loading.now, fault))) }
+    ensures { (l : Loading) → l.done ≡ libraries → Stops result (text_of (kept implementation.now.prelude) (Err (l, fault))) }
 {
-    match all_records(alloc, prelude, &loading.done, prims, counts) {
+    match all_records(alloc, implementation, libraries, counts) {
         Ok(_) => Stop::Fault(fault),
         Err(stop) => stop,
     }

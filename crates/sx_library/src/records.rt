@@ -159,6 +159,23 @@ impl Records {
     }
 }
 
+/// The records of a run that a library needs: those that are marked.
+#[derive(Drop)]
+pub struct Needed<'a> {
+    pub records: &'a Records,
+    /// A mark for each place. Those beyond the marks are not needed.
+    pub marks: &'a [bool],
+}
+
+impl Needed<'_> {
+    /// The record of a library, among these.
+    pub fn named(&self, name: &LibName) -> Option<&LibRecord>
+        ensures { option_copied result ≡ named name.now (needed_records self.now.records.now self.now.marks.now) }
+    {
+        self.records.named(self.marks, name)
+    }
+}
+
 fn is_marked(marks: &[bool], place: usize) -> bool
     ensures { result ≡ is_marked (slice_get marks.now place) }
 {

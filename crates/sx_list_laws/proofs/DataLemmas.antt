@@ -16,7 +16,7 @@ use Rattle.sx_base.specs.declared.span.Span.{Span}
 use Rattle.sx_region.proofs.Laws.{slice_get-added, slice_get-released}
 use Rattle.sx_tree.specs.Context.{LeafContext}
 use Rattle.sx_tree.specs.Leaves.{tree_of, strip, context_of, datum_like}
-use Rattle.sx_tree.specs.Measures.{fits, within, too_deep}
+use Rattle.sx_tree.specs.Measures.{fits, within, too_deep, max_height}
 use Rattle.sx_tree.specs.Tree.{Tree, atom, leaf, pair, vector, is_list, rest_of, list_of, vector_of}
 use Rattle.sx_tree.specs.Tree as tree
 use Rattle.sx_tree.proofs.LeafLaws.{strip-tree_of}
@@ -326,8 +326,8 @@ module _ (op : ℕ) (cells : List Cell) (k x : Value) (id : Tree) (d : PlainDatu
   unfolding syntax_answer
   syntax_is t h = by (is_datum cells x) (ap (λ o. tree_by op cells x o) (sym leaf_is) ∙ h)
     where
-      by : (b : Bool) → (if b then tree_made (grown_to 1000 id cells x) else Err (refused op)) ≡ Ok (made.Value (value.Syn t)) → t ≡ datum_like id d
-      by true e = grows cells id 1000 d x t is (made_is (grown_to 1000 id cells x) t e)
+      by : (b : Bool) → (if b then tree_made (grown_to max_height id cells x) else Err (refused op)) ≡ Ok (made.Value (value.Syn t)) → t ≡ datum_like id d
+      by true e = grows cells id max_height d x t is (made_is (grown_to max_height id cells x) t e)
       by false e = absurd (cc)
 
 syntax_is_syntax : (n : ℕ) (cells : List Cell) (t : Tree) → is_syntax_to n cells (value.Syn t) ≡ true

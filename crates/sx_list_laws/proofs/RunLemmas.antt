@@ -6,6 +6,7 @@ use Rattle.std.proofs.lemmas.List.{append-nil}
 use Rattle.std.proofs.Math.Seq.{take-append_seam}
 use Rattle.sx_base.specs.declared.atom.Atom.{Atom}
 use Rattle.sx_base.specs.declared.atom.Atom.TheVariants as a
+use Rattle.sx_base.specs.declared.op.names.TheConstants as names
 use Rattle.sx_region.proofs.Laws.{slice_get-added}
 use Rattle.sx_value.specs.Cells.{pair_in, pair_at, IsBelow, Whole}
 use Rattle.sx_value.specs.FromDatum.{pairs_stored}
@@ -133,15 +134,15 @@ module _ (cells : List Cell) where
 
     -- ---- what is asked of a list
 
-    pub list_length : {xs : List Value} {x : Value} → IsList cells xs x → list_made 120 (x ∷ []) cells ≡ natural (length xs)
+    pub list_length : {xs : List Value} {x : Value} → IsList cells xs x → list_made names.LENGTH (x ∷ []) cells ≡ natural (length xs)
     unfolding list_made
-    list_length r = ap (λ o. if_some o (of_elements 120)) (run_elements r)
+    list_length r = ap (λ o. if_some o (of_elements names.LENGTH)) (run_elements r)
 
-    pub list_reversed : {xs : List Value} {x : Value} → IsList cells xs x → list_made 155 (x ∷ []) cells ≡ Some (made.List (reverse xs) nil)
+    pub list_reversed : {xs : List Value} {x : Value} → IsList cells xs x → list_made names.REVERSE (x ∷ []) cells ≡ Some (made.List (reverse xs) nil)
     unfolding list_made
-    list_reversed r = ap (λ o. if_some o (of_elements 155)) (run_elements r)
+    list_reversed r = ap (λ o. if_some o (of_elements names.REVERSE)) (run_elements r)
 
-    pub is_list : {xs : List Value} {x : Value} → IsList cells xs x → list_made 126 (x ∷ []) cells ≡ said true
+    pub is_list : {xs : List Value} {x : Value} → IsList cells xs x → list_made names.IS_LIST (x ∷ []) cells ≡ said true
     unfolding list_made
     is_list r = ap (λ (c : Chain). said (is_nil c.end)) (run_chain r refl)
 
@@ -187,13 +188,13 @@ module _ (cells : List Cell) where
     tail_of op {xs = xs} {x = x} r =
         ap (λ o. if_some o (λ n. if_some (tail_after n cells x) (tail_made op cells))) (index_is (length xs) (short r)) ∙ ap (λ o. if_some o (tail_made op cells)) (tail_is r)
 
-    pub list_tail : {xs : List Value} {rest x : Value} → Runs cells xs rest x → indexed_made 125 (x ∷ value.Atom (a.Int (pos (length xs))) ∷ []) cells ≡ Some (made.Value rest)
-    list_tail r = tail_of 125 r
+    pub list_tail : {xs : List Value} {rest x : Value} → Runs cells xs rest x → indexed_made names.LIST_TAIL (x ∷ value.Atom (a.Int (pos (length xs))) ∷ []) cells ≡ Some (made.Value rest)
+    list_tail r = tail_of names.LIST_TAIL r
 
-    pub list_ref : {xs : List Value} {rest x y d : Value} → Runs cells xs rest x → pair_of cells rest ≡ Some (y, d) → indexed_made 124 (x ∷ value.Atom (a.Int (pos (length xs))) ∷ []) cells ≡ Some (made.Value y)
-    list_ref r e = tail_of 124 r ∙ ap (λ o. given (if_some o (λ p. Some p.0))) e
+    pub list_ref : {xs : List Value} {rest x y d : Value} → Runs cells xs rest x → pair_of cells rest ≡ Some (y, d) → indexed_made names.LIST_REF (x ∷ value.Atom (a.Int (pos (length xs))) ∷ []) cells ≡ Some (made.Value y)
+    list_ref r e = tail_of names.LIST_REF r ∙ ap (λ o. given (if_some o (λ p. Some p.0))) e
 
-  pub said_list : (x : Value) → list_made 126 (x ∷ []) cells ≡ said true → (xs : List Value) × IsList cells xs x
+  pub said_list : (x : Value) → list_made names.IS_LIST (x ∷ []) cells ≡ said true → (xs : List Value) × IsList cells xs x
   unfolding list_made
   said_list x h =
       let same : is_nil (chain cells x).end ≡ true = cc in

@@ -8,6 +8,7 @@ use Rattle.std.proofs.lemmas.Option.{slice_get_within}
 use Rattle.std.proofs.lemmas.Str.{chars-encodes}
 use Rattle.sx_base.specs.declared.atom.Atom.TheVariants as a
 use Rattle.sx_base.specs.Named.{Named}
+use Rattle.sx_base.specs.declared.op.names.TheConstants as names
 use Rattle.sx_region.proofs.Laws.{slice_get-added}
 use Rattle.sx_value.specs.Cells.{string_in}
 use Rattle.sx_value.specs.declared.cell.Cell.{Cell}
@@ -35,11 +36,11 @@ module _ (cells : List Cell) where
   chars_of : {cs : List ℕ} {x : Value} → IsString cells cs x → chars (encode_utf8_all cs) ≡ cs
   chars_of (spelt {cs = cs} s e) = chars-encodes cs s
 
-  pub string_length : {cs : List ℕ} {x : Value} → IsString cells cs x → part_made 166 (x ∷ []) cells ≡ natural (length cs)
+  pub string_length : {cs : List ℕ} {x : Value} → IsString cells cs x → part_made names.STRING_LENGTH (x ∷ []) cells ≡ natural (length cs)
   unfolding part_made
   string_length r = ap (λ o. if_some o (λ s. natural (length (chars s)))) (text_of r) ∙ ap (λ cs. natural (length cs)) (chars_of r)
 
-  pub string_ref : {cs : List ℕ} {x : Value} (k c : ℕ) → IsString cells cs x → slice_get cs k ≡ Some c → part_made 167 (x ∷ value.Atom (a.Int (pos k)) ∷ []) cells ≡ Some (made.Value (char_value c))
+  pub string_ref : {cs : List ℕ} {x : Value} (k c : ℕ) → IsString cells cs x → slice_get cs k ≡ Some c → part_made names.STRING_REF (x ∷ value.Atom (a.Int (pos k)) ∷ []) cells ≡ Some (made.Value (char_value c))
   unfolding part_made
   string_ref {cs = cs} k c r e =
       ap (λ o. if_some o (λ s. char_at (chars s) (value.Atom (a.Int (pos k))))) (text_of r) ∙ ap (λ ds. char_at ds (value.Atom (a.Int (pos k)))) (chars_of r)
@@ -59,12 +60,12 @@ module _ (cells : List Cell) where
       joined_is (done ++ encode_utf8_all cs) css ∙ append_assoc done (encode_utf8_all cs) (encode_utf8_all (all_chars css))
       ∙ ap (λ s. done ++ s) (sym (encoded_both cs (all_chars css)))
 
-  pub strings_appended : {css : List (List ℕ)} {args : List Value} → AreStrings cells css args → string_made 163 args cells ≡ Some (made.Text (encode_utf8_all (all_chars css)))
+  pub strings_appended : {css : List (List ℕ)} {args : List Value} → AreStrings cells css args → string_made names.STRING_APPEND args cells ≡ Some (made.Text (encode_utf8_all (all_chars css)))
   unfolding string_made
   strings_appended {css = css} r = ap (λ o. if_some o (λ ss. text_made (joined [] ss))) (texts_of [] r) ∙ ap text_made (joined_is [] css)
 
   pub substring_is : {cs : List ℕ} {x : Value} (start end : ℕ) → IsString cells cs x → start ≤ end → end ≤ length cs
-      → string_made 174 (x ∷ value.Atom (a.Int (pos start)) ∷ value.Atom (a.Int (pos end)) ∷ []) cells ≡ Some (made.Text (encode_utf8_all (take (end - start) (drop start cs))))
+      → string_made names.SUBSTRING (x ∷ value.Atom (a.Int (pos start)) ∷ value.Atom (a.Int (pos end)) ∷ []) cells ≡ Some (made.Text (encode_utf8_all (take (end - start) (drop start cs))))
   unfolding string_made
   substring_is {cs = cs} start end r low high =
       ap (λ o. if_some o (λ s. if_some (cut (chars s) (value.Atom (a.Int (pos start))) (value.Atom (a.Int (pos end)))) text_made)) (text_of r)
@@ -72,7 +73,7 @@ module _ (cells : List Cell) where
       ∙ ap (λ o. if_some (if_some o (λ e. if_some (index_below (e + 1) (value.Atom (a.Int (pos start)))) (λ b. Some (between cs b e)))) text_made) (index_is (length cs + 1) end (omega (arith, high)))
       ∙ ap (λ o. if_some (if_some o (λ b. Some (between cs b end))) text_made) (index_is (end + 1) start (omega (arith, low)))
 
-  pub string_listed : {cs : List ℕ} {x : Value} → IsString cells cs x → unpacked_made 160 (x ∷ []) cells ≡ Some (made.List (map char_value cs) (value.Atom a.Nil))
+  pub string_listed : {cs : List ℕ} {x : Value} → IsString cells cs x → unpacked_made names.STRING_TO_LIST (x ∷ []) cells ≡ Some (made.List (map char_value cs) (value.Atom a.Nil))
   unfolding unpacked_made
   string_listed r = ap (λ o. listed (if_some o (λ s. Some (map char_value (chars s))))) (text_of r) ∙ ap (λ cs. Some (made.List (map char_value cs) (value.Atom a.Nil))) (chars_of r)
 

@@ -7,6 +7,7 @@ ghost use Rattle.sx_base.specs.Named.{Named};
 ghost use Rattle.sx_base.specs.Op.{op_named};
 ghost use Rattle.sx_base.specs.declared.atom.Atom.TheVariants as a;
 ghost use Rattle.sx_base.specs.declared.span.Span.{Span};
+ghost use Rattle.sx_base.specs.declared.op.names.TheConstants as names;
 ghost use Rattle.sx_scope.specs.Same.{same_binder};
 ghost use Rattle.sx_tree.specs.Leaves.{datum_like};
 ghost use Rattle.sx_tree.specs.Tree.{Tree, spanned};
@@ -33,9 +34,9 @@ ghost use Rattle.sx_list_laws.specs.Texts.{IsString, AreStrings, all_chars};
 
 /// The numbers of the primitives of which the laws speak, by their report names.
 pub fn numbers_are_by_name()
-    ensures lists { map op_named (codes "list?" ∷ codes "length" ∷ codes "reverse" ∷ codes "list-tail" ∷ codes "list-ref" ∷ []) ≡ Some 126 ∷ Some 120 ∷ Some 155 ∷ Some 125 ∷ Some 124 ∷ [] }
+    ensures lists { map op_named (codes "list?" ∷ codes "length" ∷ codes "reverse" ∷ codes "list-tail" ∷ codes "list-ref" ∷ []) ≡ Some names.IS_LIST ∷ Some names.LENGTH ∷ Some names.REVERSE ∷ Some names.LIST_TAIL ∷ Some names.LIST_REF ∷ [] }
     ensures strings { map op_named (codes "string-length" ∷ codes "string-ref" ∷ codes "string-append" ∷ codes "substring" ∷ codes "string->list" ∷ []) ≡
-        Some 166 ∷ Some 167 ∷ Some 163 ∷ Some 174 ∷ Some 160 ∷ [] }
+        Some names.STRING_LENGTH ∷ Some names.STRING_REF ∷ Some names.STRING_APPEND ∷ Some names.SUBSTRING ∷ Some names.STRING_TO_LIST ∷ [] }
 {}
 
 /// `equal?` is the recursion of R6RS 11.5, however deep values are: it compares pairs by what `equal?` says of
@@ -60,10 +61,10 @@ pub fn eqv_tells_values_apart()
 pub fn lists_are_by_their_elements()
     ensures elements { (cells : List Cell) (xs : List Value) (x : Value) → Whole cells → IsList cells xs x → list_elements cells x ≡ Some xs }
     ensures only { (cells : List Cell) (xs : List Value) (x : Value) → list_elements cells x ≡ Some xs → IsList cells xs x }
-    ensures is_list { (cells : List Cell) (xs : List Value) (x : Value) → Whole cells → IsList cells xs x → list_made 126 (x ∷ []) cells ≡ said true }
-    ensures no_other { (cells : List Cell) (x : Value) → list_made 126 (x ∷ []) cells ≡ said true → (xs : List Value) × IsList cells xs x }
-    ensures length { (cells : List Cell) (xs : List Value) (x : Value) → Whole cells → IsList cells xs x → list_made 120 (x ∷ []) cells ≡ natural (length xs) }
-    ensures reverse { (cells : List Cell) (xs : List Value) (x : Value) → Whole cells → IsList cells xs x → list_made 155 (x ∷ []) cells ≡ Some (made.List (reverse xs) nil) }
+    ensures is_list { (cells : List Cell) (xs : List Value) (x : Value) → Whole cells → IsList cells xs x → list_made names.IS_LIST (x ∷ []) cells ≡ said true }
+    ensures no_other { (cells : List Cell) (x : Value) → list_made names.IS_LIST (x ∷ []) cells ≡ said true → (xs : List Value) × IsList cells xs x }
+    ensures length { (cells : List Cell) (xs : List Value) (x : Value) → Whole cells → IsList cells xs x → list_made names.LENGTH (x ∷ []) cells ≡ natural (length xs) }
+    ensures reverse { (cells : List Cell) (xs : List Value) (x : Value) → Whole cells → IsList cells xs x → list_made names.REVERSE (x ∷ []) cells ≡ Some (made.List (reverse xs) nil) }
 {}
 
 /// To make a list of elements before a rest makes new pairs with these cars, one behind another, and then this
@@ -84,23 +85,23 @@ pub fn append_joins_lists()
 /// `list-tail` of `k` is what comes behind `k` pairs, and `list-ref` of `k` the car of that (R6RS 11.9).
 pub fn list_tail_leaves_the_rest()
     ensures tail { (cells : List Cell) (xs : List Value) (rest x : Value) → Whole cells → Runs cells xs rest x →
-        indexed_made 125 (x ∷ value.Atom (a.Int (pos (length xs))) ∷ []) cells ≡ Some (made.Value rest) }
+        indexed_made names.LIST_TAIL (x ∷ value.Atom (a.Int (pos (length xs))) ∷ []) cells ≡ Some (made.Value rest) }
     ensures element { (cells : List Cell) (xs : List Value) (rest x y d : Value) → Whole cells → Runs cells xs rest x → pair_of cells rest ≡ Some (y, d) →
-        indexed_made 124 (x ∷ value.Atom (a.Int (pos (length xs))) ∷ []) cells ≡ Some (made.Value y) }
+        indexed_made names.LIST_REF (x ∷ value.Atom (a.Int (pos (length xs))) ∷ []) cells ≡ Some (made.Value y) }
 {}
 
 /// A string is its characters (R6RS 11.12): `string-length` counts them, `string-ref` is the one at a place,
 /// `string-append` is those of all strings, one string after another, `substring` those from a place to before
 /// another, and `string->list` the list of them. A string that is made of characters has just these.
 pub fn strings_are_by_their_characters()
-    ensures length { (cells : List Cell) (cs : List ℕ) (x : Value) → IsString cells cs x → part_made 166 (x ∷ []) cells ≡ natural (length cs) }
+    ensures length { (cells : List Cell) (cs : List ℕ) (x : Value) → IsString cells cs x → part_made names.STRING_LENGTH (x ∷ []) cells ≡ natural (length cs) }
     ensures character { (cells : List Cell) (cs : List ℕ) (x : Value) (k c : ℕ) → IsString cells cs x → slice_get cs k ≡ Some c →
-        part_made 167 (x ∷ value.Atom (a.Int (pos k)) ∷ []) cells ≡ Some (made.Value (char_value c)) }
+        part_made names.STRING_REF (x ∷ value.Atom (a.Int (pos k)) ∷ []) cells ≡ Some (made.Value (char_value c)) }
     ensures append { (cells : List Cell) (css : List (List ℕ)) (args : List Value) → AreStrings cells css args →
-        string_made 163 args cells ≡ Some (made.Text (encode_utf8_all (all_chars css))) }
+        string_made names.STRING_APPEND args cells ≡ Some (made.Text (encode_utf8_all (all_chars css))) }
     ensures substring { (cells : List Cell) (cs : List ℕ) (x : Value) (start end : ℕ) → IsString cells cs x → start ≤ end → end ≤ length cs →
-        string_made 174 (x ∷ value.Atom (a.Int (pos start)) ∷ value.Atom (a.Int (pos end)) ∷ []) cells ≡ Some (made.Text (encode_utf8_all (take (end - start) (drop start cs)))) }
-    ensures listed { (cells : List Cell) (cs : List ℕ) (x : Value) → IsString cells cs x → unpacked_made 160 (x ∷ []) cells ≡ Some (made.List (map char_value cs) nil) }
+        string_made names.SUBSTRING (x ∷ value.Atom (a.Int (pos start)) ∷ value.Atom (a.Int (pos end)) ∷ []) cells ≡ Some (made.Text (encode_utf8_all (take (end - start) (drop start cs)))) }
+    ensures listed { (cells : List Cell) (cs : List ℕ) (x : Value) → IsString cells cs x → unpacked_made names.STRING_TO_LIST (x ∷ []) cells ≡ Some (made.List (map char_value cs) nil) }
     ensures stored { (cells : List Cell) (cs : List ℕ) (name : Named) → all_scalars cs ≡ true →
         IsString (performed (made.Text (encode_utf8_all cs)) name cells).1 cs (performed (made.Text (encode_utf8_all cs)) name cells).0 }
 {}

@@ -12,7 +12,7 @@ ghost use Rattle.sx_load.specs.Gives.{LoadsAfter};
 use crate::found::{Found, Loading};
 use crate::halt::Halt;
 use crate::open::{FILE_LIMIT, add_source, at_start, program_in};
-use crate::search::{Answer, read_at};
+use crate::search::{Answer, Search, read_at};
 use crate::walk::load_all;
 use std::alloc::Global;
 use sx_base::fault::{FaultKind, Stop};
@@ -23,9 +23,8 @@ use sx_outside::Files;
 
 // The program of a source, and all that it imports.
 fn load_source<F: Files>(
-    alloc: Global,
+    search: &Search,
     files: &mut F,
-    roots: &[Symbol],
     path: &Symbol,
     held: Items<u8>,
     loading: &mut Loading,
@@ -33,14 +32,14 @@ fn load_source<F: Files>(
     requires start { loading.old ≡ nothing_loaded }
     requires within { length held ≤ file_limit }
     ensures same { F.told files.new ≡ F.told files.old }
-    ensures given { (fs : Paths) → F.told files.old ≡ Some fs → LoadsAfter result loading.new (program_from fs roots.now path.now (bytes held)) }
+    ensures given { (fs : Paths) → F.told files.old ≡ Some fs → LoadsAfter result loading.new (program_from fs search.now.roots.now path.now (bytes held)) }
     ensures later { F.faults files.old ≤ F.faults files.new }
     ensures failed { result ≡ Err Halt.Read → Rose (F.faults files.old) (F.faults files.new) }
 {
-    let read = program_in(alloc, path, held.as_slice());
+    let read = program_in(search.alloc, path, held.as_slice());
     add_source(loading, path, held)?;
     match read {
-        Ok(opened) => load_all(alloc, files, roots, opened, loading),
+        Ok(opened) => load_all(search, files, opened, loading),
         Err(stop) => Err(Halt::from(stop)),
     }
 }
@@ -80,7 +79,10 @@ pub fn load<F: Files>(
     ensures failed { result ≡ Err Halt.Read → Rose (F.faults files.old) (F.faults files.new) }
 {
     match read_at(files, path, FILE_LIMIT) {
-        Ok(Answer::Bytes(held)) => load_source(alloc, files, roots, path, held, loading),
+        Ok(Answer::Bytes(held)) => {
+            let search = Search { alloc, roots };
+            load_source(&search, files, path, held, loading)
+        }
         Ok(Answer::Longer) => {
             let words = Items::new(alloc);
             Err(Halt::from(at_start(FaultKind::TooLong, path, words)))

@@ -12,7 +12,7 @@ ghost use Rattle.sx_load.specs.Gives.{LoadsAfter};
 use crate::found::{Loading, Opened, Source};
 use crate::halt::Halt;
 use crate::refer::{about, library_word};
-use crate::search::{Sought, look_for};
+use crate::search::{Search, Sought, look_for};
 use std::alloc::Global;
 use sx_base::datum::Datum;
 use sx_base::fault::{Fault, FaultKind, Stop};
@@ -193,22 +193,22 @@ fn opened_from(
 /// Opens the file of a library that isn't begun yet.
 #[tactic(auto, unfolding(crate::specs::Load::open_file))]
 pub fn open_file<F: Files>(
-    alloc: Global,
+    search: &Search,
     files: &mut F,
-    roots: &[Symbol],
     set: &ImportSet,
     loading: &mut Loading,
 ) -> Result<Opened, Halt>
     ensures same { F.told files.new ≡ F.told files.old }
-    ensures given { (fs : Paths) → F.told files.old ≡ Some fs → LoadsAfter result loading.new (open_file fs roots.now set.now loading.old) }
+    ensures given { (fs : Paths) → F.told files.old ≡ Some fs → LoadsAfter result loading.new (open_file fs search.now.roots.now set.now loading.old) }
     ensures later { F.faults files.old ≤ F.faults files.new }
     ensures failed { result ≡ Err Halt.Read → Rose (F.faults files.old) (F.faults files.new) }
 {
+    let alloc = search.alloc;
     if MOST_LIBRARIES <= loading.begun.size() {
         return Err(Halt::from(too_many(alloc, set)));
     }
     let file = file_of(alloc, &set.library)?;
     let max = most(loading.bytes);
-    let sought = look_for(alloc, files, roots, &file, max, &mut loading.sources)?;
+    let sought = look_for(search, files, &file, max, &mut loading.sources)?;
     opened_from(alloc, loading, set, sought)
 }

@@ -16,6 +16,13 @@ use sx_base::symbol::Symbol;
 use sx_file_names::file::path_below;
 use sx_outside::{FileAnswer, Files, OutsideError};
 
+/// How libraries are looked for: under these roots, and what is found takes this memory.
+#[derive(Drop)]
+pub struct Search<'a> {
+    pub alloc: Global,
+    pub roots: &'a [Symbol],
+}
+
 /// What there is under the roots.
 #[derive(Drop)]
 pub enum Sought {
@@ -75,21 +82,20 @@ fn absent_at(path: Symbol) -> Source
 
 /// Looks for a file under the first root that has it. The paths where it isn't are kept as sources.
 pub fn look_for<F: Files>(
-    alloc: Global,
+    search: &Search,
     files: &mut F,
-    roots: &[Symbol],
     file: &Symbol,
     max: usize,
     sources: &mut Items<Source>,
 ) -> Result<Sought, OutsideError>
     ensures same { F.told files.new ≡ F.told files.old }
-    ensures found { (fs : Paths) → F.told files.old ≡ Some fs → IfOk result (λ sought. look_for fs max file.now sources.old roots.now ≡ (sources.new, sought)) }
+    ensures found { (fs : Paths) → F.told files.old ≡ Some fs → IfOk result (λ sought. look_for fs max file.now sources.old search.now.roots.now ≡ (sources.new, sought)) }
     ensures within { IfOk result (IsSoughtWithin max) }
     ensures later { F.faults files.old ≤ F.faults files.new }
     ensures failed { result ≡ Err OutsideError.Failed → Rose (F.faults files.old) (F.faults files.new) }
 {
-    for root in roots {
-        let path = path_below(alloc, root, file)?;
+    for root in search.roots {
+        let path = path_below(search.alloc, root, file)?;
         match read_at(files, &path, max)? {
             Answer::Bytes(held) => return Ok(Sought::Bytes(path, held)),
             Answer::Longer => return Ok(Sought::Longer(path)),

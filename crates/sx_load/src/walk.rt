@@ -13,11 +13,11 @@ use crate::found::{Found, Loading, Open, Opened, next_import};
 use crate::halt::Halt;
 use crate::open::{MOST_LIBRARIES, open_file, too_many};
 use crate::refer::{Known, about, known_of, with_needs};
+use crate::search::Search;
 use std::alloc::Global;
 use sx_base::fault::{FaultKind, Stop};
 use sx_base::items::Items;
 use sx_base::memory::Memory;
-use sx_base::symbol::Symbol;
 use sx_file_names::file::file_of;
 use sx_forms::version::version_fits;
 use sx_import::set::ImportSet;
@@ -152,43 +152,42 @@ fn close(
 
 // The library of the next import is new: the walk goes on in its file.
 fn descend<F: Files>(
-    alloc: Global,
+    search: &Search,
     files: &mut F,
-    roots: &[Symbol],
     at: &Open,
     loading: &mut Loading,
 ) -> Result<Open, Halt>
     ensures same { F.told files.new ≡ F.told files.old }
-    ensures given { (fs : Paths) → F.told files.old ≡ Some fs → LoadsAfter result loading.new (descended fs roots.now at.now loading.old) }
+    ensures given { (fs : Paths) → F.told files.old ≡ Some fs → LoadsAfter result loading.new (descended fs search.now.roots.now at.now loading.old) }
     ensures later { F.faults files.old ≤ F.faults files.new }
     ensures failed { result ≡ Err Halt.Read → Rose (F.faults files.old) (F.faults files.new) }
 {
+    let alloc = search.alloc;
     let Some(import) = next_import(at) else {
         return Err(Halt::Memory);
     };
     if at.room == 0 {
         return Err(Halt::from(too_many(alloc, &import.set)));
     }
-    let opened = open_file(alloc, files, roots, &import.set, loading)?;
+    let opened = open_file(search, files, &import.set, loading)?;
     Ok(first_of(alloc, at.room - 1, opened)?)
 }
 
 // The walk goes on in a file inside this one.
 fn enter<F: Files>(
-    alloc: Global,
+    search: &Search,
     files: &mut F,
-    roots: &[Symbol],
     at: Open,
     stack: &mut Vec<Open>,
     loading: &mut Loading,
 ) -> Result<Turn, Halt>
     requires { known_next at loading.old ≡ Ok (Some Known.New) }
     ensures same { F.told files.new ≡ F.told files.old }
-    ensures given { (fs : Paths) → F.told files.old ≡ Some fs → Turns fs roots.now result stack.new.items loading.new (meaning fs roots.now at (reverse stack.old.items) loading.old) }
+    ensures given { (fs : Paths) → F.told files.old ≡ Some fs → Turns fs search.now.roots.now result stack.new.items loading.new (meaning fs search.now.roots.now at (reverse stack.old.items) loading.old) }
     ensures later { F.faults files.old ≤ F.faults files.new }
     ensures failed { result ≡ Err Halt.Read → Rose (F.faults files.old) (F.faults files.new) }
 {
-    match descend(alloc, files, roots, &at, loading) {
+    match descend(search, files, &at, loading) {
         Ok(inner) => match stack.push(at) {
             Ok(()) => Ok(Turn::On(inner)),
             Err(_) => Err(Halt::Memory),
@@ -232,22 +231,22 @@ fn passed_with(at: Open, needs: Items<bool>) -> Result<Turn, Halt>
 
 // One turn of the walk: the next reference of a file is looked at, or the file is closed.
 fn step<F: Files>(
-    alloc: Global,
+    search: &Search,
     files: &mut F,
-    roots: &[Symbol],
     at: Open,
     stack: &mut Vec<Open>,
     loading: &mut Loading,
 ) -> Result<Turn, Halt>
     ensures same { F.told files.new ≡ F.told files.old }
-    ensures given { (fs : Paths) → F.told files.old ≡ Some fs → Turns fs roots.now result stack.new.items loading.new (meaning fs roots.now at (reverse stack.old.items) loading.old) }
+    ensures given { (fs : Paths) → F.told files.old ≡ Some fs → Turns fs search.now.roots.now result stack.new.items loading.new (meaning fs search.now.roots.now at (reverse stack.old.items) loading.old) }
     ensures later { F.faults files.old ≤ F.faults files.new }
     ensures failed { result ≡ Err Halt.Read → Rose (F.faults files.old) (F.faults files.new) }
 {
+    let alloc = search.alloc;
     match known_next(alloc, &at, loading) {
         Err(stop) => Err(Halt::from(stop)),
         Ok(None) => close(alloc, at, stack, loading),
-        Ok(Some(Known::New)) => enter(alloc, files, roots, at, stack, loading),
+        Ok(Some(Known::New)) => enter(search, files, at, stack, loading),
         Ok(Some(Known::Builtin)) => passed(at),
         Ok(Some(Known::Joined)) => passed(at),
         Ok(Some(Known::Loaded(needs))) => passed_with(at, needs),
@@ -256,21 +255,20 @@ fn step<F: Files>(
 
 // The walk over a file and all that it imports.
 fn walk<F: Files>(
-    alloc: Global,
+    search: &Search,
     files: &mut F,
-    roots: &[Symbol],
     first: Open,
     loading: &mut Loading,
 ) -> Result<Found, Halt>
     ensures same { F.told files.new ≡ F.told files.old }
-    ensures given { (fs : Paths) → F.told files.old ≡ Some fs → LoadsAfter result loading.new (meaning fs roots.now first [] loading.old) }
+    ensures given { (fs : Paths) → F.told files.old ≡ Some fs → LoadsAfter result loading.new (meaning fs search.now.roots.now first [] loading.old) }
     ensures later { F.faults files.old ≤ F.faults files.new }
     ensures failed { result ≡ Err Halt.Read → Rose (F.faults files.old) (F.faults files.new) }
 {
-    let mut stack = Vec::new(alloc);
+    let mut stack = Vec::new(search.alloc);
     let mut at = first;
     for _turn in 0..u64::MAX {
-        match step(alloc, files, roots, at, &mut stack, loading)? {
+        match step(search, files, at, &mut stack, loading)? {
             Turn::On(next) => at = next,
             Turn::Done(found) => return Ok(found),
         }
@@ -280,17 +278,16 @@ fn walk<F: Files>(
 
 /// A file and all that it imports, directly or not, each library after those that it imports itself.
 pub fn load_all<F: Files>(
-    alloc: Global,
+    search: &Search,
     files: &mut F,
-    roots: &[Symbol],
     opened: Opened,
     loading: &mut Loading,
 ) -> Result<Found, Halt>
     ensures same { F.told files.new ≡ F.told files.old }
-    ensures given { (fs : Paths) → F.told files.old ≡ Some fs → LoadsAfter result loading.new (load_file fs roots.now most_libraries opened loading.old) }
+    ensures given { (fs : Paths) → F.told files.old ≡ Some fs → LoadsAfter result loading.new (load_file fs search.now.roots.now most_libraries opened loading.old) }
     ensures later { F.faults files.old ≤ F.faults files.new }
     ensures failed { result ≡ Err Halt.Read → Rose (F.faults files.old) (F.faults files.new) }
 {
-    let first = first_of(alloc, MOST_LIBRARIES, opened)?;
-    walk(alloc, files, roots, first, loading)
+    let first = first_of(search.alloc, MOST_LIBRARIES, opened)?;
+    walk(search, files, first, loading)
 }

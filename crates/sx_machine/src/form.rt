@@ -4,8 +4,9 @@ ghost use Rattle.std.specs.Prelude.{◌≡◌, IfOk};
 ghost use Rattle.sx_base.specs.Datum.{atom, nil, symbol, vector, chain};
 ghost use Rattle.sx_base.specs.declared.atom.Atom.TheVariants as atoms;
 ghost use Rattle.sx_machine.specs.Extent.{span_at};
-ghost use Rattle.sx_machine.specs.Form.{joined, keyword_of, abbreviated, byte_of_int, byte_of};
+ghost use Rattle.sx_machine.specs.Form.{joined, abbreviated, byte_of_int, byte_of};
 
+use crate::context::SourceContext;
 use crate::extent::{Extent, span_at};
 use std::alloc::Global;
 use sx_base::atom::Atom;
@@ -43,6 +44,15 @@ pub fn named(file: &Symbol, name: Symbol, at: Extent) -> Result<Datum, Memory>
     Ok(Datum { span, node })
 }
 
+/// The elements of a list that has no more to come, at their length: a list of one datum would keep room for four.
+pub fn exact(items: Items<Datum>) -> Vec<Datum>
+    ensures { result.items ≡ items }
+{
+    let mut items = items.into_vec();
+    items.shrink_to_fit();
+    items
+}
+
 /// A list with a tail, which is joined on where it is a list. Without elements it is the tail, with
 /// this span.
 #[tactic(auto, using(crate::proofs::Joining::joined_list))]
@@ -54,7 +64,7 @@ pub fn joined(
 ) -> Result<Datum, Memory>
     ensures { IfOk result (λ d. d ≡ joined span items tail) }
 {
-    let mut items = items.into_vec();
+    let mut items = exact(items);
     if items.is_empty() {
         let node = tail.node;
         return Ok(Datum { span, node });
@@ -84,7 +94,7 @@ pub fn vector(file: &Symbol, items: Items<Datum>, at: Extent) -> Result<Datum, M
     ensures { IfOk result (λ d. d ≡ vector (span_at file.now at) (chain items nil)) }
 {
     let span = span_at(file, at)?;
-    let node = Node::Vector(items.into_vec());
+    let node = Node::Vector(exact(items));
     Ok(Datum { span, node })
 }
 
@@ -96,40 +106,23 @@ pub fn bytevector(file: &Symbol, bytes: Items<u8>, at: Extent) -> Result<Datum, 
     constant(file, Atom::Bytes(bytes), at)
 }
 
-/// The symbol that an abbreviation stands for (R6RS 4.3.5).
-pub fn keyword_of(abbreviation: Abbreviation) -> &'static str
-    ensures { result.now ≡ keyword_of abbreviation }
-{
-    match abbreviation {
-        Abbreviation::Quote => "quote",
-        Abbreviation::Quasiquote => "quasiquote",
-        Abbreviation::Unquote => "unquote",
-        Abbreviation::UnquoteSplicing => "unquote-splicing",
-        Abbreviation::Syntax => "syntax",
-        Abbreviation::Quasisyntax => "quasisyntax",
-        Abbreviation::Unsyntax => "unsyntax",
-        Abbreviation::UnsyntaxSplicing => "unsyntax-splicing",
-    }
-}
-
 /// The list that an abbreviation with its datum is. The symbol stands at the prefix, the list at the
 /// whole.
 pub fn abbreviated(
-    alloc: Global,
-    file: &Symbol,
+    context: &SourceContext,
     abbreviation: Abbreviation,
     prefix: Extent,
     datum: Datum,
     all: Extent,
 ) -> Result<Datum, Memory>
-    ensures { IfOk result (λ d. d ≡ abbreviated file.now abbreviation prefix datum all) }
+    ensures { IfOk result (λ d. d ≡ abbreviated context.now.file.now abbreviation prefix datum all) }
 {
-    let keyword = Symbol::new(alloc, keyword_of(abbreviation))?;
-    let mut items = Items::new(alloc);
-    items.push(named(file, keyword, prefix)?)?;
+    let keyword = named(context.file, context.keywords.shared(abbreviation)?, prefix)?;
+    let mut items = Vec::with_capacity(context.alloc, 2)?;
+    items.push(keyword)?;
     items.push(datum)?;
-    let span = span_at(file, all)?;
-    joined(alloc, span, items, nil())
+    let span = span_at(context.file, all)?;
+    joined(context.alloc, span, Items::from_vec(items), nil())
 }
 
 /// The byte that a datum is in a bytevector.

@@ -14,7 +14,9 @@
 //! what it gives in the words of R6RS 4.3: which tokens spell which data.
 #![tactic(auto)]
 
+pub mod context;
 pub mod extent;
 mod form;
+pub mod keywords;
 pub mod partial;
 pub mod step;

@@ -6,101 +6,88 @@ ghost use Rattle.sx_machine.specs.Extent.{through};
 ghost use Rattle.sx_machine.specs.Form.{byte_of};
 ghost use Rattle.sx_machine.specs.Step.{list_with, bytes_with, deliver, tail_of, ended, closed, nested, opened, opened_bytes, dot_in, dotted, step, finish};
 
+use crate::context::SourceContext;
 use crate::extent::{Extent, fault_at, span_at};
-use crate::form::{abbreviated, byte_of, bytevector, constant, joined, named, nil, vector};
+use crate::form::{abbreviated, byte_of, bytevector, constant, exact, joined, named, nil, vector};
 use crate::partial::{Partial, Parts, State, Tail};
-use std::alloc::Global;
 use sx_base::datum::Datum;
 use sx_base::fault::{FaultKind, Stop};
 use sx_base::items::Items;
-use sx_base::symbol::Symbol;
 use sx_lexer::token::{Bracket, Lexeme, Token};
 
-/// The state after one more token, where so many forms may be nested. A fault is at the token, but
+/// The state after one more token. A fault is at the token, but
 /// where a dot isn't before the last datum of its list it is at that dot.
-pub fn step(
-    alloc: Global,
-    file: &Symbol,
-    nesting: u32,
-    state: State,
-    lexeme: Lexeme,
-) -> Result<State, Stop>
-    ensures { Gives (λ s. s) result (step file.now nesting state lexeme) }
+pub fn step(context: &SourceContext, state: State, lexeme: Lexeme) -> Result<State, Stop>
+    ensures { Gives (λ s. s) result (step context.now.file.now context.now.nesting state lexeme) }
 {
     let Lexeme { token, from, to } = lexeme;
     let at = Extent { from, to };
     match token {
         Token::Open(bracket) => {
-            let parts = Parts::List(bracket, Items::new(alloc), Tail::Absent);
-            opened(alloc, file, nesting, state, parts, at)
+            let parts = Parts::List(bracket, Items::new(context.alloc), Tail::Absent);
+            opened(context, state, parts, at)
         }
-        Token::Close(bracket) => closed(alloc, file, state, bracket, at),
+        Token::Close(bracket) => closed(context, state, bracket, at),
         Token::OpenVector => {
-            let parts = Parts::Vector(Items::new(alloc));
-            opened(alloc, file, nesting, state, parts, at)
+            let parts = Parts::Vector(Items::new(context.alloc));
+            opened(context, state, parts, at)
         }
-        Token::OpenBytes => opened_bytes(alloc, file, nesting, state, at),
-        Token::Abbreviation(kind) => {
-            opened(alloc, file, nesting, state, Parts::Abbreviation(kind), at)
-        }
-        Token::SkipDatum => nested(alloc, file, nesting, state, Parts::Skipped, at),
-        Token::Dot => dotted(alloc, file, state, at),
+        Token::OpenBytes => opened_bytes(context, state, at),
+        Token::Abbreviation(kind) => { opened(context, state, Parts::Abbreviation(kind), at) }
+        Token::SkipDatum => nested(context, state, Parts::Skipped, at),
+        Token::Dot => dotted(context, state, at),
         Token::Atom(value) => {
-            let datum = constant(file, value, at)?;
-            deliver(alloc, file, state, datum, at)
+            let datum = constant(context.file, value, at)?;
+            deliver(context, state, datum, at)
         }
         Token::Symbol(name) => {
-            let datum = named(file, name, at)?;
-            deliver(alloc, file, state, datum, at)
+            let datum = named(context.file, name, at)?;
+            deliver(context, state, datum, at)
         }
     }
 }
 
 /// The data, where the source ends. Where a form is open it is a fault at the innermost opening.
-pub fn finish(alloc: Global, file: &Symbol, mut state: State) -> Result<Vec<Datum>, Stop>
-    ensures { Gives (λ v. v.items) result (finish file.now state.stack state.done) }
+pub fn finish(context: &SourceContext, mut state: State) -> Result<Vec<Datum>, Stop>
+    ensures { Gives (λ v. v.items) result (finish context.now.file.now state.stack state.done) }
 {
     match state.stack.pop() {
-        None => Ok(state.done.into_vec()),
+        None => Ok(exact(state.done)),
         Some(form) => {
-            let fault = fault_at(alloc, file, FaultKind::Unclosed, form.opening)?;
+            let fault = fault_at(
+                context.alloc,
+                context.file,
+                FaultKind::Unclosed,
+                form.opening,
+            )?;
             Err(Stop::Fault(fault))
         }
     }
 }
 
 /// A form other than a comment is opened that counts.
-fn opened(
-    alloc: Global,
-    file: &Symbol,
-    nesting: u32,
-    state: State,
-    parts: Parts,
-    at: Extent,
-) -> Result<State, Stop>
-    ensures { Gives (λ s. s) result (opened file.now nesting state parts at) }
+fn opened(context: &SourceContext, state: State, parts: Parts, at: Extent) -> Result<State, Stop>
+    ensures { Gives (λ s. s) result (opened context.now.file.now context.now.nesting state parts at) }
 {
     if let Some(wrong) = state.stack.misplaced(at) {
-        let fault = fault_at(alloc, file, wrong.kind, wrong.at)?;
+        let fault = fault_at(context.alloc, context.file, wrong.kind, wrong.at)?;
         return Err(Stop::Fault(fault));
     }
-    nested(alloc, file, nesting, state, parts, at)
+    nested(context, state, parts, at)
 }
 
 /// A form is opened that counts one of nesting.
 fn nested(
-    alloc: Global,
-    file: &Symbol,
-    nesting: u32,
+    context: &SourceContext,
     mut state: State,
     parts: Parts,
     at: Extent,
 ) -> Result<State, Stop>
-    ensures { Gives (λ s. s) result (nested file.now nesting state parts at) }
+    ensures { Gives (λ s. s) result (nested context.now.file.now context.now.nesting state parts at) }
 {
-    let room = state.stack.room(nesting);
+    let room = state.stack.room(context.nesting);
     if room == 0 {
-        let fault = fault_at(alloc, file, FaultKind::TooNested, at)?;
+        let fault = fault_at(context.alloc, context.file, FaultKind::TooNested, at)?;
         return Err(Stop::Fault(fault));
     }
     let room = room - 1;
@@ -114,22 +101,16 @@ fn nested(
 }
 
 /// A bytevector is opened. It doesn't count as nesting, since no form stands in it.
-fn opened_bytes(
-    alloc: Global,
-    file: &Symbol,
-    nesting: u32,
-    mut state: State,
-    at: Extent,
-) -> Result<State, Stop>
-    ensures { Gives (λ s. s) result (opened_bytes file.now nesting state at) }
+fn opened_bytes(context: &SourceContext, mut state: State, at: Extent) -> Result<State, Stop>
+    ensures { Gives (λ s. s) result (opened_bytes context.now.file.now context.now.nesting state at) }
 {
     if let Some(wrong) = state.stack.misplaced(at) {
-        let fault = fault_at(alloc, file, wrong.kind, wrong.at)?;
+        let fault = fault_at(context.alloc, context.file, wrong.kind, wrong.at)?;
         return Err(Stop::Fault(fault));
     }
-    let room = state.stack.room(nesting);
+    let room = state.stack.room(context.nesting);
     let opening = at;
-    let parts = Parts::Bytes(Items::new(alloc));
+    let parts = Parts::Bytes(Items::new(context.alloc));
     state.stack.push(Partial {
         opening,
         room,
@@ -140,13 +121,12 @@ fn opened_bytes(
 
 /// A datum is complete: it goes into what is open, and may complete abbreviations there.
 fn deliver(
-    alloc: Global,
-    file: &Symbol,
+    context: &SourceContext,
     mut state: State,
     mut datum: Datum,
     mut at: Extent,
 ) -> Result<State, Stop>
-    ensures { Gives (λ s. s) result (deliver file.now state.stack state.done datum at) }
+    ensures { Gives (λ s. s) result (deliver context.now.file.now state.stack state.done datum at) }
 {
     loop {
         let Some(form) = state.stack.pop() else {
@@ -160,7 +140,7 @@ fn deliver(
         } = form;
         match parts {
             Parts::List(bracket, items, tail) => {
-                let parts = list_with(alloc, file, bracket, items, tail, datum)?;
+                let parts = list_with(context, bracket, items, tail, datum)?;
                 state.stack.push(Partial {
                     opening,
                     room,
@@ -179,7 +159,7 @@ fn deliver(
                 return Ok(state);
             }
             Parts::Bytes(bytes) => {
-                let parts = bytes_with(alloc, file, bytes, byte_of(&datum), at)?;
+                let parts = bytes_with(context, bytes, byte_of(&datum), at)?;
                 state.stack.push(Partial {
                     opening,
                     room,
@@ -189,7 +169,7 @@ fn deliver(
             }
             Parts::Abbreviation(kind) => {
                 let all = through(opening, at);
-                datum = abbreviated(alloc, file, kind, opening, datum, all)?;
+                datum = abbreviated(context, kind, opening, datum, all)?;
                 at = all;
             }
             Parts::Skipped => return Ok(state),
@@ -208,14 +188,13 @@ fn through(first: Extent, last: Extent) -> Extent
 
 /// An open list with one more datum.
 fn list_with(
-    alloc: Global,
-    file: &Symbol,
+    context: &SourceContext,
     bracket: Bracket,
     mut items: Items<Datum>,
     tail: Tail,
     datum: Datum,
 ) -> Result<Parts, Stop>
-    ensures { Gives (λ p. p) result (list_with file.now bracket items tail datum) }
+    ensures { Gives (λ p. p) result (list_with context.now.file.now bracket items tail datum) }
 {
     match tail {
         Tail::Absent => {
@@ -224,7 +203,7 @@ fn list_with(
         }
         Tail::Dotted(dot) => Ok(Parts::List(bracket, items, Tail::Given(dot, datum))),
         Tail::Given(dot, _) => {
-            let fault = fault_at(alloc, file, FaultKind::BadDot, dot)?;
+            let fault = fault_at(context.alloc, context.file, FaultKind::BadDot, dot)?;
             Err(Stop::Fault(fault))
         }
     }
@@ -232,13 +211,12 @@ fn list_with(
 
 /// An open bytevector with one more element.
 fn bytes_with(
-    alloc: Global,
-    file: &Symbol,
+    context: &SourceContext,
     mut bytes: Items<u8>,
     byte: Option<u8>,
     at: Extent,
 ) -> Result<Parts, Stop>
-    ensures { Gives (λ p. p) result (bytes_with file.now bytes byte at) }
+    ensures { Gives (λ p. p) result (bytes_with context.now.file.now bytes byte at) }
 {
     match byte {
         Some(byte) => {
@@ -246,85 +224,83 @@ fn bytes_with(
             Ok(Parts::Bytes(bytes))
         }
         None => {
-            let fault = fault_at(alloc, file, FaultKind::BadNumber, at)?;
+            let fault = fault_at(context.alloc, context.file, FaultKind::BadNumber, at)?;
             Err(Stop::Fault(fault))
         }
     }
 }
 
 fn closed(
-    alloc: Global,
-    file: &Symbol,
+    context: &SourceContext,
     mut state: State,
     bracket: Bracket,
     at: Extent,
 ) -> Result<State, Stop>
-    ensures { Gives (λ s. s) result (closed file.now state.stack state.done bracket at) }
+    ensures { Gives (λ s. s) result (closed context.now.file.now state.stack state.done bracket at) }
 {
     let Some(form) = state.stack.pop() else {
-        let fault = fault_at(alloc, file, FaultKind::StrayClose, at)?;
+        let fault = fault_at(context.alloc, context.file, FaultKind::StrayClose, at)?;
         return Err(Stop::Fault(fault));
     };
     let all = through(form.opening, at);
-    let datum = ended(alloc, file, form.parts, bracket, at, all)?;
-    deliver(alloc, file, state, datum, all)
+    let datum = ended(context, form.parts, bracket, at, all)?;
+    deliver(context, state, datum, all)
 }
 
 /// The datum that a close ends. The close stands at `at`, the datum at `all`.
 fn ended(
-    alloc: Global,
-    file: &Symbol,
+    context: &SourceContext,
     parts: Parts,
     bracket: Bracket,
     at: Extent,
     all: Extent,
 ) -> Result<Datum, Stop>
-    ensures { Gives (λ d. d) result (ended file.now parts bracket at all) }
+    ensures { Gives (λ d. d) result (ended context.now.file.now parts bracket at all) }
 {
     match parts {
         Parts::List(opened_by, items, tail) => {
-            let tail = tail_of(alloc, file, tail)?;
+            let tail = tail_of(context, tail)?;
             if bracket == opened_by {
-                let span = span_at(file, all)?;
-                return Ok(joined(alloc, span, items, tail)?);
+                let span = span_at(context.file, all)?;
+                return Ok(joined(context.alloc, span, items, tail)?);
             }
         }
         Parts::Vector(items) => {
             if bracket == Bracket::Round {
-                return Ok(vector(file, items, all)?);
+                return Ok(vector(context.file, items, all)?);
             }
         }
         Parts::Bytes(bytes) => {
             if bracket == Bracket::Round {
-                return Ok(bytevector(file, bytes, all)?);
+                return Ok(bytevector(context.file, bytes, all)?);
             }
         }
         Parts::Abbreviation(_) => {}
         Parts::Skipped => {}
     }
-    let fault = fault_at(alloc, file, FaultKind::StrayClose, at)?;
+    let fault = fault_at(context.alloc, context.file, FaultKind::StrayClose, at)?;
     Err(Stop::Fault(fault))
 }
 
 /// The tail of a list that ends here.
-fn tail_of(alloc: Global, file: &Symbol, tail: Tail) -> Result<Datum, Stop>
-    ensures { Gives (λ d. d) result (tail_of file.now tail) }
+fn tail_of(context: &SourceContext, tail: Tail) -> Result<Datum, Stop>
+    ensures { Gives (λ d. d) result (tail_of context.now.file.now tail) }
 {
     match tail {
         Tail::Absent => Ok(nil()),
         Tail::Dotted(dot) => {
-            let fault = fault_at(alloc, file, FaultKind::BadDot, dot)?;
+            let fault = fault_at(context.alloc, context.file, FaultKind::BadDot, dot)?;
             Err(Stop::Fault(fault))
         }
         Tail::Given(_, datum) => Ok(datum),
     }
 }
 
-fn dotted(alloc: Global, file: &Symbol, mut state: State, at: Extent) -> Result<State, Stop>
-    ensures { Gives (λ s. s) result (dotted file.now state.stack state.done at) }
+fn dotted(context: &SourceContext, mut state: State, at: Extent) -> Result<State, Stop>
+    ensures { Gives (λ s. s) result (dotted context.now.file.now state.stack state.done at) }
 {
     let Some(form) = state.stack.pop() else {
-        let fault = fault_at(alloc, file, FaultKind::BadDot, at)?;
+        let fault = fault_at(context.alloc, context.file, FaultKind::BadDot, at)?;
         return Err(Stop::Fault(fault));
     };
     let Partial {
@@ -334,7 +310,7 @@ fn dotted(alloc: Global, file: &Symbol, mut state: State, at: Extent) -> Result<
     } = form;
     match parts {
         Parts::List(bracket, items, tail) => {
-            let tail = dot_in(alloc, file, &items, tail, at)?;
+            let tail = dot_in(context, &items, tail, at)?;
             let parts = Parts::List(bracket, items, tail);
             state.stack.push(Partial {
                 opening,
@@ -344,7 +320,7 @@ fn dotted(alloc: Global, file: &Symbol, mut state: State, at: Extent) -> Result<
             Ok(state)
         }
         _ => {
-            let fault = fault_at(alloc, file, FaultKind::BadDot, at)?;
+            let fault = fault_at(context.alloc, context.file, FaultKind::BadDot, at)?;
             Err(Stop::Fault(fault))
         }
     }
@@ -352,28 +328,27 @@ fn dotted(alloc: Global, file: &Symbol, mut state: State, at: Extent) -> Result<
 
 /// What stands behind the elements of an open list, once a dot comes there.
 fn dot_in(
-    alloc: Global,
-    file: &Symbol,
+    context: &SourceContext,
     items: &Items<Datum>,
     tail: Tail,
     at: Extent,
 ) -> Result<Tail, Stop>
-    ensures { Gives (λ t. t) result (dot_in file.now items.now tail at) }
+    ensures { Gives (λ t. t) result (dot_in context.now.file.now items.now tail at) }
 {
     match tail {
         Tail::Absent => {
             if items.as_slice().is_empty() {
-                let fault = fault_at(alloc, file, FaultKind::BadDot, at)?;
+                let fault = fault_at(context.alloc, context.file, FaultKind::BadDot, at)?;
                 return Err(Stop::Fault(fault));
             }
             Ok(Tail::Dotted(at))
         }
         Tail::Dotted(dot) => {
-            let fault = fault_at(alloc, file, FaultKind::BadDot, dot)?;
+            let fault = fault_at(context.alloc, context.file, FaultKind::BadDot, dot)?;
             Err(Stop::Fault(fault))
         }
         Tail::Given(dot, _) => {
-            let fault = fault_at(alloc, file, FaultKind::BadDot, dot)?;
+            let fault = fault_at(context.alloc, context.file, FaultKind::BadDot, dot)?;
             Err(Stop::Fault(fault))
         }
     }

@@ -3,6 +3,7 @@ use Rattle.std.proofs.Common.{◌≡◌, ℕ, zero, suc, ◌+◌, ◌-◌, ◌*�
 use Rattle.std.specs.Prelude.{◌≢◌, ℤ, pos, negsuc, neg_ℤ, ◌+ℤ◌, ◌-ℤ◌, ◌*ℤ◌, unsigned_abs, if◌then◌else◌}
 use Rattle.std.specs.Int.{int_div_euclid, int_rem_euclid, int_signum}
 use Rattle.std.proofs.lemmas.Int.{ints}
+use Rattle.sx_base.specs.declared.op.names.TheConstants as names
 use Rattle.sx_prims.specs.Numbers.{quotient, is_upper}
 use lib.IntN.{suc_ℤ-*ℤ, pred_ℤ-*ℤ, +ℤ_one, -ℤ_one}
 
@@ -53,5 +54,5 @@ by_half : (upper : Bool) (q d r : ℤ) → d ≢ pos 0
 by_half true q d r h = one_more q d r h
 by_half false q d r h = refl
 
-pub nearest : (x d : ℤ) → d ≢ pos 0 → quotient 95 x d *ℤ d +ℤ quotient 137 x d ≡ x
+pub nearest : (x d : ℤ) → d ≢ pos 0 → quotient names.DIV0 x d *ℤ d +ℤ quotient names.MOD0 x d ≡ x
 nearest x d h = by_half (is_upper x d) (int_div_euclid x d) d (int_rem_euclid x d) h ∙ euclid x d h

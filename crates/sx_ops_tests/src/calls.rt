@@ -13,6 +13,11 @@ use sx_ops::raised::raising;
 use sx_ops::strings::{number_strings, string_comparisons, strings};
 use sx_ops::syntax::{identifiers, temporaries};
 use sx_prims::made::Made;
+use sx_prims::rows::{
+    APPENDED, BASICS, CHARACTERS, DATA, EQUALITY, GATHERED, IDENTIFIERS, INDEXED, LISTS,
+    NUMBER_STRINGS, NUMBERS, PARTS, RAISING, STRING_COMPARISONS, STRINGS, TEMPORARIES, TREES,
+    UNPACKED,
+};
 use sx_prims::table::{PrimRow, PrimTable};
 use sx_region::region::Region;
 use sx_scope::scope::Frames;
@@ -20,32 +25,32 @@ use sx_value::cell::Cell;
 use sx_value::value::Value;
 
 fn first_rows(alloc: Global, rows: &mut Vec<PrimRow>) -> Result<(), Memory> {
-    rows.push(PrimRow::new(0, Box::new(alloc, basics)?))?;
-    rows.push(PrimRow::new(1, Box::new(alloc, numbers)?))?;
-    rows.push(PrimRow::new(2, Box::new(alloc, characters)?))?;
-    rows.push(PrimRow::new(3, Box::new(alloc, parts)?))?;
-    rows.push(PrimRow::new(4, Box::new(alloc, gathered)?))?;
-    rows.push(PrimRow::new(5, Box::new(alloc, lists)?))?;
+    rows.push(PrimRow::new(BASICS, Box::new(alloc, basics)?))?;
+    rows.push(PrimRow::new(NUMBERS, Box::new(alloc, numbers)?))?;
+    rows.push(PrimRow::new(CHARACTERS, Box::new(alloc, characters)?))?;
+    rows.push(PrimRow::new(PARTS, Box::new(alloc, parts)?))?;
+    rows.push(PrimRow::new(GATHERED, Box::new(alloc, gathered)?))?;
+    rows.push(PrimRow::new(LISTS, Box::new(alloc, lists)?))?;
     Ok(())
 }
 
 fn middle_rows(alloc: Global, rows: &mut Vec<PrimRow>) -> Result<(), Memory> {
-    rows.push(PrimRow::new(6, Box::new(alloc, appended)?))?;
-    rows.push(PrimRow::new(7, Box::new(alloc, indexed)?))?;
-    rows.push(PrimRow::new(8, Box::new(alloc, unpacked)?))?;
-    rows.push(PrimRow::new(9, Box::new(alloc, strings)?))?;
-    rows.push(PrimRow::new(10, Box::new(alloc, number_strings)?))?;
-    rows.push(PrimRow::new(11, Box::new(alloc, string_comparisons)?))?;
+    rows.push(PrimRow::new(APPENDED, Box::new(alloc, appended)?))?;
+    rows.push(PrimRow::new(INDEXED, Box::new(alloc, indexed)?))?;
+    rows.push(PrimRow::new(UNPACKED, Box::new(alloc, unpacked)?))?;
+    rows.push(PrimRow::new(STRINGS, Box::new(alloc, strings)?))?;
+    rows.push(PrimRow::new(NUMBER_STRINGS, Box::new(alloc, number_strings)?))?;
+    rows.push(PrimRow::new(STRING_COMPARISONS, Box::new(alloc, string_comparisons)?))?;
     Ok(())
 }
 
 fn last_rows(alloc: Global, rows: &mut Vec<PrimRow>) -> Result<(), Memory> {
-    rows.push(PrimRow::new(12, Box::new(alloc, equality)?))?;
-    rows.push(PrimRow::new(13, Box::new(alloc, identifiers)?))?;
-    rows.push(PrimRow::new(14, Box::new(alloc, data)?))?;
-    rows.push(PrimRow::new(15, Box::new(alloc, trees)?))?;
-    rows.push(PrimRow::new(16, Box::new(alloc, temporaries)?))?;
-    rows.push(PrimRow::new(17, Box::new(alloc, raising)?))?;
+    rows.push(PrimRow::new(EQUALITY, Box::new(alloc, equality)?))?;
+    rows.push(PrimRow::new(IDENTIFIERS, Box::new(alloc, identifiers)?))?;
+    rows.push(PrimRow::new(DATA, Box::new(alloc, data)?))?;
+    rows.push(PrimRow::new(TREES, Box::new(alloc, trees)?))?;
+    rows.push(PrimRow::new(TEMPORARIES, Box::new(alloc, temporaries)?))?;
+    rows.push(PrimRow::new(RAISING, Box::new(alloc, raising)?))?;
     Ok(())
 }
 

@@ -13,11 +13,11 @@ use sx_base::fault::BareStop;
 use sx_base::library::LibName;
 use sx_base::memory::Memory;
 use sx_base::name::Names;
-use sx_base::op::Op;
+use sx_base::op::{Op, names};
 use sx_base::steps::Steps;
-use sx_eval::eval::call;
+use sx_eval::eval::{Resources, call};
 use sx_prims::table::PrimTable;
-use sx_prims::world::World;
+use sx_prims::world::{Store, World};
 use sx_region::region::Region;
 use sx_scope::scope::Frames;
 use sx_value::cell::{Cell, add_cell};
@@ -36,19 +36,19 @@ struct Row {
 /// `car`, which costs nothing, and `length`, which costs the pairs of its list.
 const ROWS: [Row; 3] = [
     Row {
-        op: 51,
+        op: names::CAR,
         fuel: 0,
         fault: 0,
         number: 1,
     },
     Row {
-        op: 120,
+        op: names::LENGTH,
         fuel: 2,
         fault: 0,
         number: 2,
     },
     Row {
-        op: 120,
+        op: names::LENGTH,
         fuel: 1,
         fault: 38,
         number: 0,
@@ -66,10 +66,13 @@ const NO_PROCEDURE: Row = Row {
 // A world without codes and variables.
 fn world(alloc: Global) -> Result<World, Memory> {
     let library = Rc::new(alloc, LibName::Program)?;
-    Ok(World {
+    let store = Store {
         cells: Region::new(alloc),
-        frames: Frames::new(alloc),
         names: Names::new(library),
+    };
+    Ok(World {
+        store,
+        frames: Frames::new(alloc),
         codes: IndexMap::new(alloc),
         globals: IndexMap::new(alloc),
     })
@@ -91,8 +94,7 @@ fn is_number(value: &Value, number: i128) -> bool {
 }
 
 fn call_in<N: Ledger>(
-    alloc: Global,
-    prims: &PrimTable,
+    resources: &Resources,
     world: &mut World,
     procedure: &Value,
     row: Row,
@@ -101,13 +103,13 @@ fn call_in<N: Ledger>(
     requires name { blank.name ≡ N.name }
     requires parts { (blank.parts ≡ N.parts) × (0 < N.parts) }
 {
-    if row.fuel >= 1_000_000_000_000 {
+    if resources.fuel >= 1_000_000_000_000 {
         return Ok(false);
     }
-    let mut args = Vec::new(alloc);
-    args.push(list(&mut world.cells)?)?;
+    let mut args = Vec::new(resources.alloc);
+    args.push(list(&mut world.store.cells)?)?;
     let mut steps = Steps::<N>::open(blank);
-    match call(alloc, procedure, args, row.fuel, prims, world, &mut steps) {
+    match call(resources, procedure, args, world, &mut steps) {
         Ok((value, left)) => Ok(row.fault == 0 && left == 0 && is_number(&value, row.number)),
         Err(BareStop::Fault(fault)) => Ok(fault.kind.number() == row.fault),
         Err(BareStop::Memory) => Ok(false),
@@ -117,7 +119,12 @@ fn call_in<N: Ledger>(
 // The same in a new world, counting for nobody.
 fn call_holds(alloc: Global, prims: &PrimTable, procedure: &Value, row: Row) -> Result<bool, Fail> {
     let mut world = world(alloc)?;
-    call_in::<Brand>(alloc, prims, &mut world, procedure, row, Blank::new(1))
+    let resources = Resources {
+        alloc,
+        prims,
+        fuel: row.fuel,
+    };
+    call_in::<Brand>(&resources, &mut world, procedure, row, Blank::new(1))
 }
 
 fn check_calls(rt: &impl Abort, alloc: Global, prims: &PrimTable) -> Result<(), Fail> {

@@ -5,7 +5,7 @@ use std::test::Fail;
 use sx_base::atom::Atom;
 use sx_base::fault::BareStop;
 use sx_base::memory::Memory;
-use sx_base::op::Op;
+use sx_base::op::{Op, names};
 use sx_prims::made::Made;
 use sx_prims::table::PrimTable;
 use sx_region::region::Region;
@@ -55,55 +55,55 @@ struct Price {
 /// `list`, `+`, `car`, `div` with a wrong number of arguments, and an op without a row.
 const PRICES: [Price; 9] = [
     Price {
-        op: 121,
+        op: names::LIST,
         count: 3,
         limit: 10,
         cost: 3,
     },
     Price {
-        op: 121,
+        op: names::LIST,
         count: 3,
         limit: 2,
         cost: 3,
     },
     Price {
-        op: 30,
+        op: names::PLUS,
         count: 5,
         limit: 10,
         cost: 3,
     },
     Price {
-        op: 30,
+        op: names::PLUS,
         count: 5,
         limit: 2,
         cost: 3,
     },
     Price {
-        op: 30,
+        op: names::PLUS,
         count: 5,
         limit: 1,
         cost: 2,
     },
     Price {
-        op: 30,
+        op: names::PLUS,
         count: 0,
         limit: 10,
         cost: 0,
     },
     Price {
-        op: 51,
+        op: names::CAR,
         count: 3,
         limit: 10,
         cost: 0,
     },
     Price {
-        op: 93,
+        op: names::DIV,
         count: 4,
         limit: 10,
         cost: 0,
     },
     Price {
-        op: 300,
+        op: names::PARENT_RTD,
         count: 4,
         limit: 10,
         cost: 0,
@@ -200,13 +200,13 @@ struct Tail {
 }
 
 const TAIL: Tail = Tail {
-    op: 125,
+    op: names::LIST_TAIL,
     number: 2_000_000,
 };
 
 /// More than any limit.
 const LONGEST_TAIL: Tail = Tail {
-    op: 125,
+    op: names::LIST_TAIL,
     number: 99_999_999_999_999_999_999_999,
 };
 

@@ -4,17 +4,15 @@ use Rattle.std.specs.Prelude.{Result, true, false}
 use Rattle.std.specs.declared.alloc.Global.{Global}
 use Rattle.sx_base.specs.declared.atom.Atom.{Atom}
 use Rattle.sx_base.specs.declared.fault.Fault.{Fault}
-use Rattle.sx_base.specs.declared.span.Span.{Span}
 use Rattle.sx_tree.specs.Tree.{Tree, atom, leaf, pair, vector, chain, nil, is_pair}
 use Rattle.sx_syntax.specs.Opens.{Opens}
 use Rattle.sx_syntax.specs.declared.syn.Opened.TheVariants as opened
-use Rattle.sx_frames.specs.Scope.{Scope}
 use Rattle.sx_core.specs.Pattern.{PlainPattern}
 use Rattle.sx_core.specs.Pattern as patterns
 use Rattle.sx_shapes.specs.Lists.{elements, tail_of}
 use Rattle.sx_value.specs.declared.value.Value.TheVariants as value
 use Rattle.sx_pattern.specs.Values.{tree_atom, tree_vector}
-use Rattle.sx_pattern.specs.Compile.{Taken, Element, pattern, element_patterns, tail_pattern, with_pattern, list_with, vector_with, forms_walked, walked, no_parts, leaf_pattern, list_pattern, vector_pattern}
+use Rattle.sx_pattern.specs.Compile.{Context, Taken, Element, pattern, element_patterns, tail_pattern, with_pattern, list_with, vector_with, forms_walked, walked, no_parts, leaf_pattern, list_pattern, vector_pattern}
 
 pub atom_opened : (e : Atom) (t : Tree) → Opens (opened.Atom e) t → tree_atom t ≡ Some e
 atom_opened e (atom s b) h = ap Some (sym h)
@@ -75,44 +73,44 @@ pair_opened x y (pair s a d) h = refl
 pair_opened x y (vector s d) h = absurd h
 
 -- The pattern of a tree, by its level.
-module _ (fs : Scope) (ls : List Tree) (place : Span) where
-  elements_are : (t : Tree) → element_patterns fs ls place t ≡ map (with_pattern fs ls place) (elements t)
+module _ (c : Context) where
+  elements_are : (t : Tree) → element_patterns c t ≡ map (with_pattern c) (elements t)
   elements_are (atom s a) = refl
-  elements_are (leaf s x c) = refl
-  elements_are (pair s a d) = ap (λ (xs : List Element). (a, pattern fs ls place a) ∷ xs) (elements_are d)
+  elements_are (leaf s x k) = refl
+  elements_are (pair s a d) = ap (λ (xs : List Element). (a, pattern c a) ∷ xs) (elements_are d)
   elements_are (vector s d) = refl
 
-  tail_is : (t : Tree) → tail_pattern fs ls place t ≡ pattern fs ls place (tail_of t)
+  tail_is : (t : Tree) → tail_pattern c t ≡ pattern c (tail_of t)
   tail_is (atom s a) = refl
-  tail_is (leaf s x c) = refl
+  tail_is (leaf s x k) = refl
   tail_is (pair s a d) = tail_is d
   tail_is (vector s d) = refl
 
   module _ (depth : ℕ) (s : Taken) where
-    pub pattern_atom : (e : Atom) (t : Tree) → Opens (opened.Atom e) t → pattern fs ls place t depth s ≡ Ok (patterns.atom e, s)
+    pub pattern_atom : (e : Atom) (t : Tree) → Opens (opened.Atom e) t → pattern c t depth s ≡ Ok (patterns.atom e, s)
     pattern_atom e (atom p b) h = ap (λ a. Ok (patterns.atom a, s)) (sym h)
-    pattern_atom e (leaf p y c) h = absurd h
+    pattern_atom e (leaf p y k) h = absurd h
     pattern_atom e (pair p a d) h = absurd h
     pattern_atom e (vector p d) h = absurd h
 
-    pub pattern_leaf : (x : List ℕ) (t : Tree) → Opens (opened.Symbol x) t → pattern fs ls place t depth s ≡ leaf_pattern fs ls place t depth s
+    pub pattern_leaf : (x : List ℕ) (t : Tree) → Opens (opened.Symbol x) t → pattern c t depth s ≡ leaf_pattern c t depth s
     pattern_leaf x (atom p b) h = absurd h
-    pattern_leaf x (leaf p y c) h = refl
+    pattern_leaf x (leaf p y k) h = refl
     pattern_leaf x (pair p a d) h = absurd h
     pattern_leaf x (vector p d) h = absurd h
 
-    pub pattern_pair : (x y : Tree) (t : Tree) → Opens (opened.Pair x y) t → pattern fs ls place t depth s ≡ list_pattern fs ls place t depth s
+    pub pattern_pair : (x y : Tree) (t : Tree) → Opens (opened.Pair x y) t → pattern c t depth s ≡ list_pattern c t depth s
     pattern_pair x y (atom p b) h = absurd h
-    pattern_pair x y (leaf p z c) h = absurd h
+    pattern_pair x y (leaf p z k) h = absurd h
     pattern_pair x y (pair p a d) h =
-        ap (λ (xs : List Element). list_with (walked fs place depth false no_parts ((a, pattern fs ls place a) ∷ xs)) (tail_pattern fs ls place d depth) s) (elements_are d)
-        ∙ ap (λ (go : ℕ → Taken → Result (PlainPattern × Taken) Fault). list_with (forms_walked fs ls place depth (a ∷ elements d)) (go depth) s) (tail_is d)
+        ap (λ (xs : List Element). list_with (walked c depth false no_parts ((a, pattern c a) ∷ xs)) (tail_pattern c d depth) s) (elements_are d)
+        ∙ ap (λ (go : ℕ → Taken → Result (PlainPattern × Taken) Fault). list_with (forms_walked c depth (a ∷ elements d)) (go depth) s) (tail_is d)
     pattern_pair x y (vector p d) h = absurd h
 
-    pub pattern_vector : (v : Vec Tree Global) (t : Tree) → Opens (opened.Vector v) t → pattern fs ls place t depth s ≡ vector_pattern fs ls place v.items depth s
+    pub pattern_vector : (v : Vec Tree Global) (t : Tree) → Opens (opened.Vector v) t → pattern c t depth s ≡ vector_pattern c v.items depth s
     pattern_vector v (atom p b) h = absurd h
-    pattern_vector v (leaf p y c) h = absurd h
+    pattern_vector v (leaf p y k) h = absurd h
     pattern_vector v (pair p a d) h = absurd h
     pattern_vector v (vector p d) h =
-        let same : element_patterns fs ls place d ≡ map (with_pattern fs ls place) v.items = elements_are d ∙ ap (map (with_pattern fs ls place)) (ap elements (sym h) ∙ elements_chain v.items) in
-        ap (λ (xs : List Element). vector_with (walked fs place depth false no_parts xs) s) same
+        let same : element_patterns c d ≡ map (with_pattern c) v.items = elements_are d ∙ ap (map (with_pattern c)) (ap elements (sym h) ∙ elements_chain v.items) in
+        ap (λ (xs : List Element). vector_with (walked c depth false no_parts xs) s) same

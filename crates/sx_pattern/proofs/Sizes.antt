@@ -1,5 +1,5 @@
 -- Parts are smaller than what they are part of.
-use Rattle.std.proofs.Common.{◌≡◌, ℕ, zero, suc, ◌<◌, ◌≤◌, List, [], ◌∷◌, length, get_or, Some, refl, arith}
+use Rattle.std.proofs.Common.{◌≡◌, ℕ, zero, suc, ◌<◌, ◌≤◌, List, [], ◌∷◌, length, get_or, Option, None, Some, refl, arith}
 use Rattle.std.specs.Prelude.{true}
 use Rattle.sx_core.specs.Pattern.{PlainPattern, PlainPatterns, none, more, dots, patterns, patterns_on, pattern_size, patterns_size}
 use Rattle.sx_tree.specs.Tree.{Tree, atom, leaf, pair, vector, chain, nil, is_pair}
@@ -7,6 +7,7 @@ use Rattle.sx_tree.specs.Measures.{size, joint}
 use Rattle.sx_tree.proofs.MeasureLaws.{size-some}
 use Rattle.sx_shapes.specs.Lists.{split_first, elements, tail_of}
 use Rattle.sx_shapes.specs.declared.lists.Split.{Split}
+use Rattle.sx_pattern.specs.Compile.{behind_ellipsis}
 
 pub some_patterns : (q : PlainPatterns) → 0 < patterns_size q
 some_patterns none = omega arith
@@ -60,3 +61,14 @@ first_smaller left t ts e = rw e (omega (arith, size-some (chain ts nil)))
 
 pub rest_within : (left : List Tree) (t : Tree) (ts : List Tree) → left ≡ t ∷ ts → size (chain ts nil) ≤ size (chain left nil)
 rest_within left t ts e = rw e (omega arith)
+
+-- forms behind an ellipsis are no more than all
+pub behind_fewer : (e : Option Tree) (ts : List Tree) → length (behind_ellipsis e ts) ≤ length ts
+behind_fewer None ts = omega arith
+behind_fewer (Some e) [] = omega arith
+behind_fewer (Some e) (t ∷ ts) = omega arith
+
+pub behind_within : (e : Option Tree) (ts : List Tree) → size (chain (behind_ellipsis e ts) nil) ≤ size (chain ts nil)
+behind_within None ts = omega arith
+behind_within (Some e) [] = omega arith
+behind_within (Some e) (t ∷ ts) = omega arith

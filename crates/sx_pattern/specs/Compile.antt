@@ -18,8 +18,18 @@ use Rattle.sx_shapes.specs.At.{fault_at}
 use Rattle.sx_shapes.specs.Lists.{is_leaf, elements, tail_of}
 use Rattle.sx_pattern.specs.Keywords.{is_form, is_ellipsis}
 use Rattle.sx_pattern.specs.declared.compile.Compiled.{Compiled}
+use Rattle.sx_pattern.specs.declared.compile.PatternContext.{PatternContext}
 use Rattle.sx_pattern.specs.declared.compile.PatternParts.{PatternParts}
 use Rattle.sx_pattern.specs.declared.compile.PatternVariable.{PatternVariable}
+
+-- what is known round a pattern: frames, the literals, and the place round it
+pub record Context : Type 0 where
+  pub frames : Scope
+  pub literals : List Tree
+  pub place : Span
+
+abbrev pub seen : PatternContext → Context
+seen c = record { frames = c.frames.now; literals = c.literals.now; place = c.place.now }
 
 -- the variables so far, and the names that are free
 abbrev pub Taken : Type 0
@@ -65,11 +75,11 @@ new_variable place t depth s =
     else Ok (variable (record { 0 = s.1 }), (s.0 ++ named s.1 t depth ∷ [], following s.1))
 
 -- an ellipsis behind an element never comes here
-abbrev pub leaf_pattern : Scope → List Tree → Span → Tree → ℕ → Act Taken PlainPattern
-leaf_pattern fs ls place t depth s =
-    if is_form form.Ellipsis (stands fs t) then Err (bad place t) else
-    (if is_form form.Underscore (stands fs t) then Ok (any, s) else
-    (if is_literal ls t then Ok (literal t, s) else new_variable place t depth s))
+abbrev pub leaf_pattern : Context → Tree → ℕ → Act Taken PlainPattern
+leaf_pattern c t depth s =
+    if is_form form.Ellipsis (stands c.frames t) then Err (bad c.place t) else
+    (if is_form form.Underscore (stands c.frames t) then Ok (any, s) else
+    (if is_literal c.literals t then Ok (literal t, s) else new_variable c.place t depth s))
 
 -- Elements.
 
@@ -117,10 +127,25 @@ abbrev pub step : Span → ℕ → Bool → Element → Option Tree → PatternP
 step place depth true x e parts s = Ok ((false, parts), s)
 step place depth false x e parts s = element place depth x e parts s
 
-abbrev pub walked : Scope → Span → ℕ → Bool → PatternParts → List Element → Act Taken PatternParts
-walked fs place depth skips parts [] s = Ok (parts, s)
-walked fs place depth skips parts (x ∷ xs) s =
-    after (step place depth skips x (next_ellipsis fs xs) parts s) (λ w. walked fs place depth w.0 w.1 xs)
+abbrev pub walked : Context → ℕ → Bool → PatternParts → List Element → Act Taken PatternParts
+walked c depth skips parts [] s = Ok (parts, s)
+walked c depth skips parts (x ∷ xs) s =
+    after (step c.place depth skips x (next_ellipsis c.frames xs) parts s) (λ w. walked c depth w.0 w.1 xs)
+
+-- the same by what is known of the forms: how many ellipses stand round an element, where one stands behind it; the forms behind
+-- that; and the parts with the element's own
+abbrev pub inner_depth : ℕ → Option Tree → ℕ
+inner_depth depth None = depth
+inner_depth depth (Some e) = depth + 1
+
+abbrev pub behind_ellipsis : Option Tree → List Tree → List Tree
+behind_ellipsis None ts = ts
+behind_ellipsis (Some e) [] = []
+behind_ellipsis (Some e) (t ∷ ts) = ts
+
+abbrev pub added : Span → Option Tree → PatternParts → PlainPattern → Result PatternParts Fault
+added place None parts p = Ok (with_part parts.repeated parts p)
+added place (Some e) parts p = with_repeated place e parts.repeated parts p
 
 abbrev pub list_with : Act Taken PatternParts → Act Taken PlainPattern → Act Taken PlainPattern
 list_with elements tail s = after (elements s) (λ parts s. after (tail s) (λ p s. Ok (list (parts_of parts) p, s)))
@@ -131,44 +156,43 @@ vector_with elements s = after (elements s) (λ parts s. Ok (vector (parts_of pa
 -- Forms.
 
 abbrev mutual
-  pub pattern : Scope → List Tree → Span → Tree → ℕ → Act Taken PlainPattern
-  pattern fs ls place (tree.atom s a) depth = give (atom a)
-  pattern fs ls place (tree.leaf s x c) depth = leaf_pattern fs ls place (tree.leaf s x c) depth
-  pattern fs ls place (tree.pair s a d) depth =
-      list_with (walked fs place depth false no_parts ((a, pattern fs ls place a) ∷ element_patterns fs ls place d)) (tail_pattern fs ls place d depth)
-  pattern fs ls place (tree.vector s d) depth = vector_with (walked fs place depth false no_parts (element_patterns fs ls place d))
+  pub pattern : Context → Tree → ℕ → Act Taken PlainPattern
+  pattern c (tree.atom s a) depth = give (atom a)
+  pattern c (tree.leaf s x k) depth = leaf_pattern c (tree.leaf s x k) depth
+  pattern c (tree.pair s a d) depth = list_with (walked c depth false no_parts ((a, pattern c a) ∷ element_patterns c d)) (tail_pattern c d depth)
+  pattern c (tree.vector s d) depth = vector_with (walked c depth false no_parts (element_patterns c d))
 
   -- the elements of a list, each with its pattern
-  pub element_patterns : Scope → List Tree → Span → Tree → List Element
-  element_patterns fs ls place (tree.atom s a) = []
-  element_patterns fs ls place (tree.leaf s x c) = []
-  element_patterns fs ls place (tree.pair s a d) = (a, pattern fs ls place a) ∷ element_patterns fs ls place d
-  element_patterns fs ls place (tree.vector s d) = []
+  pub element_patterns : Context → Tree → List Element
+  element_patterns c (tree.atom s a) = []
+  element_patterns c (tree.leaf s x k) = []
+  element_patterns c (tree.pair s a d) = (a, pattern c a) ∷ element_patterns c d
+  element_patterns c (tree.vector s d) = []
 
   -- the pattern of what ends a list
-  pub tail_pattern : Scope → List Tree → Span → Tree → ℕ → Act Taken PlainPattern
-  tail_pattern fs ls place (tree.atom s a) depth = give (atom a)
-  tail_pattern fs ls place (tree.leaf s x c) depth = leaf_pattern fs ls place (tree.leaf s x c) depth
-  tail_pattern fs ls place (tree.pair s a d) depth = tail_pattern fs ls place d depth
-  tail_pattern fs ls place (tree.vector s d) depth = vector_with (walked fs place depth false no_parts (element_patterns fs ls place d))
+  pub tail_pattern : Context → Tree → ℕ → Act Taken PlainPattern
+  tail_pattern c (tree.atom s a) depth = give (atom a)
+  tail_pattern c (tree.leaf s x k) depth = leaf_pattern c (tree.leaf s x k) depth
+  tail_pattern c (tree.pair s a d) depth = tail_pattern c d depth
+  tail_pattern c (tree.vector s d) depth = vector_with (walked c depth false no_parts (element_patterns c d))
 
-abbrev pub with_pattern : Scope → List Tree → Span → Tree → Element
-with_pattern fs ls place t = (t, pattern fs ls place t)
+abbrev pub with_pattern : Context → Tree → Element
+with_pattern c t = (t, pattern c t)
 
 -- the parts of the patterns of forms
-abbrev pub forms_walked : Scope → List Tree → Span → ℕ → List Tree → Act Taken PatternParts
-forms_walked fs ls place depth ts = walked fs place depth false no_parts (map (with_pattern fs ls place) ts)
+abbrev pub forms_walked : Context → ℕ → List Tree → Act Taken PatternParts
+forms_walked c depth ts = walked c depth false no_parts (map (with_pattern c) ts)
 
-abbrev pub list_pattern : Scope → List Tree → Span → Tree → ℕ → Act Taken PlainPattern
-list_pattern fs ls place t depth = list_with (forms_walked fs ls place depth (elements t)) (pattern fs ls place (tail_of t) depth)
+abbrev pub list_pattern : Context → Tree → ℕ → Act Taken PlainPattern
+list_pattern c t depth = list_with (forms_walked c depth (elements t)) (pattern c (tail_of t) depth)
 
-abbrev pub vector_pattern : Scope → List Tree → Span → List Tree → ℕ → Act Taken PlainPattern
-vector_pattern fs ls place ts depth = vector_with (forms_walked fs ls place depth ts)
+abbrev pub vector_pattern : Context → List Tree → ℕ → Act Taken PlainPattern
+vector_pattern c ts depth = vector_with (forms_walked c depth ts)
 
 abbrev pub with_variables : Result (PlainPattern × Taken) Fault → Result (Compiled × Named) Fault
 with_variables (Ok r) = Ok (record { pattern = r.0; variables = r.1.0 }, r.1.1)
 with_variables (Err f) = Err f
 
 -- the literals are looked at first
-abbrev pub compiled : Scope → List Tree → Span → Tree → Act Named Compiled
-compiled fs ls place t names = literals_checked fs place ls >>= λ _. with_variables (pattern fs ls place t 0 ([], names))
+abbrev pub compiled : Context → Tree → Act Named Compiled
+compiled c t names = literals_checked c.frames c.place c.literals >>= λ _. with_variables (pattern c t 0 ([], names))

@@ -2,11 +2,11 @@
 
 ghost use Rattle.std.specs.Prelude.{◌≡◌, ◌++◌, ◌∷◌, [], true, option_map, IfOk, OnOk};
 ghost use Rattle.sx_base.specs.Act.{GivesAfter};
-ghost use Rattle.sx_base.specs.Gives.{Gives};
+ghost use Rattle.sx_base.specs.Gives.{Gives, StopsWith};
 ghost use Rattle.sx_tree.specs.Tree.{is_pair};
 ghost use Rattle.sx_core.specs.Pattern.{list, vector};
 ghost use Rattle.sx_core.specs.PatternView.{repeated_on, elements_of};
-ghost use Rattle.sx_pattern.specs.Compile.{is_no_keyword, may_be_literal, literals_checked, is_literal, is_known, new_variable, leaf_pattern, with_part, dots_of, parts_of, with_repeated, step, pattern, with_pattern, forms_walked, list_pattern, vector_pattern, compiled};
+ghost use Rattle.sx_pattern.specs.Compile.{seen, bad, is_no_keyword, may_be_literal, literals_checked, is_literal, is_known, new_variable, leaf_pattern, with_part, dots_of, parts_of, with_repeated, inner_depth, behind_ellipsis, added, pattern, forms_walked, list_pattern, vector_pattern, compiled};
 
 use crate::keywords::{first_ellipsis, is_form};
 use std::alloc::Global;
@@ -22,6 +22,17 @@ use sx_scope::scope::Frames;
 use sx_shapes::at::fault_at;
 use sx_shapes::lists::{is_id, parts_of};
 use sx_syntax::syn::{Opened, Syn};
+
+/// What forms are read with as patterns.
+#[derive(Drop)]
+pub struct PatternContext<'a> {
+    pub alloc: Global,
+    /// They say what identifiers stand for.
+    pub frames: &'a Frames,
+    pub literals: &'a [Syn],
+    /// Where a form without a span stands.
+    pub place: &'a Span,
+}
 
 /// A variable of a pattern: its identifier, its label, and the number of ellipses round it.
 #[derive(Drop)]
@@ -53,45 +64,41 @@ pub(crate) struct PatternParts {
 /// where a literal is no identifier, or is an ellipsis or an underscore; where a variable comes again;
 /// and where an ellipsis is the whole form, or stands first, as tail, or twice in one list or vector.
 pub fn compile_pattern(
-    alloc: Global,
+    context: &PatternContext,
     form: &Syn,
-    literals: &[Syn],
-    place: &Span,
-    frames: &Frames,
     names: &mut Names,
 ) -> Result<Compiled, Stop>
-    ensures { GivesAfter (λ c. c) result names.new (compiled frames.now literals.now place.now form.now names.old) }
+    ensures { GivesAfter (λ c. c) result names.new (compiled (seen context.now) form.now names.old) }
 {
-    check_literals(alloc, literals, place, frames)?;
-    let mut variables = Items::new(alloc);
-    let pattern = pattern(
-        alloc,
-        form,
-        0,
-        literals,
-        place,
-        frames,
-        &mut variables,
-        names,
-    )?;
+    check_literals(context)?;
+    let mut variables = Items::new(context.alloc);
+    let pattern = pattern(context, form, 0, &mut variables, names)?;
     Ok(Compiled { pattern, variables })
 }
 
-/// Finds the first of these that may be no literal.
-pub fn check_literals(
-    alloc: Global,
-    literals: &[Syn],
-    place: &Span,
-    frames: &Frames,
-) -> Result<(), Stop>
-    ensures { Gives (λ _. tt) result (literals_checked frames.now place.now literals.now) }
+/// Finds the first of the literals that may be none.
+pub fn check_literals(context: &PatternContext) -> Result<(), Stop>
+    ensures { Gives (λ _. tt) result (literals_checked context.now.frames.now context.now.place.now context.now.literals.now) }
 {
-    for literal in literals {
-        if !may_be_literal(alloc, literal, frames)? {
-            return Err(fault_at(alloc, FaultKind::BadPattern, literal, place, None));
+    for literal in context.literals {
+        if !may_be_literal(context.alloc, literal, context.frames)? {
+            return Err(bad_pattern(context, literal));
         }
     }
     Ok(())
+}
+
+/// `BadPattern` at a form.
+fn bad_pattern(context: &PatternContext, form: &Syn) -> Stop
+    ensures { StopsWith result (bad context.now.place.now form.now) }
+{
+    fault_at(
+        context.alloc,
+        FaultKind::BadPattern,
+        form,
+        context.place,
+        None,
+    )
 }
 
 fn may_be_literal(alloc: Global, form: &Syn, frames: &Frames) -> Result<bool, Memory>
@@ -136,17 +143,16 @@ fn is_known(alloc: Global, variables: &[PatternVariable], form: &Syn) -> Result<
 }
 
 fn new_variable(
-    alloc: Global,
+    context: &PatternContext,
     form: &Syn,
     depth: u32,
-    place: &Span,
     variables: &mut Items<PatternVariable>,
     names: &mut Names,
 ) -> Result<Pattern, Stop>
-    ensures { GivesAfter (λ p. p) result (variables.new, names.new) (new_variable place.now form.now depth (variables.old, names.old)) }
+    ensures { GivesAfter (λ p. p) result (variables.new, names.new) (new_variable context.now.place.now form.now depth (variables.old, names.old)) }
 {
-    if is_known(alloc, variables.as_slice(), form)? {
-        return Err(fault_at(alloc, FaultKind::BadPattern, form, place, None));
+    if is_known(context.alloc, variables.as_slice(), form)? {
+        return Err(bad_pattern(context, form));
     }
     let id = form.share()?;
     let label = Label(names.next()?);
@@ -162,33 +168,30 @@ fn new_variable(
 }
 
 fn leaf_pattern(
-    alloc: Global,
+    context: &PatternContext,
     form: &Syn,
     depth: u32,
-    literals: &[Syn],
-    place: &Span,
-    frames: &Frames,
     variables: &mut Items<PatternVariable>,
     names: &mut Names,
 ) -> Result<Pattern, Stop>
-    ensures { GivesAfter (λ p. p) result (variables.new, names.new) (leaf_pattern frames.now literals.now place.now form.now depth (variables.old, names.old)) }
+    ensures { GivesAfter (λ p. p) result (variables.new, names.new) (leaf_pattern (seen context.now) form.now depth (variables.old, names.old)) }
 {
-    let label = frames.stands(form)?;
+    let label = context.frames.stands(form)?;
     if is_form(CoreForm::Ellipsis, &label) {
-        return Err(fault_at(alloc, FaultKind::BadPattern, form, place, None));
+        return Err(bad_pattern(context, form));
     }
     if is_form(CoreForm::Underscore, &label) {
         return Ok(Pattern {
             node: PatternNode::Any,
         });
     }
-    if is_literal(alloc, literals, form)? {
+    if is_literal(context.alloc, context.literals, form)? {
         let form = form.share()?;
         return Ok(Pattern {
             node: PatternNode::Literal(form),
         });
     }
-    new_variable(alloc, form, depth, place, variables, names)
+    new_variable(context, form, depth, variables, names)
 }
 
 fn push_part(parts: &mut PatternParts, pattern: Pattern) -> Result<(), Memory>
@@ -202,20 +205,63 @@ fn push_part(parts: &mut PatternParts, pattern: Pattern) -> Result<(), Memory>
 
 /// Adds the pattern that an ellipsis stands behind.
 fn repeat_part(
-    alloc: Global,
+    context: &PatternContext,
     parts: &mut PatternParts,
     pattern: Pattern,
     ellipsis: &Syn,
-    place: &Span,
 ) -> Result<(), Stop>
-    ensures { Gives (λ _. parts.new) result (with_repeated place.now ellipsis.now parts.old.repeated parts.old pattern) }
+    ensures { Gives (λ _. parts.new) result (with_repeated context.now.place.now ellipsis.now parts.old.repeated parts.old pattern) }
 {
     match parts.repeated {
         None => {
             parts.repeated = Some(pattern);
             Ok(())
         }
-        Some(_) => Err(fault_at(alloc, FaultKind::BadPattern, ellipsis, place, None)),
+        Some(_) => Err(bad_pattern(context, ellipsis)),
+    }
+}
+
+/// Adds the pattern of an element, which may have an ellipsis behind it.
+fn add_part(
+    context: &PatternContext,
+    parts: &mut PatternParts,
+    pattern: Pattern,
+    ellipsis: Option<&Syn>,
+) -> Result<(), Stop>
+    ensures { Gives (λ _. parts.new) result (added context.now.place.now (option_map (λ e. e.now) ellipsis.entry) parts.old pattern) }
+{
+    match ellipsis {
+        None => {
+            push_part(parts, pattern)?;
+            Ok(())
+        }
+        Some(ellipsis) => repeat_part(context, parts, pattern, ellipsis),
+    }
+}
+
+/// The number of ellipses round the variables of an element.
+fn inner_depth(depth: u32, ellipsis: Option<&Syn>) -> Result<u32, Memory>
+    ensures { IfOk result (λ n. n ≡ inner_depth depth (option_map (λ e. e.now) ellipsis.entry)) }
+{
+    match ellipsis {
+        None => Ok(depth),
+        Some(_) => match depth.checked_add(1) {
+            None => Err(Memory),
+            Some(inner) => Ok(inner),
+        },
+    }
+}
+
+/// The forms behind the ellipsis that they begin with, if they do.
+fn behind_ellipsis<'a>(ellipsis: Option<&Syn>, forms: &'a [Syn]) -> &'a [Syn]
+    ensures { result.now ≡ behind_ellipsis (option_map (λ e. e.now) ellipsis.entry) forms.now }
+{
+    match ellipsis {
+        None => forms,
+        Some(_) => match forms {
+            [] => forms,
+            [_, behind @ ..] => behind,
+        },
     }
 }
 
@@ -271,168 +317,80 @@ fn vector_from(alloc: Global, parts: PatternParts) -> Result<Pattern, Memory>
 /// The pattern of a form, round which so many ellipses stand.
 #[cycle(pattern)]
 fn pattern(
-    alloc: Global,
+    context: &PatternContext,
     form: &Syn,
     depth: u32,
-    literals: &[Syn],
-    place: &Span,
-    frames: &Frames,
     variables: &mut Items<PatternVariable>,
     names: &mut Names,
 ) -> Result<Pattern, Stop>
-    ensures { GivesAfter (λ p. p) result (variables.new, names.new) (pattern frames.now literals.now place.now form.now depth (variables.old, names.old)) }
+    ensures { GivesAfter (λ p. p) result (variables.new, names.new) (pattern (seen context.now) form.now depth (variables.old, names.old)) }
 {
-    match form.open(alloc)? {
+    match form.open(context.alloc)? {
         Opened::Atom(atom) => Ok(Pattern {
             node: PatternNode::Atom(atom),
         }),
-        Opened::Symbol(_) => {
-            leaf_pattern(
-                alloc, form, depth, literals, place, frames, variables, names,
-            )
-        }
-        Opened::Pair(_, _) => {
-            list_pattern(
-                alloc, form, depth, literals, place, frames, variables, names,
-            )
-        }
-        Opened::Vector(forms) => {
-            vector_pattern(
-                alloc, &forms, depth, literals, place, frames, variables, names,
-            )
-        }
+        Opened::Symbol(_) => leaf_pattern(context, form, depth, variables, names),
+        Opened::Pair(_, _) => list_pattern(context, form, depth, variables, names),
+        Opened::Vector(forms) => vector_pattern(context, &forms, depth, variables, names),
     }
 }
 
 #[cycle(pattern)]
 fn list_pattern(
-    alloc: Global,
+    context: &PatternContext,
     form: &Syn,
     depth: u32,
-    literals: &[Syn],
-    place: &Span,
-    frames: &Frames,
     variables: &mut Items<PatternVariable>,
     names: &mut Names,
 ) -> Result<Pattern, Stop>
     requires { is_pair form.now ≡ true }
-    ensures { GivesAfter (λ p. p) result (variables.new, names.new) (list_pattern frames.now literals.now place.now form.now depth (variables.old, names.old)) }
+    ensures { GivesAfter (λ p. p) result (variables.new, names.new) (list_pattern (seen context.now) form.now depth (variables.old, names.old)) }
 {
-    let parts = parts_of(alloc, form)?;
-    let elements = elements(
-        alloc,
-        parts.elements.as_slice(),
-        depth,
-        literals,
-        place,
-        frames,
-        variables,
-        names,
-    )?;
-    let tail = pattern(
-        alloc,
-        &parts.tail,
-        depth,
-        literals,
-        place,
-        frames,
-        variables,
-        names,
-    )?;
-    let list = list_from(alloc, elements, tail)?;
+    let parts = parts_of(context.alloc, form)?;
+    let elements = elements(context, parts.elements.as_slice(), depth, variables, names)?;
+    let tail = pattern(context, &parts.tail, depth, variables, names)?;
+    let list = list_from(context.alloc, elements, tail)?;
     Ok(list)
 }
 
 #[cycle(pattern)]
 fn vector_pattern(
-    alloc: Global,
+    context: &PatternContext,
     forms: &[Syn],
     depth: u32,
-    literals: &[Syn],
-    place: &Span,
-    frames: &Frames,
     variables: &mut Items<PatternVariable>,
     names: &mut Names,
 ) -> Result<Pattern, Stop>
-    ensures { GivesAfter (λ p. p) result (variables.new, names.new) (vector_pattern frames.now literals.now place.now forms.now depth (variables.old, names.old)) }
+    ensures { GivesAfter (λ p. p) result (variables.new, names.new) (vector_pattern (seen context.now) forms.now depth (variables.old, names.old)) }
 {
-    let elements = elements(
-        alloc, forms, depth, literals, place, frames, variables, names,
-    )?;
-    let vector = vector_from(alloc, elements)?;
+    let elements = elements(context, forms, depth, variables, names)?;
+    let vector = vector_from(context.alloc, elements)?;
     Ok(vector)
 }
 
-/// The patterns of the elements of a list or vector.
+/// The patterns of the elements of a list or vector. An ellipsis is taken with the element before it.
 #[cycle(pattern)]
 fn elements(
-    alloc: Global,
+    context: &PatternContext,
     forms: &[Syn],
     depth: u32,
-    literals: &[Syn],
-    place: &Span,
-    frames: &Frames,
     variables: &mut Items<PatternVariable>,
     names: &mut Names,
 ) -> Result<PatternParts, Stop>
-    ensures { GivesAfter (λ p. p) result (variables.new, names.new) (forms_walked frames.now literals.now place.now depth forms.now (variables.old, names.old)) }
+    ensures { GivesAfter (λ p. p) result (variables.new, names.new) (forms_walked (seen context.now) depth forms.now (variables.old, names.old)) }
 {
     let mut parts = PatternParts {
-        before: Items::new(alloc),
+        before: Items::new(context.alloc),
         repeated: None,
-        after: Items::new(alloc),
+        after: Items::new(context.alloc),
     };
-    let mut skips = false;
     let mut left = forms;
     while let Some((form, behind)) = left.split_first() {
-        let ellipsis = first_ellipsis(behind, frames)?;
-        skips = step(
-            alloc, skips, form, ellipsis, &mut parts, depth, literals, place, frames, variables,
-            names,
-        )?;
-        left = behind;
+        let ellipsis = first_ellipsis(behind, context.frames)?;
+        let inner = inner_depth(depth, ellipsis)?;
+        let pattern = pattern(context, form, inner, variables, names)?;
+        add_part(context, &mut parts, pattern, ellipsis)?;
+        left = behind_ellipsis(ellipsis, behind);
     }
     Ok(parts)
-}
-
-/// Adds the pattern of an element, or skips an ellipsis that was taken with the element before it. It
-/// gives whether the next element is to be skipped.
-#[cycle(pattern)]
-fn step(
-    alloc: Global,
-    skips: bool,
-    form: &Syn,
-    ellipsis: Option<&Syn>,
-    parts: &mut PatternParts,
-    depth: u32,
-    literals: &[Syn],
-    place: &Span,
-    frames: &Frames,
-    variables: &mut Items<PatternVariable>,
-    names: &mut Names,
-) -> Result<bool, Stop>
-    ensures { GivesAfter (λ b. (b, parts.new)) result (variables.new, names.new) (step place.now depth skips (with_pattern frames.now literals.now place.now form.now) (option_map (λ e. e.now) ellipsis.entry) parts.old (variables.old, names.old)) }
-{
-    if skips {
-        return Ok(false);
-    }
-    match ellipsis {
-        None => {
-            let pattern = pattern(
-                alloc, form, depth, literals, place, frames, variables, names,
-            )?;
-            push_part(parts, pattern)?;
-            Ok(false)
-        }
-        Some(ellipsis) => {
-            let Some(inner) = depth.checked_add(1) else {
-                return Err(Stop::Memory);
-            };
-            let pattern = pattern(
-                alloc, form, inner, literals, place, frames, variables, names,
-            )?;
-            repeat_part(alloc, parts, pattern, ellipsis, place)?;
-            Ok(true)
-        }
-    }
 }

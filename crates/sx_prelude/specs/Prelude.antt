@@ -13,6 +13,7 @@ use Rattle.sx_base.specs.declared.library.LibName.TheVariants as library
 use Rattle.sx_base.specs.declared.name.CodeNo.{CodeNo}
 use Rattle.sx_base.specs.declared.name.Label.{Label}
 use Rattle.sx_base.specs.declared.span.Span.{Span}
+use Rattle.sx_base.specs.declared.op.names.TheConstants as ops
 use Rattle.sx_builtin.specs.Exports.{exports}
 use Rattle.sx_builtin.specs.Prelude.{prelude_text}
 use Rattle.sx_core.specs.Core.{PlainCore, PlainCode, no_case, case}
@@ -32,7 +33,7 @@ use Rattle.sx_tree.specs.Tree.{Tree}
 
 -- these procedures: `map for-each for-all exists filter remp find memp fold-left fold-right`
 abbrev pub procedures : List ℕ
-procedures = 133 ∷ 110 ∷ 192 ∷ 193 ∷ 194 ∷ 198 ∷ 191 ∷ 202 ∷ 196 ∷ 197 ∷ []
+procedures = ops.MAP ∷ ops.FOR_EACH ∷ ops.FOR_ALL ∷ ops.EXISTS ∷ ops.FILTER ∷ ops.REMP ∷ ops.FIND ∷ ops.MEMP ∷ ops.FOLD_LEFT ∷ ops.FOLD_RIGHT ∷ []
 
 -- The names of `(rnrs)`, but those that the derived library defines.
 

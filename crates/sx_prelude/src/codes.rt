@@ -20,6 +20,9 @@ use sx_base::items::Items;
 use sx_base::library::LibName;
 use sx_base::memory::Memory;
 use sx_base::name::{CodeNo, FrameNo, Label, Name};
+use sx_base::op::names::{
+    EXISTS, FILTER, FIND, FOLD_LEFT, FOLD_RIGHT, FOR_ALL, FOR_EACH, MAP, MEMP, REMP,
+};
 use sx_base::op::{NAME_COUNT, Op, op_text};
 use sx_base::span::Span;
 use sx_base::symbol::Symbol;
@@ -33,18 +36,18 @@ use sx_standing::means::{Counts, Means};
 use sx_standing::ready::ReadyRecords;
 use sx_syntax::syn::Syn;
 
-// In this order: `map for-each for-all exists filter remp find memp fold-left fold-right`.
+// The procedures that have a text, in the order of their codes.
 const PROCEDURES: [Op; 10] = [
-    Op(133),
-    Op(110),
-    Op(192),
-    Op(193),
-    Op(194),
-    Op(198),
-    Op(191),
-    Op(202),
-    Op(196),
-    Op(197),
+    Op(MAP),
+    Op(FOR_EACH),
+    Op(FOR_ALL),
+    Op(EXISTS),
+    Op(FILTER),
+    Op(REMP),
+    Op(FIND),
+    Op(MEMP),
+    Op(FOLD_LEFT),
+    Op(FOLD_RIGHT),
 ];
 
 /// The names of `(rnrs)`, but those that the derived library defines.

@@ -1,16 +1,24 @@
 //! Laws of what primitives make. Each function here computes nothing: what it promises is the law.
 
-ghost use Rattle.std.specs.Prelude.{List};
+ghost use Rattle.std.specs.Prelude.{◌≡◌, List, [], ◌∷◌};
 ghost use Rattle.sx_base.specs.Named.{Named};
 ghost use Rattle.sx_value.specs.declared.cell.Cell.{Cell};
 ghost use Rattle.sx_value.specs.Cells.{Whole, FitsIn};
 ghost use Rattle.sx_value.specs.FromDatum.{Keeps};
 ghost use Rattle.sx_prims.specs.declared.made.Made.{Made};
 ghost use Rattle.sx_prims.specs.Perform.{performed, MadeFits};
+ghost use Rattle.sx_prims.specs.Table.{misplaced};
+ghost use Rattle.sx_prims.specs.declared.primitive.TheConstants.{ROWS};
+ghost use Rattle.sx_prims.specs.declared.rows.TheConstants as rows;
 
 /// What was made of values that fit keeps whole cells whole, and its value fits in them.
 pub fn what_is_made_keeps_cells_whole()
     ensures cells { (m : Made) (name : Named) (cells : List Cell) → Whole cells → MadeFits cells m → Whole (performed m name cells).1 }
     ensures value { (m : Made) (name : Named) (cells : List Cell) → Whole cells → MadeFits cells m →
         FitsIn (performed m name cells).1 (performed m name cells).0 }
+{}
+
+/// The rows are numbered from 0, and each row has a number of its own.
+pub fn rows_are_numbered_in_order()
+    ensures { misplaced 0 (rows.BASICS ∷ rows.NUMBERS ∷ rows.CHARACTERS ∷ rows.PARTS ∷ rows.GATHERED ∷ rows.LISTS ∷ rows.APPENDED ∷ rows.INDEXED ∷ rows.UNPACKED ∷ rows.STRINGS ∷ rows.NUMBER_STRINGS ∷ rows.STRING_COMPARISONS ∷ rows.EQUALITY ∷ rows.IDENTIFIERS ∷ rows.DATA ∷ rows.TREES ∷ rows.TEMPORARIES ∷ rows.RAISING ∷ []) ≡ ROWS }
 {}

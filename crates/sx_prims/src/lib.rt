@@ -22,6 +22,7 @@ pub mod parts;
 pub mod perform;
 pub mod primitive;
 pub mod relation;
+pub mod rows;
 pub mod strings;
 pub mod table;
 pub mod trees;

@@ -3,6 +3,8 @@ use Rattle.std.proofs.Common.{◌≡◌, ◌+◌, ◌-◌, ◌/◌, ◌%◌, ◌
 use mathlib.Core.List.{reverse-cons}
 use Rattle.sx_base.specs.declared.atom.Atom.TheVariants as a
 use Rattle.sx_base.specs.declared.fault.Bare.{Bare}
+use Rattle.sx_base.specs.declared.op.names.TheConstants as names
+use Rattle.sx_tree.specs.Measures.{max_height}
 use Rattle.sx_tree.specs.Tree.{Tree}
 use Rattle.sx_frames.specs.Scope.{Scope}
 use Rattle.sx_value.specs.Cells.{Each, FitsIn, Lies, CellLies, Whole}
@@ -34,6 +36,7 @@ use Rattle.sx_prims.specs.Parts.{is_datum}
 use Rattle.sx_prims.specs.Perform.{MadeFits}
 use Rattle.sx_prims.specs.Primitives.{primitive_of, takes}
 use Rattle.sx_prims.specs.declared.relation.Relation.{Relation}
+use Rattle.sx_prims.specs.declared.rows.TheConstants as rows
 use Rattle.sx_prims.specs.Relations.{relation_of}
 use Rattle.sx_prims.specs.Strings as strings
 use Rattle.sx_prims.specs.Strings.{part_made, unpacked_made, string_made, digits_made, strings_made}
@@ -96,29 +99,29 @@ module _ (P : Value → Type 0) (cells : List Cell) (holds : HoldsIn P cells) wh
 
   first_ok : (op : ℕ) (zs : List ℤ) → MadeOr (numbers.of_first op zs)
   first_ok op [] = tt
-  first_ok op (z ∷ zs) = made_if (op == 134) _ _ (whole_ok (numbers.greatest z zs)) (whole_ok (numbers.least z zs))
+  first_ok op (z ∷ zs) = made_if (op == names.MAX) _ _ (whole_ok (numbers.greatest z zs)) (whole_ok (numbers.least z zs))
 
   few_ok : (op : ℕ) (zs : List ℤ) → MadeOr (numbers.of_few op zs)
   few_ok op [] = tt
   few_ok op (z ∷ []) =
-      made_if (op == 190) _ _ (said_made _)
-      (made_if (op == 147) _ _ (said_made _)
-      (made_if (op == 139) _ _ (said_made _)
-      (made_if (op == 145) _ _ (said_made _)
-      (made_if (op == 102) _ _ (said_made _)
-      (made_if (op == 38) _ _ (whole_ok (pos (unsigned_abs z))) tt)))))
+      made_if (op == names.IS_ZERO) _ _ (said_made _)
+      (made_if (op == names.IS_POSITIVE) _ _ (said_made _)
+      (made_if (op == names.IS_NEGATIVE) _ _ (said_made _)
+      (made_if (op == names.IS_ODD) _ _ (said_made _)
+      (made_if (op == names.IS_EVEN) _ _ (said_made _)
+      (made_if (op == names.ABS) _ _ (whole_ok (pos (unsigned_abs z))) tt)))))
   few_ok op (x ∷ d ∷ []) = integer_ok (numbers.small_quotient op x d)
   few_ok op (x ∷ d ∷ y ∷ zs) = tt
 
   computed_ok : (op : ℕ) (zs : List ℤ) → MadeOr (computed op zs)
   unfolding computed
   computed_ok op zs =
-      made_if (op == 30) _ _ (whole_ok (numbers.sum zs))
-      (made_if (op == 29) _ _ (whole_ok (numbers.product zs))
-      (made_if (op == 31) _ _ (whole_ok (numbers.difference zs))
-      (made_if (nat_le 33 op && nat_le op 37) _ _ (compared_ok (relation_of op) zs)
-      (made_if (op == 134) _ _ (first_ok op zs)
-      (made_if (op == 135) _ _ (first_ok op zs) (few_ok op zs))))))
+      made_if (op == names.PLUS) _ _ (whole_ok (numbers.sum zs))
+      (made_if (op == names.TIMES) _ _ (whole_ok (numbers.product zs))
+      (made_if (op == names.MINUS) _ _ (whole_ok (numbers.difference zs))
+      (made_if (nat_le names.LESS op && nat_le op names.AT_LEAST) _ _ (compared_ok (relation_of op) zs)
+      (made_if (op == names.MAX) _ _ (first_ok op zs)
+      (made_if (op == names.MIN) _ _ (first_ok op zs) (few_ok op zs))))))
 
   integers_ok : (op : ℕ) (o : Option (List ℤ)) → MadeOr (numbers.from_integers op o)
   integers_ok op None = tt
@@ -147,16 +150,16 @@ module _ (P : Value → Type 0) (cells : List Cell) (holds : HoldsIn P cells) wh
 
   of_character_ok : (op : ℕ) (args : List Value) → MadeOr (characters.of_character op args)
   of_character_ok op [] = tt
-  of_character_ok op (x ∷ []) = made_if (op == 82) _ _ (from_character_ok x) (to_character_ok x)
+  of_character_ok op (x ∷ []) = made_if (op == names.CHAR_TO_INTEGER) _ _ (from_character_ok x) (to_character_ok x)
   of_character_ok op (x ∷ y ∷ args) = tt
 
   character_ok : (op : ℕ) (args : List Value) → MadeOr (character_made op args)
   unfolding character_made
   character_ok op args =
-      made_if (op == 46) _ _ (alike_ok op args)
-      (made_if (op == 176) _ _ (alike_ok op args)
-      (made_if (op == 82) _ _ (of_character_ok op args)
-      (made_if (op == 116) _ _ (of_character_ok op args)
+      made_if (op == names.BOOLEAN_EQUAL) _ _ (alike_ok op args)
+      (made_if (op == names.SYMBOL_EQUAL) _ _ (alike_ok op args)
+      (made_if (op == names.CHAR_TO_INTEGER) _ _ (of_character_ok op args)
+      (made_if (op == names.INTEGER_TO_CHAR) _ _ (of_character_ok op args)
       (some_made (all_of characters.scalar_value [] args) _ (λ zs. compared_ok (relation_of op) zs)))))
 
   -- Strings.
@@ -179,9 +182,9 @@ module _ (P : Value → Type 0) (cells : List Cell) (holds : HoldsIn P cells) wh
   text_of_few_ok : (op : ℕ) (args : List Value) → MadeOr (strings.text_of_few op args cells)
   text_of_few_ok op [] = tt
   text_of_few_ok op (x ∷ []) =
-      made_if (op == 164) _ _ (some_made (strings.string_of cells x) _ (λ s. tt))
-      (made_if (op == 175) _ _ (some_made (strings.symbol_text x) _ (λ s. tt))
-      (made_if (op == 162) _ _ (some_made (strings.string_of cells x) _ symbol_ok) tt))
+      made_if (op == names.STRING_COPY) _ _ (some_made (strings.string_of cells x) _ (λ s. tt))
+      (made_if (op == names.SYMBOL_TO_STRING) _ _ (some_made (strings.symbol_text x) _ (λ s. tt))
+      (made_if (op == names.STRING_TO_SYMBOL) _ _ (some_made (strings.string_of cells x) _ symbol_ok) tt))
   text_of_few_ok op (x ∷ y ∷ []) = tt
   text_of_few_ok op (x ∷ start ∷ end ∷ []) =
       some_made (strings.string_of cells x) _ (λ s. some_made (strings.cut (chars s) start end) _ (λ t. tt))
@@ -189,7 +192,7 @@ module _ (P : Value → Type 0) (cells : List Cell) (holds : HoldsIn P cells) wh
 
   string_ok : (op : ℕ) (args : List Value) → MadeOr (string_made op args cells)
   unfolding string_made
-  string_ok op args = made_if (op == 163) _ _ (some_made (all_of (strings.string_of cells) [] args) _ (λ ss. tt)) (text_of_few_ok op args)
+  string_ok op args = made_if (op == names.STRING_APPEND) _ _ (some_made (all_of (strings.string_of cells) [] args) _ (λ ss. tt)) (text_of_few_ok op args)
 
   digits_ok : (args : List Value) → MadeOr (digits_made args)
   unfolding digits_made
@@ -211,12 +214,12 @@ module _ (P : Value → Type 0) (cells : List Cell) (holds : HoldsIn P cells) wh
   -- Identifiers.
 
   leaves_ok : (op : ℕ) (frames : Scope) (t u : Tree) → MadeOr (identifiers.of_leaves op frames t u)
-  leaves_ok op frames t u = made_if (op == 219) _ _ (said_made _) (made_if (op == 220) _ _ (said_made _) tt)
+  leaves_ok op frames t u = made_if (op == names.BOUND_IDENTIFIER_EQUAL) _ _ (said_made _) (made_if (op == names.FREE_IDENTIFIER_EQUAL) _ _ (said_made _) tt)
 
   identifier_ok : (op : ℕ) (args : List Value) (frames : Scope) → Each P args → MadeOr (identifier_made op args frames)
   unfolding identifier_made
   identifier_ok op [] frames r = tt
-  identifier_ok op (x ∷ []) frames r = made_if (op == 218) _ _ (said_made _) (made_if (op == 215) _ _ (made_if (basics.is_procedure x) _ _ r.0 tt) tt)
+  identifier_ok op (x ∷ []) frames r = made_if (op == names.IS_IDENTIFIER) _ _ (said_made _) (made_if (op == names.MAKE_VARIABLE_TRANSFORMER) _ _ (made_if (basics.is_procedure x) _ _ r.0 tt) tt)
   identifier_ok op (x ∷ y ∷ []) frames r =
       some_made (identifiers.identifier x) _ (λ t. some_made (identifiers.identifier y) _ (λ u. leaves_ok op frames t u))
   identifier_ok op (x ∷ y ∷ z ∷ args) frames r = tt
@@ -241,7 +244,7 @@ module _ (P : Value → Type 0) (cells : List Cell) (holds : HoldsIn P cells) wh
 
   tree_ok : (op : ℕ) (x : Value) (o : Option Tree) → AnswerOr (data_of.tree_by op cells x o)
   tree_ok op x None = tt
-  tree_ok op x (Some id) = answer_if (is_datum cells x) (data_of.tree_made (data_of.grown_to 1000 id cells x)) (Err (refused op)) (by_tree (data_of.grown_to 1000 id cells x)) tt
+  tree_ok op x (Some id) = answer_if (is_datum cells x) (data_of.tree_made (data_of.grown_to max_height id cells x)) (Err (refused op)) (by_tree (data_of.grown_to max_height id cells x)) tt
     where
       by_tree : (r : Result Tree Bare) → AnswerOr (data_of.tree_made r)
       by_tree (Ok t) = holds.plain _ tt
@@ -290,26 +293,26 @@ module _ (P : Value → Type 0) (cells : List Cell) (holds : HoldsIn P cells) wh
   kind_ok : (op : ℕ) (x : Value) → MadeOr (kind_made op x)
   unfolding kind_made
   kind_ok op x =
-      made_if (op == 141) _ _ (said_made _)
-      (made_if (op == 146) _ _ (said_made _)
-      (made_if (op == 140) _ _ (said_made _)
-      (made_if (op == 47) _ _ (said_made _)
-      (made_if (op == 177) _ _ (said_made _)
-      (made_if (op == 173) _ _ (said_made _)
-      (made_if (op == 88) _ _ (said_made _)
-      (made_if (op == 189) _ _ (said_made _)
-      (made_if (op == 143) _ _ (said_made _)
-      (made_if (op == 148) _ _ (said_made _)
-      (made_if (op == 118) _ _ (integer_kind_ok x) tt))))))))))
+      made_if (op == names.IS_NULL) _ _ (said_made _)
+      (made_if (op == names.IS_PAIR) _ _ (said_made _)
+      (made_if (op == names.NOT) _ _ (said_made _)
+      (made_if (op == names.IS_BOOLEAN) _ _ (said_made _)
+      (made_if (op == names.IS_SYMBOL) _ _ (said_made _)
+      (made_if (op == names.IS_STRING) _ _ (said_made _)
+      (made_if (op == names.IS_CHAR) _ _ (said_made _)
+      (made_if (op == names.IS_VECTOR) _ _ (said_made _)
+      (made_if (op == names.IS_NUMBER) _ _ (said_made _)
+      (made_if (op == names.IS_PROCEDURE) _ _ (said_made _)
+      (made_if (op == names.IS_INTEGER) _ _ (integer_kind_ok x) tt))))))))))
 
   basic_ok : (op : ℕ) (args : List Value) → Each P args → MadeOr (basic_made op args cells)
   unfolding basic_made
   basic_ok op [] r = tt
   basic_ok op (x ∷ []) r =
-      made_if (nat_le 51 op && nat_le op 80) _ _ (given_made (part 4 (basics.letters_of op) cells x) (part_holds 4 (basics.letters_of op) x r.0)) (kind_ok op x)
+      made_if (nat_le names.CAR op && nat_le op names.CDDDDR) _ _ (given_made (part 4 (basics.letters_of op) cells x) (part_holds 4 (basics.letters_of op) x r.0)) (kind_ok op x)
   basic_ok op (x ∷ y ∷ []) r =
-      made_if (op == 90) _ _ ((r.0, tt), r.1.0)
-      (made_if (op == 98) _ _ (said_made _) (made_if (op == 100) _ _ (said_made _) tt))
+      made_if (op == names.CONS) _ _ ((r.0, tt), r.1.0)
+      (made_if (op == names.IS_EQ) _ _ (said_made _) (made_if (op == names.IS_EQV) _ _ (said_made _) tt))
   basic_ok op (x ∷ y ∷ z ∷ args) r = tt
 
   -- Elements of strings and vectors.
@@ -322,12 +325,12 @@ module _ (P : Value → Type 0) (cells : List Cell) (holds : HoldsIn P cells) wh
   unfolding part_made
   part_ok op [] = tt
   part_ok op (x ∷ []) =
-      made_if (op == 166) _ _ (some_made (strings.string_of cells x) _ (λ s. natural_ok _))
-      (made_if (op == 185) _ _ (some_made (strings.vector_of cells x) _ (λ xs. natural_ok _)) tt)
+      made_if (op == names.STRING_LENGTH) _ _ (some_made (strings.string_of cells x) _ (λ s. natural_ok _))
+      (made_if (op == names.VECTOR_LENGTH) _ _ (some_made (strings.vector_of cells x) _ (λ xs. natural_ok _)) tt)
   part_ok op (x ∷ k ∷ []) =
-      made_if (op == 167) _ _
+      made_if (op == names.STRING_REF) _ _
       (some_made (strings.string_of cells x) _ (λ s. some_made (strings.index_below (length (chars s)) k) _ (λ i. char_given_ok (slice_get (chars s) i))))
-      (made_if (op == 187) _ _
+      (made_if (op == names.VECTOR_REF) _ _
       (some_values (strings.vector_of cells x) _ (vector_holds x)
       (λ xs r. some_made (strings.index_below (length xs) k) _ (λ i. given_made (slice_get xs i) (slice_holds P xs i r)))) tt)
   part_ok op (x ∷ k ∷ y ∷ args) = tt
@@ -348,7 +351,7 @@ module _ (P : Value → Type 0) (cells : List Cell) (holds : HoldsIn P cells) wh
   unfolding unpacked_made
   unpacked_ok op [] = tt
   unpacked_ok op (x ∷ []) =
-      listed_ok (strings.unpacked op cells x) (values_if (op == 182) _ _ (vector_holds x) (values_if (op == 160) _ _ (spread_holds (strings.string_of cells x)) tt))
+      listed_ok (strings.unpacked op cells x) (values_if (op == names.VECTOR_TO_LIST) _ _ (vector_holds x) (values_if (op == names.STRING_TO_LIST) _ _ (spread_holds (strings.string_of cells x)) tt))
   unpacked_ok op (x ∷ y ∷ args) = tt
 
   -- Lists.
@@ -363,17 +366,17 @@ module _ (P : Value → Type 0) (cells : List Cell) (holds : HoldsIn P cells) wh
   gathered_ok : (op : ℕ) (args : List Value) → Each P args → MadeOr (gathered_made op args)
   unfolding gathered_made
   gathered_ok op args r =
-      made_if (op == 121) _ _ (r, nil_holds)
-      (made_if (op == 181) _ _ r
-      (made_if (op == 159) _ _ (spelt_ok args)
+      made_if (op == names.LIST) _ _ (r, nil_holds)
+      (made_if (op == names.VECTOR) _ _ r
+      (made_if (op == names.STRING) _ _ (spelt_ok args)
       (ended_ok (before_last args) (last_of args) (each_taken P (length args - 1) args r) (slice_holds P args (length args - 1) r))))
 
   elements_ok : (op : ℕ) (xs : List Value) → Each P xs → MadeOr (lists.of_elements op xs)
   elements_ok op xs r =
-      made_if (op == 120) _ _ (natural_ok (length xs))
-      (made_if (op == 155) _ _ (reversed_holds P xs r, nil_holds)
-      (made_if (op == 123) _ _ r
-      (made_if (op == 122) _ _ (spelt_ok xs) tt)))
+      made_if (op == names.LENGTH) _ _ (natural_ok (length xs))
+      (made_if (op == names.REVERSE) _ _ (reversed_holds P xs r, nil_holds)
+      (made_if (op == names.LIST_TO_VECTOR) _ _ r
+      (made_if (op == names.LIST_TO_STRING) _ _ (spelt_ok xs) tt)))
 
   car_holds : (x : Value) → ValueOr P (lists.car_of cells x)
   car_holds x = by_pair (pair_of cells x) (pair_holds P cells holds x)
@@ -408,11 +411,11 @@ module _ (P : Value → Type 0) (cells : List Cell) (holds : HoldsIn P cells) wh
   list_ok : (op : ℕ) (args : List Value) → Each P args → MadeOr (list_made op args cells)
   unfolding list_made
   list_ok op [] r = tt
-  list_ok op (x ∷ []) r = made_if (op == 126) _ _ (said_made _) (some_values (list_elements cells x) _ (elements_hold P cells holds x) (elements_ok op))
+  list_ok op (x ∷ []) r = made_if (op == names.IS_LIST) _ _ (said_made _) (some_values (list_elements cells x) _ (elements_hold P cells holds x) (elements_ok op))
   list_ok op (x ∷ l ∷ []) r =
       some_values (list_elements cells l) _ (elements_hold P cells holds l)
-      (λ xs k. made_if (op == 205 || op == 204) _ _ (rest_ok l _ xs r.1.0)
-      (made_if (op == 209 || op == 208) _ _ (entry_ok _ xs k) (made_if (op == 201 || op == 200) _ _ (without_ok _ xs k) tt)))
+      (λ xs k. made_if (op == names.MEMQ || op == names.MEMV) _ _ (rest_ok l _ xs r.1.0)
+      (made_if (op == names.ASSQ || op == names.ASSV) _ _ (entry_ok _ xs k) (made_if (op == names.REMQ || op == names.REMV) _ _ (without_ok _ xs k) tt)))
   list_ok op (x ∷ l ∷ y ∷ args) r = tt
 
   equal_ok : (op : ℕ) (args : List Value) → Each P args → MadeOr (equal_made op args cells)
@@ -420,10 +423,10 @@ module _ (P : Value → Type 0) (cells : List Cell) (holds : HoldsIn P cells) wh
   equal_ok op [] r = tt
   equal_ok op (x ∷ []) r = tt
   equal_ok op (x ∷ y ∷ []) r =
-      made_if (op == 99) _ _ (said_made _)
+      made_if (op == names.IS_EQUAL) _ _ (said_made _)
       (some_values (list_elements cells y) _ (elements_hold P cells holds y)
-      (λ xs k. made_if (op == 203) _ _ (rest_ok y _ xs r.1.0)
-      (made_if (op == 207) _ _ (entry_ok _ xs k) (made_if (op == 199) _ _ (without_ok _ xs k) tt))))
+      (λ xs k. made_if (op == names.MEMBER) _ _ (rest_ok y _ xs r.1.0)
+      (made_if (op == names.ASSOC) _ _ (entry_ok _ xs k) (made_if (op == names.REMOVE) _ _ (without_ok _ xs k) tt))))
   equal_ok op (x ∷ y ∷ z ∷ args) r = tt
 
   joined_holds : (done xs : List Value) → Each P done → ValuesOr P (elements_joined cells done xs)
@@ -453,7 +456,7 @@ module _ (P : Value → Type 0) (cells : List Cell) (holds : HoldsIn P cells) wh
   indexed_ok op (l ∷ k ∷ []) r =
       some_made (strings.index_below (length cells + 1) k) _
       (λ n. some_value (tail_after n cells l) _ (tail_holds P cells holds n l r.0)
-      (λ x h. made_if (op == 125) _ _ h (made_if (op == 124) _ _ (given_made (lists.car_of cells x) (car_holds x)) tt)))
+      (λ x h. made_if (op == names.LIST_TAIL) _ _ h (made_if (op == names.LIST_REF) _ _ (given_made (lists.car_of cells x) (car_holds x)) tt)))
   indexed_ok op (l ∷ k ∷ y ∷ args) r = tt
 
   -- Rows.
@@ -461,23 +464,23 @@ module _ (P : Value → Type 0) (cells : List Cell) (holds : HoldsIn P cells) wh
   row_ok : (row op : ℕ) (args : List Value) (frames : Scope) → Each P args → AnswerOr (row_answer row op args cells frames)
   unfolding row_answer
   row_ok row op args frames r =
-      answer_if (row == 0) _ _ (refused_ok op _ (basic_ok op args r))
-      (answer_if (row == 1) _ _ (refused_ok op _ (number_ok op args))
-      (answer_if (row == 2) _ _ (refused_ok op _ (character_ok op args))
-      (answer_if (row == 3) _ _ (refused_ok op _ (part_ok op args))
-      (answer_if (row == 4) _ _ (refused_ok op _ (gathered_ok op args r))
-      (answer_if (row == 5) _ _ (refused_ok op _ (list_ok op args r))
-      (answer_if (row == 6) _ _ (refused_ok op _ (appended_ok args r))
-      (answer_if (row == 7) _ _ (refused_ok op _ (indexed_ok op args r))
-      (answer_if (row == 8) _ _ (refused_ok op _ (unpacked_ok op args))
-      (answer_if (row == 9) _ _ (refused_ok op _ (string_ok op args))
-      (answer_if (row == 10) _ _ (refused_ok op _ (digits_ok args))
-      (answer_if (row == 11) _ _ (refused_ok op _ (strings_ok op args))
-      (answer_if (row == 12) _ _ (refused_ok op _ (equal_ok op args r))
-      (answer_if (row == 13) _ _ (refused_ok op _ (identifier_ok op args frames r))
-      (answer_if (row == 14) _ _ (datum_ok op args)
-      (answer_if (row == 15) _ _ (syntax_ok op args)
-      (answer_if (row == 16) _ _ (refused_ok op _ (temporaries_ok args)) tt))))))))))))))))
+      answer_if (row == rows.BASICS) _ _ (refused_ok op _ (basic_ok op args r))
+      (answer_if (row == rows.NUMBERS) _ _ (refused_ok op _ (number_ok op args))
+      (answer_if (row == rows.CHARACTERS) _ _ (refused_ok op _ (character_ok op args))
+      (answer_if (row == rows.PARTS) _ _ (refused_ok op _ (part_ok op args))
+      (answer_if (row == rows.GATHERED) _ _ (refused_ok op _ (gathered_ok op args r))
+      (answer_if (row == rows.LISTS) _ _ (refused_ok op _ (list_ok op args r))
+      (answer_if (row == rows.APPENDED) _ _ (refused_ok op _ (appended_ok args r))
+      (answer_if (row == rows.INDEXED) _ _ (refused_ok op _ (indexed_ok op args r))
+      (answer_if (row == rows.UNPACKED) _ _ (refused_ok op _ (unpacked_ok op args))
+      (answer_if (row == rows.STRINGS) _ _ (refused_ok op _ (string_ok op args))
+      (answer_if (row == rows.NUMBER_STRINGS) _ _ (refused_ok op _ (digits_ok args))
+      (answer_if (row == rows.STRING_COMPARISONS) _ _ (refused_ok op _ (strings_ok op args))
+      (answer_if (row == rows.EQUALITY) _ _ (refused_ok op _ (equal_ok op args r))
+      (answer_if (row == rows.IDENTIFIERS) _ _ (refused_ok op _ (identifier_ok op args frames r))
+      (answer_if (row == rows.DATA) _ _ (datum_ok op args)
+      (answer_if (row == rows.TREES) _ _ (syntax_ok op args)
+      (answer_if (row == rows.TEMPORARIES) _ _ (refused_ok op _ (temporaries_ok args)) tt))))))))))))))))
 
   answer_ok : (o : Option Primitive) (op : ℕ) (args : List Value) (frames : Scope) → Each P args → AnswerOr (answer_by o op args cells frames)
   answer_ok None op args frames r = tt

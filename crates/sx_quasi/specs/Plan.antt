@@ -1,5 +1,6 @@
 -- What a `quasiquote` form comes to: a tree of constants, expressions and calls (R6RS 11.17).
 use Rattle.std.specs.Prelude.{ℕ, ◌+◌, suc, List, [], ◌∷◌}
+use Rattle.sx_base.specs.declared.op.names.TheConstants as names
 use Rattle.sx_tree.specs.Tree.{Tree}
 use Rattle.sx_quasi.specs.declared.maker.Maker.{Maker}
 use Rattle.sx_quasi.specs.declared.maker.Maker.TheVariants as maker
@@ -34,7 +35,7 @@ quasis (q ∷ qs) = more q (quasis qs)
 
 -- the numbers of `list`, `cons*`, `append` and `list->vector` in the table of names
 abbrev pub maker_op : Maker → ℕ
-maker_op maker.List = 121
-maker_op maker.ConsStar = 210
-maker_op maker.Append = 41
-maker_op maker.ListToVector = 123
+maker_op maker.List = names.LIST
+maker_op maker.ConsStar = names.CONS_STAR
+maker_op maker.Append = names.APPEND
+maker_op maker.ListToVector = names.LIST_TO_VECTOR

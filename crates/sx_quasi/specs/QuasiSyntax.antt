@@ -9,7 +9,7 @@ use Rattle.sx_base.specs.declared.span.Span.{Span}
 use Rattle.sx_tree.specs.Tree.{Tree, atom, leaf, pair, vector, span_of, spanned, list_of, vector_of}
 use Rattle.sx_tree.specs.Measures.{within}
 use Rattle.sx_shapes.specs.Lists.{is_nil, tail_of}
-use Rattle.sx_quasi.specs.Words.{Words, inner, reach}
+use Rattle.sx_quasi.specs.Words.{Words, word_of, inner, reach}
 use Rattle.sx_quasi.specs.Parts.{bad, rest_at, splits, taken_at, first_word, operand_of}
 use Rattle.sx_quasi.specs.Quasi.{at_form}
 use Rattle.sx_quasi.specs.declared.parts.Taken.{Taken}
@@ -18,8 +18,10 @@ use Rattle.sx_quasi.specs.declared.quasi_syntax.Begun.{Begun}
 use Rattle.sx_quasi.specs.declared.quasi_syntax.Begun.TheVariants as begun
 use Rattle.sx_quasi.specs.declared.quasi_syntax.Insert.{Insert}
 use Rattle.sx_quasi.specs.declared.quasi_syntax.Part.{Part}
+use Rattle.sx_quasi.specs.declared.quasi_syntax.QuasiContext.{QuasiContext}
 use Rattle.sx_quasi.specs.declared.quasi_syntax.QuasiSyntax.{QuasiSyntax}
 use Rattle.sx_quasi.specs.declared.quasi_syntax.Row.{Row}
+use Rattle.sx_quasi.specs.declared.word.Family.TheVariants as family
 use Rattle.sx_quasi.specs.declared.word.Reach.{Reach}
 use Rattle.sx_quasi.specs.declared.word.Reach.TheVariants as reached
 use Rattle.sx_quasi.specs.declared.word.Word.{Word}
@@ -29,6 +31,9 @@ use Rattle.sx_quasi.specs.declared.word.Word.TheVariants as word
 pub record Looked : Type 0 where
   pub words : Words
   pub dots : Tree
+
+abbrev pub seen : QuasiContext → Looked
+seen c = record { words = word_of family.Syntax c.frames.now; dots = c.dots.now }
 
 -- adds inserts and gives something, or there is a fault
 abbrev pub Inserts : Type 0 → Type 0

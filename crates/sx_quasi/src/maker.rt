@@ -3,7 +3,7 @@
 ghost use Rattle.std.specs.Prelude.{◌≡◌};
 ghost use Rattle.sx_quasi.specs.Plan.{maker_op};
 
-use sx_base::op::Op;
+use sx_base::op::{Op, names};
 
 /// A procedure that makes lists or vectors (R6RS 11.9 and 11.13; libraries 3).
 #[derive(Clone, Copy, PartialEq, Eq)]
@@ -22,10 +22,10 @@ impl Maker {
         ensures { result.0 ≡ maker_op self }
     {
         match self {
-            Maker::List => Op(121),
-            Maker::ConsStar => Op(210),
-            Maker::Append => Op(41),
-            Maker::ListToVector => Op(123),
+            Maker::List => Op(names::LIST),
+            Maker::ConsStar => Op(names::CONS_STAR),
+            Maker::Append => Op(names::APPEND),
+            Maker::ListToVector => Op(names::LIST_TO_VECTOR),
         }
     }
 }

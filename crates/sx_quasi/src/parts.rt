@@ -25,6 +25,15 @@ pub enum Taken {
     Kept,
 }
 
+/// A list of a template.
+#[derive(Drop)]
+pub(crate) struct ListParts<'a> {
+    pub(crate) form: &'a Syn,
+    pub(crate) elements: &'a [Syn],
+    /// What ends it.
+    pub(crate) tail: &'a Syn,
+}
+
 /// The fault of a template that the reports have no meaning for.
 pub(crate) fn bad(alloc: Global) -> BareStop
     ensures { result ≡ stop.Fault bad }

@@ -9,7 +9,7 @@ ghost use Rattle.sx_quasi.specs.declared.word.Family.TheVariants as family;
 ghost use Rattle.sx_quasi.specs.Quasi.{no_pieces, closed, expressions, with_each, with_splices, is_constant, with_item, is_end, without_splices, made_of, list_joined, vector_joined, element, step, operand_or_bad, quasi_at, forms_begun, forms_walked, flat_list, split_list, vector_at, StopsAt, quasi};
 
 use crate::maker::Maker;
-use crate::parts::{Taken, bad, first_word, operand_of, rest_at, splits, taken_at};
+use crate::parts::{ListParts, Taken, bad, first_word, operand_of, rest_at, splits, taken_at};
 use crate::plan::{Quasi, QuasiNode};
 use crate::word::{Family, Reach};
 use std::alloc::Global;
@@ -279,33 +279,45 @@ fn list_at(alloc: Global, form: &Syn, level: u64, frames: &Frames) -> Result<Qua
         let before = forms.len() - 2;
         let (front, last) = forms.split_at(before);
         let rest = rest_at(alloc, form, before)?;
-        return split_list(alloc, form, front, &rest, last, &parts.tail, level, frames);
+        let front = ListParts {
+            form,
+            elements: front,
+            tail: &rest,
+        };
+        let last = ListParts {
+            form: &rest,
+            elements: last,
+            tail: &parts.tail,
+        };
+        return split_list(alloc, &front, &last, level, frames);
     }
-    flat_list(alloc, form, forms, &parts.tail, level, frames)
+    let list = ListParts {
+        form,
+        elements: forms,
+        tail: &parts.tail,
+    };
+    flat_list(alloc, &list, level, frames)
 }
 
-/// Elements before a tail that is the list of the last two.
+/// A list whose tail is the list of its last two elements.
 #[cycle(quasi)]
 fn split_list(
     alloc: Global,
-    form: &Syn,
-    front: &[Syn],
-    rest: &Syn,
-    last: &[Syn],
-    tail: &Syn,
+    front: &ListParts,
+    last: &ListParts,
     level: u64,
     frames: &Frames,
 ) -> Result<Quasi, BareStop>
-    requires { 0 < length last.now }
-    ensures { BareGives (λ q. q) result (split_list (word_of family.Quote frames.now) form.now front.now rest.now last.now tail.now level) }
+    requires { 0 < length last.now.elements.now }
+    ensures { BareGives (λ q. q) result (split_list (word_of family.Quote frames.now) front.now.form.now front.now.elements.now last.now.form.now last.now.elements.now last.now.tail.now level) }
 {
-    match open_list(alloc, front, false, level, frames)? {
+    match open_list(alloc, front.elements, false, level, frames)? {
         Begun::Whole(whole) => Ok(Quasi {
             node: QuasiNode::Expression(whole),
         }),
         Begun::Parts(pieces) => {
-            let tail = flat_list(alloc, rest, last, tail, level, frames)?;
-            let plan = list_joined(alloc, form, pieces, tail)?;
+            let tail = flat_list(alloc, last, level, frames)?;
+            let plan = list_joined(alloc, front.form, pieces, tail)?;
             Ok(plan)
         }
     }
@@ -315,23 +327,21 @@ fn split_list(
 #[cycle(quasi)]
 fn flat_list(
     alloc: Global,
-    form: &Syn,
-    forms: &[Syn],
-    tail: &Syn,
+    list: &ListParts,
     level: u64,
     frames: &Frames,
 ) -> Result<Quasi, BareStop>
-    requires { 0 < length forms.now }
-    ensures { BareGives (λ q. q) result (flat_list (word_of family.Quote frames.now) form.now forms.now tail.now level) }
+    requires { 0 < length list.now.elements.now }
+    ensures { BareGives (λ q. q) result (flat_list (word_of family.Quote frames.now) list.now.form.now list.now.elements.now list.now.tail.now level) }
 {
-    let ends = is_nil(alloc, tail)?;
-    match open_list(alloc, forms, ends, level, frames)? {
+    let ends = is_nil(alloc, list.tail)?;
+    match open_list(alloc, list.elements, ends, level, frames)? {
         Begun::Whole(whole) => Ok(Quasi {
             node: QuasiNode::Expression(whole),
         }),
         Begun::Parts(pieces) => {
-            let tail = quasi_at(alloc, tail, level, frames)?;
-            let plan = list_joined(alloc, form, pieces, tail)?;
+            let tail = quasi_at(alloc, list.tail, level, frames)?;
+            let plan = list_joined(alloc, list.form, pieces, tail)?;
             Ok(plan)
         }
     }

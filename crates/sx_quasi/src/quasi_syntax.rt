@@ -4,11 +4,9 @@ ghost use Rattle.std.specs.Prelude.{◌≡◌, ◌<◌, ◌++◌, ◌∷◌, [],
 ghost use Rattle.sx_base.specs.Gives.{BareGives, Gives};
 ghost use Rattle.sx_tree.specs.Tree.{is_pair, span_of, spanned, list_of, vector_of};
 ghost use Rattle.sx_tree.specs.Measures.{within};
-ghost use Rattle.sx_quasi.specs.Words.{word_of};
-ghost use Rattle.sx_quasi.specs.declared.word.Family.TheVariants as family;
-ghost use Rattle.sx_quasi.specs.QuasiSyntax.{Looked, insert_leaf, insert, no_trees, leaves, spliced, as_row, with_part, unchanged, rebuilt, list_joined, vector_joined, element, step, leaf_part, operand_or_bad, escapes, syntax_at, forms_begun, forms_walked, flat_list, split_list, vector_at, quasi_syntax};
+ghost use Rattle.sx_quasi.specs.QuasiSyntax.{seen, insert_leaf, insert, no_trees, leaves, spliced, as_row, with_part, unchanged, rebuilt, list_joined, vector_joined, element, step, leaf_part, operand_or_bad, escapes, syntax_at, forms_begun, forms_walked, flat_list, split_list, vector_at, quasi_syntax};
 
-use crate::parts::{Taken, bad, first_word, operand_of, rest_at, splits, taken_at};
+use crate::parts::{ListParts, Taken, bad, first_word, operand_of, rest_at, splits, taken_at};
 use crate::quasi::at_form;
 use crate::word::{Family, Reach, Word};
 use std::alloc::Global;
@@ -23,6 +21,16 @@ use sx_base::symbol::Symbol;
 use sx_scope::scope::Frames;
 use sx_shapes::lists::{is_nil, parts_of};
 use sx_syntax::syn::{Opened, Syn};
+
+/// What templates of `quasisyntax` are read with.
+#[derive(Drop)]
+pub struct QuasiContext<'a> {
+    pub alloc: Global,
+    /// They say what identifiers stand for.
+    pub frames: &'a Frames,
+    /// It stands behind the leaf of each splice, and must stand for the ellipsis where the template is compiled.
+    pub dots: &'a Syn,
+}
 
 /// An expression of a template, and the leaf that stands for its value there.
 #[derive(Drop)]
@@ -268,16 +276,14 @@ fn escapes(head: Word, ends: bool, forms: &[Syn]) -> bool
 /// What a template comes to at a level.
 #[cycle(quasi_syntax)]
 fn syntax_at(
-    alloc: Global,
+    context: &QuasiContext,
     form: &Syn,
     level: u64,
-    dots: &Syn,
-    frames: &Frames,
     inserts: &mut Items<Insert>,
 ) -> Result<Part, BareStop>
-    ensures { BareGives (λ p. (p, inserts.new)) result (syntax_at (record { words = word_of family.Syntax frames.now; dots = dots.now }) form.now level inserts.old) }
+    ensures { BareGives (λ p. (p, inserts.new)) result (syntax_at (seen context.now) form.now level inserts.old) }
 {
-    match form.open(alloc)? {
+    match form.open(context.alloc)? {
         Opened::Atom(_) => {
             let part = unchanged(form)?;
             Ok(part)
@@ -286,99 +292,85 @@ fn syntax_at(
             let part = unchanged(form)?;
             Ok(part)
         }
-        Opened::Pair(_, _) => list_at(alloc, form, level, dots, frames, inserts),
-        Opened::Vector(forms) => vector_at(alloc, form, &forms, level, dots, frames, inserts),
+        Opened::Pair(_, _) => list_at(context, form, level, inserts),
+        Opened::Vector(forms) => vector_at(context, form, &forms, level, inserts),
     }
 }
 
 #[cycle(quasi_syntax)]
 fn vector_at(
-    alloc: Global,
+    context: &QuasiContext,
     form: &Syn,
     forms: &[Syn],
     level: u64,
-    dots: &Syn,
-    frames: &Frames,
     inserts: &mut Items<Insert>,
 ) -> Result<Part, BareStop>
-    ensures { BareGives (λ p. (p, inserts.new)) result (vector_at (record { words = word_of family.Syntax frames.now; dots = dots.now }) form.now forms.now level inserts.old) }
+    ensures { BareGives (λ p. (p, inserts.new)) result (vector_at (seen context.now) form.now forms.now level inserts.old) }
 {
-    let row = walked(alloc, forms, level, dots, frames, inserts)?;
-    vector_joined(alloc, form, row)
+    let row = walked(context, forms, level, inserts)?;
+    vector_joined(context.alloc, form, row)
 }
 
 /// What an ellipsis escapes stays as it is; another list is split first.
 #[cycle(quasi_syntax)]
 fn list_at(
-    alloc: Global,
+    context: &QuasiContext,
     form: &Syn,
     level: u64,
-    dots: &Syn,
-    frames: &Frames,
     inserts: &mut Items<Insert>,
 ) -> Result<Part, BareStop>
     requires { is_pair form.now ≡ true }
-    ensures { BareGives (λ p. (p, inserts.new)) result (syntax_at (record { words = word_of family.Syntax frames.now; dots = dots.now }) form.now level inserts.old) }
+    ensures { BareGives (λ p. (p, inserts.new)) result (syntax_at (seen context.now) form.now level inserts.old) }
 {
-    let parts = parts_of(alloc, form)?;
-    let ends = is_nil(alloc, &parts.tail)?;
+    let parts = parts_of(context.alloc, form)?;
+    let ends = is_nil(context.alloc, &parts.tail)?;
     let forms = parts.elements.as_slice();
-    let head = first_word(alloc, Family::Syntax, forms, frames)?;
+    let head = first_word(context.alloc, Family::Syntax, forms, context.frames)?;
     if escapes(head, ends, forms) {
         let part = unchanged(form)?;
         return Ok(part);
     }
-    if splits(alloc, Family::Syntax, forms, ends, frames)? {
+    if splits(context.alloc, Family::Syntax, forms, ends, context.frames)? {
         let before = forms.len() - 2;
         let (front, last) = forms.split_at(before);
-        let rest = rest_at(alloc, form, before)?;
-        return split_list(
-            alloc,
+        let rest = rest_at(context.alloc, form, before)?;
+        let front = ListParts {
             form,
-            front,
-            &rest,
-            last,
-            &parts.tail,
-            level,
-            dots,
-            frames,
-            inserts,
-        );
+            elements: front,
+            tail: &rest,
+        };
+        let last = ListParts {
+            form: &rest,
+            elements: last,
+            tail: &parts.tail,
+        };
+        return split_list(context, &front, &last, level, inserts);
     }
-    flat_list(
-        alloc,
+    let list = ListParts {
         form,
-        forms,
-        &parts.tail,
-        level,
-        dots,
-        frames,
-        inserts,
-    )
+        elements: forms,
+        tail: &parts.tail,
+    };
+    flat_list(context, &list, level, inserts)
 }
 
-/// Elements before a tail that is the list of the last two.
+/// A list whose tail is the list of its last two elements.
 #[cycle(quasi_syntax)]
 fn split_list(
-    alloc: Global,
-    form: &Syn,
-    front: &[Syn],
-    rest: &Syn,
-    last: &[Syn],
-    tail: &Syn,
+    context: &QuasiContext,
+    front: &ListParts,
+    last: &ListParts,
     level: u64,
-    dots: &Syn,
-    frames: &Frames,
     inserts: &mut Items<Insert>,
 ) -> Result<Part, BareStop>
-    requires { 0 < length last.now }
-    ensures { BareGives (λ p. (p, inserts.new)) result (split_list (record { words = word_of family.Syntax frames.now; dots = dots.now }) form.now front.now rest.now last.now tail.now level inserts.old) }
+    requires { 0 < length last.now.elements.now }
+    ensures { BareGives (λ p. (p, inserts.new)) result (split_list (seen context.now) front.now.form.now front.now.elements.now last.now.form.now last.now.elements.now last.now.tail.now level inserts.old) }
 {
-    match open_list(alloc, front, false, level, dots, frames, inserts)? {
+    match open_list(context, front.elements, false, level, inserts)? {
         Begun::Whole(part) => Ok(part),
         Begun::Trees(row) => {
-            let tail = flat_list(alloc, rest, last, tail, level, dots, frames, inserts)?;
-            list_joined(alloc, form, row, tail)
+            let tail = flat_list(context, last, level, inserts)?;
+            list_joined(context.alloc, front.form, row, tail)
         }
     }
 }
@@ -386,24 +378,20 @@ fn split_list(
 /// Elements and a tail, as they are.
 #[cycle(quasi_syntax)]
 fn flat_list(
-    alloc: Global,
-    form: &Syn,
-    forms: &[Syn],
-    tail: &Syn,
+    context: &QuasiContext,
+    list: &ListParts,
     level: u64,
-    dots: &Syn,
-    frames: &Frames,
     inserts: &mut Items<Insert>,
 ) -> Result<Part, BareStop>
-    requires { 0 < length forms.now }
-    ensures { BareGives (λ p. (p, inserts.new)) result (flat_list (record { words = word_of family.Syntax frames.now; dots = dots.now }) form.now forms.now tail.now level inserts.old) }
+    requires { 0 < length list.now.elements.now }
+    ensures { BareGives (λ p. (p, inserts.new)) result (flat_list (seen context.now) list.now.form.now list.now.elements.now list.now.tail.now level inserts.old) }
 {
-    let ends = is_nil(alloc, tail)?;
-    match open_list(alloc, forms, ends, level, dots, frames, inserts)? {
+    let ends = is_nil(context.alloc, list.tail)?;
+    match open_list(context, list.elements, ends, level, inserts)? {
         Begun::Whole(part) => Ok(part),
         Begun::Trees(row) => {
-            let tail = syntax_at(alloc, tail, level, dots, frames, inserts)?;
-            list_joined(alloc, form, row, tail)
+            let tail = syntax_at(context, list.tail, level, inserts)?;
+            list_joined(context.alloc, list.form, row, tail)
         }
     }
 }
@@ -411,23 +399,21 @@ fn flat_list(
 /// The head and the elements of a list.
 #[cycle(quasi_syntax)]
 fn open_list(
-    alloc: Global,
+    context: &QuasiContext,
     forms: &[Syn],
     ends: bool,
     level: u64,
-    dots: &Syn,
-    frames: &Frames,
     inserts: &mut Items<Insert>,
 ) -> Result<Begun, BareStop>
-    ensures { BareGives (λ b. (b, inserts.new)) result (forms_begun (record { words = word_of family.Syntax frames.now; dots = dots.now }) forms.now ends level inserts.old) }
+    ensures { BareGives (λ b. (b, inserts.new)) result (forms_begun (seen context.now) forms.now ends level inserts.old) }
 {
-    let head = first_word(alloc, Family::Syntax, forms, frames)?;
+    let head = first_word(context.alloc, Family::Syntax, forms, context.frames)?;
     match head.reach(level) {
-        Reach::Operand => operand_or_bad(alloc, operand_of(forms, ends), inserts),
-        Reach::Refused => Err(bad(alloc)),
+        Reach::Operand => operand_or_bad(context.alloc, operand_of(forms, ends), inserts),
+        Reach::Refused => Err(bad(context.alloc)),
         Reach::Elements => {
             let inner = head.inner(level)?;
-            let row = walked(alloc, forms, inner, dots, frames, inserts)?;
+            let row = walked(context, forms, inner, inserts)?;
             Ok(Begun::Trees(row))
         }
     }
@@ -437,19 +423,17 @@ fn open_list(
 #[cycle(quasi_syntax)]
 #[tactic(auto, using(crate::proofs::InsertWalks::row_on, crate::proofs::InsertWalks::row_stop))]
 fn walked(
-    alloc: Global,
+    context: &QuasiContext,
     forms: &[Syn],
     level: u64,
-    dots: &Syn,
-    frames: &Frames,
     inserts: &mut Items<Insert>,
 ) -> Result<Row, BareStop>
-    ensures { BareGives (λ r. (r, inserts.new)) result (forms_walked (record { words = word_of family.Syntax frames.now; dots = dots.now }) level forms.now inserts.old) }
+    ensures { BareGives (λ r. (r, inserts.new)) result (forms_walked (seen context.now) level forms.now inserts.old) }
 {
-    let mut row = Row::none(alloc);
+    let mut row = Row::none(context.alloc);
     let mut left = forms;
     while let Some((form, behind)) = left.split_first() {
-        row = step(alloc, row, form, level, dots, frames, inserts)?;
+        row = step(context, row, form, level, inserts)?;
         left = behind;
     }
     Ok(row)
@@ -458,27 +442,25 @@ fn walked(
 /// Adds what an element comes to.
 #[cycle(quasi_syntax)]
 fn step(
-    alloc: Global,
+    context: &QuasiContext,
     row: Row,
     form: &Syn,
     level: u64,
-    dots: &Syn,
-    frames: &Frames,
     inserts: &mut Items<Insert>,
 ) -> Result<Row, BareStop>
-    ensures { BareGives (λ r. (r, inserts.new)) result (step (record { words = word_of family.Syntax frames.now; dots = dots.now }) level row (element (record { words = word_of family.Syntax frames.now; dots = dots.now }) form.now) inserts.old) }
+    ensures { BareGives (λ r. (r, inserts.new)) result (step (seen context.now) level row (element (seen context.now) form.now) inserts.old) }
 {
-    match taken_at(alloc, Family::Syntax, form, level, frames)? {
+    match taken_at(context.alloc, Family::Syntax, form, level, context.frames)? {
         Taken::Each(forms) => {
-            let row = row.with_each(alloc, forms.as_slice(), inserts)?;
+            let row = row.with_each(context.alloc, forms.as_slice(), inserts)?;
             Ok(row)
         }
         Taken::Spliced(forms) => {
-            let row = row.with_splices(alloc, forms.as_slice(), dots, inserts)?;
+            let row = row.with_splices(context.alloc, forms.as_slice(), context.dots, inserts)?;
             Ok(row)
         }
         Taken::Kept => {
-            let part = syntax_at(alloc, form, level, dots, frames, inserts)?;
+            let part = syntax_at(context, form, level, inserts)?;
             let row = row.with_part(part)?;
             Ok(row)
         }
@@ -487,8 +469,7 @@ fn step(
 
 /// What a `quasisyntax` form with this template comes to (R6RS libraries 12.8).
 ///
-/// Each expression is an insert, whose leaf stands for its value in the template; behind the leaf of a splice stands
-/// `dots`, which must stand for the ellipsis where the template is compiled. The form means
+/// Each expression is an insert, whose leaf stands for its value in the template. The form means
 /// `(syntax-case (list e ...) () ((p ...) (syntax t)))`, where p is the leaf, or a list of the leaf and an ellipsis.
 /// Without inserts the template is the form's own.
 ///
@@ -498,17 +479,15 @@ fn step(
 /// span stands.
 #[tactic(auto, using(crate::proofs::Places::form_stops))]
 pub fn quasi_syntax(
-    alloc: Global,
+    context: &QuasiContext,
     template: &Syn,
-    dots: &Syn,
     form: &Syn,
     place: &Span,
-    frames: &Frames,
 ) -> Result<QuasiSyntax, Stop>
-    ensures { Gives (λ q. q) result (quasi_syntax (record { words = word_of family.Syntax frames.now; dots = dots.now }) template.now form.now place.now) }
+    ensures { Gives (λ q. q) result (quasi_syntax (seen context.now) template.now form.now place.now) }
 {
-    let mut inserts = Items::new(alloc);
-    match syntax_at(alloc, template, 0, dots, frames, &mut inserts) {
+    let mut inserts = Items::new(context.alloc);
+    match syntax_at(context, template, 0, &mut inserts) {
         Ok(part) => Ok(QuasiSyntax {
             template: part.tree,
             inserts,

@@ -8,6 +8,7 @@ use Rattle.sx_base.specs.declared.name.Label.{Label}
 use Rattle.sx_base.specs.declared.name.Name.{Name}
 use Rattle.sx_base.specs.declared.op.Op.{Op}
 use Rattle.sx_base.specs.declared.span.Span.{Span}
+use Rattle.sx_base.specs.declared.op.names.TheConstants as names
 use Rattle.sx_tree.specs.Changes.{stamp}
 use Rattle.sx_tree.specs.Tree.{Tree, leaf}
 use Rattle.sx_core.specs.Core.{PlainCore, instance, matching}
@@ -72,7 +73,7 @@ inserts_pattern vs = pattern.list (pattern.patterns (map insert_pattern vs)) not
 
 -- the number of `list` in the table of names
 abbrev pub list_op : Op
-list_op = record { 0 = 121 }
+list_op = record { 0 = names.LIST }
 
 abbrev pub only_clause : PlainPattern → PlainTemplate → Span → Clause
 only_clause p x span = record { pattern = p; fender = None; output = instance x span }

@@ -2,17 +2,13 @@
 -- quasi form stands in its place, at its depth, so that the fault is at the quasi form.
 use Rattle.std.specs.Prelude.{ℕ, nat_lt, List, [], ◌∷◌, ◌++◌, map, if◌then◌else◌}
 use Rattle.sx_tree.specs.Tree.{Tree}
-use Rattle.sx_heads.specs.Depth.{deeper}
+use Rattle.sx_heads.specs.Depth.{deeper, most_round}
 use Rattle.sx_quasi.specs.Plan.{PlainQuasi, PlainQuasis, constant, expression, call, none, more}
 use Rattle.sx_quasi.specs.declared.quasi_syntax.Insert.{Insert}
 use Rattle.sx_quasi_code.specs.declared.parts.Part.{Part}
 
 abbrev pub part : Tree → ℕ → Part
 part t depth = record { form = t; depth = depth }
-
--- at most so many core forms and applications may stand round a form
-abbrev pub most_round : ℕ
-most_round = 600
 
 -- a form that is made at this depth: it is no part, but where it is too deep the quasi form is
 abbrev pub with_made : Tree → ℕ → List Part → List Part

@@ -17,9 +17,10 @@ use sx_base::memory::Memory;
 use sx_base::span::Span;
 use sx_base::steps::Steps;
 use sx_core::code::Core;
+use sx_heads::context::FormContext;
 use sx_quasi::plan::Quasi;
 use sx_quasi::quasi::quasi;
-use sx_quasi::quasi_syntax::{QuasiSyntax, quasi_syntax};
+use sx_quasi::quasi_syntax::{QuasiContext, QuasiSyntax, quasi_syntax};
 use sx_quasi::word::Family;
 use sx_standing::expansion::Expansion;
 use sx_syntax::syn::Syn;
@@ -54,7 +55,12 @@ fn syntax_form(
     ensures { GivesAfter (λ q. q) result state.now (form_of place.now form.now family.Syntax template.now state.now) }
 {
     let dots = dots(state.alloc())?;
-    let quasi = quasi_syntax(state.alloc(), template, &dots, form, place, state.frames())?;
+    let context = QuasiContext {
+        alloc: state.alloc(),
+        frames: state.frames(),
+        dots: &dots,
+    };
+    let quasi = quasi_syntax(&context, template, form, place)?;
     Ok(QuasiForm::Syntax(quasi))
 }
 
@@ -96,35 +102,31 @@ pub fn parts_of(
 
 fn syntax_code<N: Ledger>(
     state: &mut Expansion,
-    form: &Syn,
+    context: &FormContext,
     quasi: &QuasiSyntax,
     codes: Vec<Core>,
-    place: &Span,
-    level: u32,
     nodes: &mut Steps<N>,
 ) -> Result<Core, Stop>
-    ensures { GivesAfter (λ c. c) result state.new (syntax_code place.now level form.now quasi.now codes.items quasi.now.inserts state.old) }
+    ensures { GivesAfter (λ c. c) result state.new (syntax_code context.now.place.now context.now.level context.now.form.now quasi.now codes.items quasi.now.inserts state.old) }
 {
     if quasi.inserts.as_slice().is_empty() {
-        return plain_instance(state, form, quasi, place, level);
+        return plain_instance(state, context, quasi);
     }
-    inserted(state, form, quasi, codes, place, level, nodes)
+    inserted(state, context, quasi, codes, nodes)
 }
 
 /// The code of a form, whose parts have these codes. A fault of the template of a `quasisyntax` form is at its part.
 pub fn code_of<N: Ledger>(
     state: &mut Expansion,
-    form: &Syn,
+    context: &FormContext,
     quasi: &QuasiForm,
     codes: Vec<Core>,
-    place: &Span,
-    level: u32,
     nodes: &mut Steps<N>,
 ) -> Result<Core, Stop>
-    ensures { GivesAfter (λ c. c) result state.new (code_of place.now level form.now quasi.now codes.items state.old) }
+    ensures { GivesAfter (λ c. c) result state.new (code_of context.now.place.now context.now.level context.now.form.now quasi.now codes.items state.old) }
 {
     match quasi {
         QuasiForm::Quote(plan) => Ok(plan_code(state.alloc(), plan, codes)?),
-        QuasiForm::Syntax(quasi) => syntax_code(state, form, quasi, codes, place, level, nodes),
+        QuasiForm::Syntax(quasi) => syntax_code(state, context, quasi, codes, nodes),
     }
 }

@@ -14,7 +14,7 @@ use sx_base::items::Items;
 use sx_base::library::LibName;
 use sx_base::memory::Memory;
 use sx_base::name::{FrameNo, Label, Mark, Name};
-use sx_base::op::Op;
+use sx_base::op::{Op, names};
 use sx_base::span::Span;
 use sx_base::steps::Steps;
 use sx_base::symbol::Symbol;
@@ -22,9 +22,11 @@ use sx_core::code::{Clause, Core, CoreNode};
 use sx_core::core_form::CoreForm;
 use sx_core::pattern::{Elements, Pattern, PatternNode, Repeated};
 use sx_core::template::Template;
+use sx_heads::context::FormContext;
 use sx_pattern::compile::PatternVariable;
 use sx_quasi::quasi_syntax::{Insert, QuasiSyntax};
 use sx_shapes::at::place_of;
+use sx_standing::binders::BinderContext;
 use sx_standing::expansion::Expansion;
 use sx_syntax::syn::Syn;
 
@@ -162,7 +164,7 @@ fn match_of(
         fender: None,
         output,
     })?;
-    let subject = call_of(alloc, Op(121), codes)?;
+    let subject = call_of(alloc, Op(names::LIST), codes)?;
     let subject = Box::new(alloc, subject)?;
     Ok(Core {
         node: CoreNode::SyntaxCase(subject, clauses, span),
@@ -179,29 +181,45 @@ fn bind_inserts(
 ) -> Result<(), Stop>
     ensures { GivesAfter (λ _. tt) result state.new (bind_inserts frame.now place.now level variables.now state.old) }
 {
-    state.bind_pattern(frame, place, level, variables)?;
+    let binders = BinderContext {
+        frame,
+        place,
+        level,
+    };
+    state.bind_pattern(&binders, variables)?;
     let dots = dots(state.alloc())?;
     let ellipsis = ellipsis(state.alloc())?;
     state.bind_row(frame, &dots, &ellipsis, place)
 }
 
+// What a form of `quasisyntax` comes to, with the codes of its inserts.
+#[derive(Drop)]
+struct Inserts<'a> {
+    quasi: &'a QuasiSyntax,
+    codes: Vec<Core>,
+}
+
 fn inserted_in<N: Ledger>(
     state: &mut Expansion,
-    form: &Syn,
-    quasi: &QuasiSyntax,
-    codes: Vec<Core>,
+    context: &FormContext,
+    inserts: Inserts,
     frame: FrameNo,
-    place: &Span,
-    level: u32,
     nodes: &mut Steps<N>,
 ) -> Result<Core, Stop>
-    ensures { GivesAfter (λ c. c) result state.new (inserted_in place.now level form.now quasi.now codes.items frame state.old) }
+    ensures { GivesAfter (λ c. c) result state.new (inserted_in context.now.place.now context.now.level context.now.form.now inserts.entry.quasi.now inserts.entry.codes.items frame state.old) }
 {
+    let Inserts { quasi, codes } = inserts;
     let variables = insert_variables(state, quasi.inserts.as_slice())?;
-    bind_inserts(state, &frame, variables.as_slice(), place, level)?;
+    bind_inserts(
+        state,
+        &frame,
+        variables.as_slice(),
+        context.place,
+        context.level,
+    )?;
     let template = quasi.template.stamp(state.alloc(), frame, nodes)?;
-    let template = state.template(&template, place, level)?;
-    let span = place_of(form, place)?;
+    let template = state.template(&template, context.place, context.level)?;
+    let span = place_of(context.form, context.place)?;
     Ok(match_of(state.alloc(), variables.as_slice(), template, span, codes)?)
 }
 
@@ -209,18 +227,17 @@ fn inserted_in<N: Ledger>(
 #[tactic(auto, unfolding(crate::specs::Inserted::inserted))]
 pub(crate) fn inserted<N: Ledger>(
     state: &mut Expansion,
-    form: &Syn,
+    context: &FormContext,
     quasi: &QuasiSyntax,
     codes: Vec<Core>,
-    place: &Span,
-    level: u32,
     nodes: &mut Steps<N>,
 ) -> Result<Core, Stop>
-    ensures { GivesAfter (λ c. c) result state.new (inserted place.now level form.now quasi.now codes.items state.old) }
+    ensures { GivesAfter (λ c. c) result state.new (inserted context.now.place.now context.now.level context.now.form.now quasi.now codes.items state.old) }
 {
     let outer = state.in_scope();
     let frame = state.fresh_frame()?;
-    let core = inserted_in(state, form, quasi, codes, frame, place, level, nodes)?;
+    let inserts = Inserts { quasi, codes };
+    let core = inserted_in(state, context, inserts, frame, nodes)?;
     state.cut_scope(outer);
     Ok(core)
 }
@@ -228,15 +245,13 @@ pub(crate) fn inserted<N: Ledger>(
 /// The code of a form without inserts.
 pub(crate) fn plain_instance(
     state: &mut Expansion,
-    form: &Syn,
+    context: &FormContext,
     quasi: &QuasiSyntax,
-    place: &Span,
-    level: u32,
 ) -> Result<Core, Stop>
-    ensures { GivesAfter (λ c. c) result state.new (plain_instance place.now level form.now quasi.now state.old) }
+    ensures { GivesAfter (λ c. c) result state.new (plain_instance context.now.place.now context.now.level context.now.form.now quasi.now state.old) }
 {
-    let template = state.template(&quasi.template, place, level)?;
-    let span = place_of(form, place)?;
+    let template = state.template(&quasi.template, context.place, context.level)?;
+    let span = place_of(context.form, context.place)?;
     Ok(Core {
         node: CoreNode::Syntax(template, span),
     })

@@ -25,7 +25,7 @@ use Rattle.sx_heads.specs.declared.taken.Taken.{Taken}
 use Rattle.sx_value.specs.Cells.{Each}
 use Rattle.sx_expand.specs.Body.{finish_all}
 use Rattle.sx_expand.specs.Expanding.{ready, body_of}
-use Rattle.sx_expand.specs.Expression.{inside}
+use Rattle.sx_expand.specs.Expression.{inside, full_room}
 use Rattle.sx_expand.specs.Inside.{Inside}
 use Rattle.sx_expand.specs.Top.{stands_for, export, all_exports, exports, give_record, record_in, body_at, finished, first_pass, top}
 use Rattle.sx_expand.specs.declared.top.TopAt.{TopAt}
@@ -132,6 +132,6 @@ started-holds own records imports codes before texts = record { stage = record {
 
 pub records-stay : RecordsStayReadable
 records-stay own path records imports version place es forms codes r before texts read e =
-    of-record r (top (inside records 602) (body_of (ready own path records imports codes) version place) es forms (started own records imports codes))
-    (top-holds (inside records 602) (inside-keeps records 602 (all-lines records before)) (body_of (ready own path records imports codes) version place) es forms (started own records imports codes)
+    of-record r (top (inside records full_room) (body_of (ready own path records imports codes) version place) es forms (started own records imports codes))
+    (top-holds (inside records full_room) (inside-keeps records full_room (all-lines records before)) (body_of (ready own path records imports codes) version place) es forms (started own records imports codes)
     (started-holds own records imports codes before texts) read) e

@@ -18,7 +18,7 @@ use Rattle.sx_printer.specs.Symbols.{is_subsequent}
 use Rattle.sx_name_laws.proofs.AnyName.{rest_of_name, any_rest}
 use Rattle.sx_name_laws.proofs.Words.{all_weaker}
 use Rattle.sx_readable_laws.proofs.Texts.{is_small, small_text}
-use Rattle.sx_tree.specs.Measures.{size, height, within, too_deep}
+use Rattle.sx_tree.specs.Measures.{max_height, max_size, size, height, within, too_deep}
 use Rattle.sx_tree.specs.Tree.{Tree, atom, leaf, pair, vector, nil, chain, list_of, vector_of}
 use Rattle.sx_frames.specs.Scope.{Scope}
 use Rattle.sx_core.specs.declared.core_form.CoreForm.{CoreForm}
@@ -430,9 +430,9 @@ list-size : (ts : List Tree) → length ts ≤ size (list_of ts None)
 list-size [] = omega arith
 list-size (t ∷ ts) = chain-size (t ∷ ts)
 
-within-size : (P : Tree → Type 0) (t : Tree) → (size t ≤ 16777216 → P t) → OkHolds P (within t)
+within-size : (P : Tree → Type 0) (t : Tree) → (size t ≤ max_size → P t) → OkHolds P (within t)
 unfolding within
-within-size P t h = by (nat_le (height t) 1000) (nat_le (size t) 16777216) (λ e. h (omega (arith, leb-true, e)))
+within-size P t h = by (nat_le (height t) max_height) (nat_le (size t) max_size) (λ e. h (omega (arith, leb-true, e)))
   where
     by : (c b : Bool) → (b ≡ true → P t) → OkHolds P (if c && b then Ok t else Err too_deep)
     by true true k = k refl
@@ -470,7 +470,7 @@ fields-have k n done (f ∷ fs) h =
 
 -- the definitions of so many fields, where they are one form
 module _ (ts : List Tree) (fs : List Field) (h : Ts ts) (j : Each FieldHolds fs) where
-  fields-fit : (us : List Tree) → with_fields 0 ts fs ≡ Ok us → size (list_of us None) ≤ 16777216 → Ts us
+  fields-fit : (us : List Tree) → with_fields 0 ts fs ≡ Ok us → size (list_of us None) ≤ max_size → Ts us
   fields-fit us e few = by (with_fields 0 ts fs) e (with-fields-good 0 ts fs enough h j)
     where
       counted : length fs ≤ length us

@@ -11,7 +11,7 @@ use Rattle.sx_shapes.specs.At.{place_of}
 use Rattle.sx_shapes.specs.declared.shape.BindingSpec.{BindingSpec}
 use Rattle.sx_standing.specs.State.{State}
 use Rattle.sx_standing.specs.Uses.{asks_variable}
-use Rattle.sx_heads.specs.Depth.{deeper}
+use Rattle.sx_heads.specs.Depth.{deeper, most_round}
 use Rattle.sx_heads.specs.Items.{waiting_at, define_keyword, item_plan}
 use Rattle.sx_heads.specs.Plan.{plan_of}
 use Rattle.sx_heads.specs.declared.item.Item.{Item}
@@ -182,7 +182,7 @@ module _ (go : Inside) (keeps : Keeps go) where
   pub form-at-holds : (place : Span) (level depth : ℕ) (t : Tree) (s : State) → F s → T t → Gave C (form_at go place level depth t s)
   unfolding form_at
   form-at-holds place level depth t s h g =
-      gave-if C (nat_lt 600 depth) _ (after (settle go.earlier place level t s) (perform_settled go level depth)) tt
+      gave-if C (nat_lt most_round depth) _ (after (settle go.earlier place level t s) (perform_settled go level depth)) tt
       (gave-after (SettledAt go.earlier keeps.records) C (settle go.earlier place level t s) (perform_settled go level depth) (settle-to-holds go.earlier keeps.records s.uses_left place level t s h g)
       (λ d u i y. perform-holds d.place level depth d.form d.plan u i y.0 y.1))
 
@@ -207,7 +207,7 @@ module _ (go : Inside) (keeps : Keeps go) where
   pub item-holds : (at : BodyAt) (depth : ℕ) (d : Taken) (t : Tree) (s : State) → F s → TakenAt d → T t → Gave TakenAt (item go at depth d t s)
   unfolding item
   item-holds at depth d t s h k g =
-      gave-if TakenAt (nat_lt 600 depth) _ (after (settle_item go.earlier at depth d t s) (expand_body.perform_settled go depth)) tt
+      gave-if TakenAt (nat_lt most_round depth) _ (after (settle_item go.earlier at depth d t s) (expand_body.perform_settled go depth)) tt
       (gave-after (SettledItemAt go.earlier keeps.records) TakenAt (settle_item go.earlier at depth d t s) (expand_body.perform_settled go depth) (settle-item-to-holds go.earlier keeps.records s.uses_left at depth d t s h k g)
       (λ p u i y. perform-item-holds p.1.at depth p.0 p.1.form p.1.item u i y.0 y.1.0 y.1.1))
 

@@ -303,7 +303,7 @@ template-holds place level t s h k =
 -- a pattern takes names, and changes nothing else
 pub pattern-holds : (literals : List Tree) (place : Span) (t : Tree) (s : State) → F s → Gave Taken (pattern_of literals place t s)
 unfolding stage_patterns.pattern_of
-pattern-holds literals place t s h = by (patterns.compiled s.frames literals place t s.names)
+pattern-holds literals place t s h = by (patterns.compiled (record { frames = s.frames; literals = literals; place = place }) t s.names)
   where
     by : (r : Result (Compiled × Named) Fault) → Gave Taken (staged s (stage_patterns.named (stage_of s) r))
     by (Err f) = tt

@@ -11,4 +11,5 @@
 //! This is where bytes become data; all further crates speak of data.
 #![tactic(auto)]
 
+mod names;
 pub mod read;

@@ -8,19 +8,22 @@ ghost use Rattle.sx_reader.specs.FirstFault.{OnFault, IsFaultOf};
 ghost use Rattle.sx_reader.specs.Read.{data_of, file_nesting, most_nesting};
 ghost use Rattle.sx_reader.specs.Spells.{Spells};
 
+use crate::names::Names;
 use std::alloc::Global;
 use sx_base::datum::Datum;
 use sx_base::fault::Stop;
 use sx_base::symbol::Symbol;
 use sx_lexer::start::start_of;
 use sx_lexer::tokens::next_lexeme;
+use sx_machine::context::SourceContext;
+use sx_machine::keywords::Keywords;
 use sx_machine::partial::State;
 use sx_machine::step::{finish, step};
 
 /// How many forms may be nested in a program or library.
 pub const NESTING: u32 = 500;
 
-/// The data of a program or library, in order, as `read_deep` reads them at a nesting of 500.
+/// The data of a program or library, in order, as `read_deep` reads them at that nesting.
 pub fn read_all(alloc: Global, file: &Symbol, bytes: &[u8]) -> Result<Vec<Datum>, Stop>
     requires { length bytes.now < 2 ^ 32 }
     ensures gives { Gives (λ v. v.items) result (data_of file.now bytes.now file_nesting) }
@@ -67,13 +70,36 @@ fn read_lexemes(
     ensures spelled { IfOk result (λ v. Spells file.now bytes.now nesting v.items) }
     ensures refused { OnFault result (IsFaultOf file.now bytes.now nesting) }
 {
-    let mut state = State::new(alloc);
-    let mut at = start_of(alloc, file, bytes)?;
+    let keywords = Keywords::new(alloc)?;
+    let mut names = Names::new(alloc);
+    let context = SourceContext {
+        alloc,
+        file,
+        keywords: &keywords,
+        nesting,
+    };
+    read_sharing(&context, bytes, &mut names)
+}
+
+/// As `read_lexemes`, with symbols that data can share.
+fn read_sharing(
+    context: &SourceContext,
+    bytes: &[u8],
+    names: &mut Names,
+) -> Result<Vec<Datum>, Stop>
+    requires { length bytes.now < 2 ^ 32 }
+    ensures gives { Gives (λ v. v.items) result (data_of context.now.file.now bytes.now context.now.nesting) }
+    ensures spelled { IfOk result (λ v. Spells context.now.file.now bytes.now context.now.nesting v.items) }
+    ensures refused { OnFault result (IsFaultOf context.now.file.now bytes.now context.now.nesting) }
+{
+    let mut state = State::new(context.alloc);
+    let mut at = start_of(context.alloc, context.file, bytes)?;
     loop {
-        let Some(lexeme) = next_lexeme(alloc, file, bytes, at)? else {
-            return finish(alloc, file, state);
+        let Some(lexeme) = next_lexeme(context.alloc, context.file, bytes, at)? else {
+            return finish(context, state);
         };
         at = lexeme.to;
-        state = step(alloc, file, nesting, state, lexeme)?;
+        let shared = names.with_shared(lexeme)?;
+        state = step(context, state, shared)?;
     }
 }

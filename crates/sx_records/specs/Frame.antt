@@ -2,6 +2,7 @@
 use Rattle.std.specs.Prelude.{ℕ, List, [], ◌∷◌, map}
 use Rattle.sx_base.specs.Op.{op_text}
 use Rattle.sx_base.specs.declared.library.LibName.TheVariants as library
+use Rattle.sx_base.specs.declared.op.names.TheConstants as names
 use Rattle.sx_tree.specs.declared.frame_row.FrameRow.{FrameRow}
 use Rattle.sx_records.specs.Introduced.{core_frame}
 
@@ -12,11 +13,14 @@ core_row n = record { frame = core_frame; symbol = op_text n; marks = []; label 
 unfoldable pub rows_for : List ℕ → List FrameRow
 rows_for ns = map core_row ns
 
--- the names that record forms introduce, by number: `quote lambda begin define define-syntax _ syntax-case syntax`,
--- `make-record-type-descriptor make-record-constructor-descriptor record-constructor record-predicate record-accessor record-mutator`,
--- `record-type-descriptor record-constructor-descriptor mutable immutable`
+-- the names that record forms introduce, by number
 abbrev pub introduced_numbers : List ℕ
-introduced_numbers = 0 ∷ 1 ∷ 4 ∷ 7 ∷ 8 ∷ 15 ∷ 216 ∷ 217 ∷ 282 ∷ 284 ∷ 285 ∷ 286 ∷ 287 ∷ 288 ∷ 290 ∷ 291 ∷ 293 ∷ 294 ∷ []
+introduced_numbers =
+    names.QUOTE ∷ names.LAMBDA ∷ names.BEGIN ∷ names.DEFINE ∷
+    names.DEFINE_SYNTAX ∷ names.UNDERSCORE ∷ names.SYNTAX_CASE ∷ names.SYNTAX ∷
+    names.MAKE_RECORD_TYPE_DESCRIPTOR ∷ names.MAKE_RECORD_CONSTRUCTOR_DESCRIPTOR ∷ names.RECORD_CONSTRUCTOR ∷ names.RECORD_PREDICATE ∷
+    names.RECORD_ACCESSOR ∷ names.RECORD_MUTATOR ∷ names.RECORD_TYPE_DESCRIPTOR ∷ names.RECORD_CONSTRUCTOR_DESCRIPTOR ∷
+    names.MUTABLE ∷ names.IMMUTABLE ∷ []
 
 -- their rows, in this order
 unfoldable pub record_frame : List FrameRow

@@ -7,19 +7,18 @@ ghost use Rattle.sx_records.specs.declared.clause.RecordClause.TheVariants as re
 ghost use Rattle.sx_records.specs.Clauses.{numbered, labelled, keyword_of, fixed_field, immutable_field, mutable_field, field_by, field_in, field_of, fields_clause, parent_clause, parent_rtd_clause, protocol_clause, truth_in, truth_of, only_truth, sealed_clause, opaque_clause, nongenerative_clause, clause_by, clause_in, clause_of, no_clauses, with_clause, next_clause, all_clauses};
 
 use crate::clause::{Clauses, Field, Parent, RecordClause, Uid};
+use crate::context::{RecordContext, bad_form};
 use crate::names::{made_accessor, made_mutator};
 use std::alloc::Global;
 use sx_base::atom::Atom;
-use sx_base::fault::{FaultKind, Stop};
+use sx_base::fault::Stop;
 use sx_base::items::Items;
 use sx_base::library::LibName;
 use sx_base::memory::Memory;
 use sx_base::name::Label;
 use sx_base::op::{NAME_COUNT, Op};
-use sx_base::span::Span;
 use sx_core::core_form::CoreForm;
 use sx_scope::scope::Frames;
-use sx_shapes::at::fault_at;
 use sx_shapes::lists::{is_id, proper};
 use sx_syntax::syn::{Opened, Syn};
 
@@ -479,38 +478,34 @@ impl Clauses {
 /// With the next clause. It is at fault where it has no meaning, or may not stand behind those before it.
 #[tactic(auto, unfolding(crate::specs::Clauses::next_clause))]
 fn next_clause(
-    alloc: Global,
+    context: &RecordContext,
     name: &Syn,
     clauses: Clauses,
     form: &Syn,
-    place: &Span,
-    frames: &Frames,
 ) -> Result<Clauses, Stop>
-    ensures { Gives (λ c. c) result (next_clause frames.now name.now place.now clauses form.now) }
+    ensures { Gives (λ c. c) result (next_clause context.now.frames.now name.now context.now.place.now clauses form.now) }
 {
-    let Some(clause) = clause_of(alloc, name, form, frames)? else {
-        return Err(fault_at(alloc, FaultKind::BadForm, form, place, None));
+    let Some(clause) = clause_of(context.alloc, name, form, context.frames)? else {
+        return Err(bad_form(context, form));
     };
     match clauses.with_clause(clause) {
         Some(all) => Ok(all),
-        None => Err(fault_at(alloc, FaultKind::BadForm, form, place, None)),
+        None => Err(bad_form(context, form)),
     }
 }
 
 /// All clauses of the form that defines the record type with this name, from left to right.
 #[tactic(auto, using(crate::proofs::Walks::clauses_on, crate::proofs::Walks::clauses_stop, crate::proofs::Walks::clauses_done))]
 pub(crate) fn all_clauses(
-    alloc: Global,
+    context: &RecordContext,
     name: &Syn,
     forms: &[Syn],
-    place: &Span,
-    frames: &Frames,
 ) -> Result<Clauses, Stop>
-    ensures { Gives (λ c. c) result (all_clauses frames.now name.now place.now no_clauses forms.now) }
+    ensures { Gives (λ c. c) result (all_clauses context.now.frames.now name.now context.now.place.now no_clauses forms.now) }
 {
     let mut clauses = Clauses::none();
     for form in forms {
-        clauses = next_clause(alloc, name, clauses, form, place, frames)?;
+        clauses = next_clause(context, name, clauses, form)?;
     }
     Ok(clauses)
 }

@@ -176,28 +176,30 @@ fn type_operator(alloc: Global) -> Result<Syn, Memory>
     introduced(alloc, "make-record-type-descriptor")
 }
 
+/// What a record type is made of, beside its truths.
+#[derive(Drop)]
+pub(crate) struct TypeParts {
+    pub(crate) name: Syn,
+    pub(crate) parent: Syn,
+    pub(crate) uid: Syn,
+    pub(crate) fields: Syn,
+}
+
 /// `(make-record-type-descriptor 'name parent uid sealed opaque '#(field ...))`.
-fn type_made(
-    alloc: Global,
-    clauses: &Clauses,
-    name: Syn,
-    parent: Syn,
-    uid: Syn,
-    fields: Syn,
-) -> Result<Syn, BareStop>
-    ensures { BareGives (λ t. t) result (type_made clauses.now name parent uid fields) }
+fn type_made(alloc: Global, clauses: &Clauses, parts: TypeParts) -> Result<Syn, BareStop>
+    ensures { BareGives (λ t. t) result (type_made clauses.now parts.name parts.parent parts.uid parts.fields) }
 {
     let maker = type_operator(alloc)?;
     let sealed = boolean(alloc, or_false(&clauses.sealed))?;
     let opaque = boolean(alloc, or_false(&clauses.opaque))?;
     let mut forms = Items::new(alloc);
     forms.push(maker)?;
-    forms.push(name)?;
-    forms.push(parent)?;
-    forms.push(uid)?;
+    forms.push(parts.name)?;
+    forms.push(parts.parent)?;
+    forms.push(parts.uid)?;
     forms.push(sealed)?;
     forms.push(opaque)?;
-    forms.push(fields)?;
+    forms.push(parts.fields)?;
     list_made(alloc, forms)
 }
 
@@ -215,7 +217,13 @@ fn type_value(
     let parent = parent_type(alloc, &clauses.parent)?;
     let uid = uid_part(alloc, own, &clauses.nongenerative)?;
     let fields = fields_part(alloc, &clauses.fields)?;
-    type_made(alloc, clauses, name, parent, uid, fields)
+    let parts = TypeParts {
+        name,
+        parent,
+        uid,
+        fields,
+    };
+    type_made(alloc, clauses, parts)
 }
 
 fn constructor_in(alloc: Global, parent: &Parent) -> Result<Syn, BareStop>

@@ -10,16 +10,31 @@ use std::rc::Rc;
 use sx_base::library::LibName;
 use sx_base::memory::Memory;
 use sx_base::name::{Label, Name};
-use sx_base::op::{NAME_COUNT, Op, op_text};
+use sx_base::op::{NAME_COUNT, Op, names, op_text};
 use sx_base::symbol::Symbol;
 use sx_tree::frame_row::FrameRow;
 use sx_tree::marks::Marks;
 
-/// The numbers of the names that record forms introduce: `quote`, `lambda`, `begin`, `define`, `define-syntax`, `_`,
-/// `syntax-case`, `syntax`, the procedures that make descriptors, constructors, predicates, accessors and
-/// mutators, `record-type-descriptor`, `record-constructor-descriptor`, `mutable` and `immutable`.
+/// The numbers of the names that record forms introduce.
 pub const INTRODUCED: [u16; 18] = [
-    0, 1, 4, 7, 8, 15, 216, 217, 282, 284, 285, 286, 287, 288, 290, 291, 293, 294,
+    names::QUOTE,
+    names::LAMBDA,
+    names::BEGIN,
+    names::DEFINE,
+    names::DEFINE_SYNTAX,
+    names::UNDERSCORE,
+    names::SYNTAX_CASE,
+    names::SYNTAX,
+    names::MAKE_RECORD_TYPE_DESCRIPTOR,
+    names::MAKE_RECORD_CONSTRUCTOR_DESCRIPTOR,
+    names::RECORD_CONSTRUCTOR,
+    names::RECORD_PREDICATE,
+    names::RECORD_ACCESSOR,
+    names::RECORD_MUTATOR,
+    names::RECORD_TYPE_DESCRIPTOR,
+    names::RECORD_CONSTRUCTOR_DESCRIPTOR,
+    names::MUTABLE,
+    names::IMMUTABLE,
 ];
 
 // The name with this number; past the last there is none.

@@ -30,6 +30,7 @@
 
 pub mod clause;
 pub mod clauses;
+pub mod context;
 pub mod definitions;
 pub mod forms;
 pub mod frame;

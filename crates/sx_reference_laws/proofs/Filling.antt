@@ -14,7 +14,7 @@ use Rattle.sx_quasi_code.specs.Parts.{part, with_made, quasi_parts, all_quasi_pa
 use Rattle.sx_quasi_code.specs.declared.form.QuasiForm.{QuasiForm}
 use Rattle.sx_quasi_code.specs.declared.form.QuasiForm.TheVariants as quasi_forms
 use Rattle.sx_quasi_code.specs.declared.parts.Part.{Part}
-use Rattle.sx_heads.specs.Depth.{deeper}
+use Rattle.sx_heads.specs.Depth.{deeper, most_round}
 use Rattle.sx_value.specs.Cells.{Each}
 
 -- how many expressions there are in a plan
@@ -31,7 +31,7 @@ abbrev mutual
 -- No part is too deep where expansion gives something.
 
 abbrev pub IsLow : Part → Type 0
-IsLow p = nat_lt 600 p.depth ≡ false
+IsLow p = nat_lt most_round p.depth ≡ false
 
 each-first : (ps qs : List Part) → Each IsLow (ps ++ qs) → Each IsLow ps
 each-first [] qs h = tt
@@ -42,9 +42,9 @@ each-last [] p h = h.0
 each-last (q ∷ ps) p h = each-last ps p h.1
 
 pub made-low : (t : Tree) (d : ℕ) (done : List Part) → Each IsLow (with_made t d done) → with_made t d done ≡ done
-made-low t d done h = by (nat_lt 600 d) refl h
+made-low t d done h = by (nat_lt most_round d) refl h
   where
-    by : (b : Bool) → nat_lt 600 d ≡ b → Each IsLow (if b then done ++ part t d ∷ [] else done) → (if b then done ++ part t d ∷ [] else done) ≡ done
+    by : (b : Bool) → nat_lt most_round d ≡ b → Each IsLow (if b then done ++ part t d ∷ [] else done) → (if b then done ++ part t d ∷ [] else done) ≡ done
     by true e k = absurd (true≢false (sym e ∙ each-last done (part t d) k))
     by false e k = refl
 

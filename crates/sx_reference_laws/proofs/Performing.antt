@@ -33,7 +33,7 @@ use Rattle.sx_shapes.specs.declared.shape.LambdaCase.{LambdaCase}
 use Rattle.sx_shapes.specs.declared.shape.PatternCase.{PatternCase}
 use Rattle.sx_standing.specs.Patterns.{check_literals, template_of}
 use Rattle.sx_standing.specs.State.{State, fresh, fault_form}
-use Rattle.sx_heads.specs.Depth.{deeper}
+use Rattle.sx_heads.specs.Depth.{deeper, most_round}
 use Rattle.sx_heads.specs.Items.{define_keyword}
 use Rattle.sx_heads.specs.declared.item.Item.{Item}
 use Rattle.sx_heads.specs.declared.item.Item.TheVariants as of_items
@@ -311,12 +311,12 @@ module _ (libs : List LibName) (own : LibName) (core : Among libs library.Core) 
         abbrev PartMade : Part → State → PlainCore → State → Noted → Type 0
         PartMade p s c u refs = Expands rs place level p.form s c u refs
 
-        form-low : (room : ℕ) (d : ℕ) (x : Tree) (s : State) → Gave (λ c u. nat_lt 600 d ≡ false) ((inside rs room).form place level d x s)
+        form-low : (room : ℕ) (d : ℕ) (x : Tree) (s : State) → Gave (λ c u. nat_lt most_round d ≡ false) ((inside rs room).form place level d x s)
         unfolding inside form_at
         form-low zero d x s = tt
         form-low (suc room) d x s =
-            gave-if (λ c u. nat_lt 600 d ≡ false) (nat_lt 600 d) _ (after (settle (inside rs room).earlier place level x s) (perform_settled (inside rs room) level d)) (λ e. tt)
-            (λ e. gave-any (λ c u. nat_lt 600 d ≡ false) (after (settle (inside rs room).earlier place level x s) (perform_settled (inside rs room) level d)) (λ c u. e))
+            gave-if (λ c u. nat_lt most_round d ≡ false) (nat_lt most_round d) _ (after (settle (inside rs room).earlier place level x s) (perform_settled (inside rs room) level d)) (λ e. tt)
+            (λ e. gave-any (λ c u. nat_lt most_round d ≡ false) (after (settle (inside rs room).earlier place level x s) (perform_settled (inside rs room) level d)) (λ c u. e))
 
         abbrev AreLow : List Part → List PlainCore → State → Type 0
         AreLow ps cs u = Each IsLow ps × (length cs ≡ length ps)
@@ -325,7 +325,7 @@ module _ (libs : List LibName) (own : LibName) (core : Among libs library.Core) 
         parts-low [] s = subst (λ (r : Result (List PlainCore × State) Fault). Gave (AreLow []) r) (sym (each-nil (part_core go place level) s)) (tt, refl)
         parts-low (p ∷ ps) s =
             subst (λ (r : Result (List PlainCore × State) Fault). Gave (AreLow (p ∷ ps)) r) (sym (each-cons (part_core go place level) p ps s))
-            (gave-after (λ c u. nat_lt 600 p.depth ≡ false) (AreLow (p ∷ ps)) (part_core go place level p s) (λ a v. after (each (part_core go place level) [] ps v) (λ ys. give (a ∷ ys))) (form-low room p.depth p.form s)
+            (gave-after (λ c u. nat_lt most_round p.depth ≡ false) (AreLow (p ∷ ps)) (part_core go place level p s) (λ a v. after (each (part_core go place level) [] ps v) (λ ys. give (a ∷ ys))) (form-low room p.depth p.form s)
             (λ c v e. gave-after (AreLow ps) (AreLow (p ∷ ps)) (parts_in_order go place level ps v) (λ ys. give (c ∷ ys)) (parts-low ps v) (λ cs u k. ((e, k.0), ap suc k.1))))
 
         quasi-made : (which : Family) (template : Tree) (s : State) → F s → T s.names.number t → T s.names.number template → Gave (PlanMade place level t (plans.Quasi which template) s) (quasi_form go place level depth t which template s)
@@ -403,9 +403,9 @@ module _ (libs : List LibName) (own : LibName) (core : Among libs library.Core) 
       SettledSo place level t s d v = ((StateHolds own K P s.names.number v × settled.SettledAt own K J P lives first rs held v.names.number d) × (settle rs place level t s ≡ Ok (d, v))) × Settles rs level d v
 
       form-made : (place : Span) (level depth : ℕ) (t : Tree) (s : State) → F s → T s.names.number t → (es : List LibRecord) → es ≡ rs
-          → Gave (FormMade place level t s) (if nat_lt 600 depth then fault_form kind.TooDeep t place s else after (settle es place level t s) (perform_settled go level depth))
+          → Gave (FormMade place level t s) (if nat_lt most_round depth then fault_form kind.TooDeep t place s else after (settle es place level t s) (perform_settled go level depth))
       form-made place level depth t s h g es same =
-          gave-if (FormMade place level t s) (nat_lt 600 depth) _ (after (settle es place level t s) (perform_settled go level depth)) (λ e. tt)
+          gave-if (FormMade place level t s) (nat_lt most_round depth) _ (after (settle es place level t s) (perform_settled go level depth)) (λ e. tt)
           (λ e. subst (λ (xs : List LibRecord). Gave (FormMade place level t s) (after (settle xs place level t s) (perform_settled go level depth))) (sym same)
           (gave-after (SettledSo place level t s) (FormMade place level t s) (settle rs place level t s) (perform_settled go level depth)
           (gave-both (λ d v. (StateHolds own K P s.names.number v × settled.SettledAt own K J P lives first rs held v.names.number d) × (settle rs place level t s ≡ Ok (d, v))) (Settles rs level) (settle rs place level t s) (staying.gave-from libs own core new first (settled.SettledAt own K J P lives first rs held) s (settle rs place level t s) (settled.settle-to-holds own K J P lives first rs held s.uses_left place level t s h g)) (settle-so rs level place t s))
@@ -460,7 +460,7 @@ module _ (libs : List LibName) (own : LibName) (core : Among libs library.Core) 
       unfolding item
       item-made at depth d t s h k g q =
           let So : Taken → State → Type 0 = walking.TakesMade libs own core new rs at depth d t s in
-          gave-if So (nat_lt 600 depth) _ (after (settle_item go.earlier at depth d t s) (expand_body.perform_settled go depth)) (λ e. tt)
+          gave-if So (nat_lt most_round depth) _ (after (settle_item go.earlier at depth d t s) (expand_body.perform_settled go depth)) (λ e. tt)
           (λ e. subst (λ (es : List LibRecord). Gave So (after (settle_item es at depth d t s) (expand_body.perform_settled go depth))) (sym (staying.earlier-same rs room))
           (gave-after (λ p v. ((StateHolds own K P s.names.number v × settled.SettledItemAt own K J P lives first rs held v.names.number p) × (settle_item rs at depth d t s ≡ Ok (p, v))) × Untold s p v) So (settle_item rs at depth d t s) (expand_body.perform_settled go depth)
           (gave-both (λ p v. (StateHolds own K P s.names.number v × settled.SettledItemAt own K J P lives first rs held v.names.number p) × (settle_item rs at depth d t s ≡ Ok (p, v))) (Untold s) (settle_item rs at depth d t s)

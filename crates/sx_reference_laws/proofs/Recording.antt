@@ -35,7 +35,7 @@ use Rattle.sx_hygiene_laws.proofs.Rowing.{by_a_stamp}
 use Rattle.sx_value.specs.Cells.{Each}
 use Rattle.sx_expand.specs.Body.{splice, finish_all}
 use Rattle.sx_expand.specs.Expanding.{ready, body_of}
-use Rattle.sx_expand.specs.Expression.{inside}
+use Rattle.sx_expand.specs.Expression.{inside, full_room}
 use Rattle.sx_expand.specs.Inside.{Inside}
 use Rattle.sx_expand.specs.Top.{stands_for, export, all_exports, give_record, record_in, body_at, exports, first_pass, finished, top}
 use Rattle.sx_expand.specs.declared.top.TopAt.{TopAt}
@@ -172,7 +172,7 @@ module _ (libs : List LibName) (own : LibName) (core : Among libs library.Core) 
 
   module _ (records : List LibRecord) (first : ℕ) (held : RecordsHold (P first) records) (at : TopAt) (es : List (List ℕ × Tree)) (fs : List Tree) (s : State) where
     abbrev go : Inside
-    go = inside records 602
+    go = inside records full_room
 
     abbrev Right : LibRecord → State → Type 0
     Right r u = RunIsRight libs own records s at es fs r
@@ -244,7 +244,7 @@ module _ (libs : List LibName) (own : LibName) (core : Among libs library.Core) 
         (λ ls w y.
         let hw = standing.state-then own K J P lives first v w h y.0.0.0 in
         gave-after (λ xs u. staying.Went libs own core new w u × walking.LinesMade libs own core new records 0 d.waiting w xs u) Right (finish_all go 0 d.waiting w) (λ xs. give_record at ls xs)
-        (walking.lines-made libs own core new records first held 602 (all-traced libs own core new records first held 602) 0 d.waiting w hw (items.waiting-up own K J P lives first v.names.number w.names.number y.0.0.0.stage.up d.waiting k))
+        (walking.lines-made libs own core new records first held full_room (all-traced libs own core new records first held full_room) 0 d.waiting w hw (items.waiting-up own K J P lives first v.names.number w.names.number y.0.0.0.stage.up d.waiting k))
         (λ xs u z.
         let bound = took.expressions in
         let others = of_lines z.1.told in
@@ -279,8 +279,8 @@ module _ (libs : List LibName) (own : LibName) (core : Among libs library.Core) 
         let pass = splice go here 0 begun stamped s in
         gave-after (λ d v. ((StateHolds own K P s.names.number v × TakenHolds (P v.names.number) d) × (pass ≡ Ok (d, v))) × Took d v) Right pass (finished go at es)
         (gave-both (λ d v. (StateHolds own K P s.names.number v × TakenHolds (P v.names.number) d) × (pass ≡ Ok (d, v))) Took pass
-        (staying.gave-from libs own core new first (λ n d. TakenHolds (P n) d) s pass (forms.splice-holds own K J P lives first go (walking.keeps libs own core new records first held 602) here 0 begun stamped s h tt all q))
-        (walking.take-made libs own core new records first held 602 (all-traced libs own core new records first held 602) here 0 begun stamped s h tt all q))
+        (staying.gave-from libs own core new first (λ n d. TakenHolds (P n) d) s pass (forms.splice-holds own K J P lives first go (walking.keeps libs own core new records first held full_room) here 0 begun stamped s h tt all q))
+        (walking.take-made libs own core new records first held full_room (all-traced libs own core new records first held full_room) here 0 begun stamped s h tt all q))
         (λ d v z. finished-right d v (lives.frames s.names.number v.names.number at.frame z.0.0.0.stage.up q) read (standing.state-then own K J P lives first s v h z.0.0.0) z.0.0.1 z.0.1 z.1 none)
 
 -- what is given of a record
@@ -304,6 +304,6 @@ records-hygienic own path records imports version place es fs codes r new only t
     let at = body_of (ready own path records imports codes) version place in
     let starts = events-stay.starts own records imports codes new only texts in
     let n = s.names.number in
-    given (RunIsRight libs own records s at es fs) (top (inside records 602) at es fs s) r
+    given (RunIsRight libs own records s at es fs) (top (inside records full_room) at es fs s) r
     (top-right libs own (inl refl) new records n starts.1 at es fs s starts.0
     (each_mapped WasRead (TreeHolds (HasKnownEvents libs own n)) (λ t k. tree_wider (λ c. c ≡ blank) (HasKnownEvents libs own n) (read-at libs own (inl refl) new n) t k) fs was) (first-made own records imports codes) read (kept-first own records imports codes)) e

@@ -2,7 +2,7 @@
 use Rattle.std.proofs.Common.{◌≡◌, ℕ, zero, suc, Bool, true, false, List, [], ◌∷◌, Option, None, Some, Result, Ok, Err, refl, sym, ap, ◌∙◌, subst, inl, inr, if◌then◌else◌}
 use Rattle.std.specs.Prelude.{◌⊎◌, nat_lt}
 use Rattle.sx_base.specs.Act.{after, give}
-use Rattle.sx_base.specs.Op.{is_keyword}
+use Rattle.sx_base.specs.Op.{name_count, is_keyword}
 use Rattle.sx_base.specs.Same.{same_library}
 use Rattle.sx_base.specs.declared.fault.Fault.{Fault}
 use Rattle.sx_base.specs.declared.library.LibName.TheVariants as library
@@ -86,7 +86,7 @@ label-kept s l = by (same_library l.0.library library.Core)
     bound (Some (binding.Primitive o)) = tt
 
     by : (b : Bool) → OfLabel l (if b then numbered_as l else bound_as s l (bound_to s.bindings l))
-    by true = by_number (nat_lt l.0.number 301)
+    by true = by_number (nat_lt l.0.number name_count)
     by false = bound (bound_to s.bindings l)
 
 gave-told : {A : Type 0} (P : A → State → Type 0) (r : Result (A × State) Fault) → ((a : A) (u : State) → r ≡ Ok (a, u) → P a u) → Gave P r

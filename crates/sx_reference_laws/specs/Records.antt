@@ -21,7 +21,7 @@ use Rattle.sx_heads.specs.Items.{begun}
 use Rattle.sx_heads.specs.declared.taken.Taken.{Taken}
 use Rattle.sx_value.specs.Cells.{Each}
 use Rattle.sx_expand.specs.Expanding.{ready, body_of, library_record}
-use Rattle.sx_expand.specs.Expression.{inside}
+use Rattle.sx_expand.specs.Expression.{inside, full_room}
 use Rattle.sx_expand.specs.Top as top
 use Rattle.sx_expand.specs.declared.top.TopAt.{TopAt}
 use Rattle.sx_fresh_laws.specs.Leaves.{CodesHold}
@@ -78,7 +78,7 @@ pub record RunIsRight (libs : List LibName) (own : LibName) (records : List LibR
   pub between : State
   pub told : List Told
   pub last : State
-  pub takes : top.first_pass (inside records 602) at forms start ≡ Ok (taken, first)
+  pub takes : top.first_pass (inside records full_room) at forms start ≡ Ok (taken, first)
   pub taking : Take records (top.body_at at start.library) 0 begun (map (stamp at.frame) forms) start taken first bound
   pub looks : top.exports at exports first ≡ Ok (exported, between)
   pub ends : Finish records 0 taken.waiting between told last

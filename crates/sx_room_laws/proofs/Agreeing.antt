@@ -22,7 +22,7 @@ use Rattle.sx_standing.specs.Patterns.{pattern_of, check_literals, bind_pattern}
 use Rattle.sx_standing.specs.State.{State, Does, fresh, fresh_frame, fault_form}
 use Rattle.sx_standing.specs.Uses.{bind_keywords, finish_keyword}
 use Rattle.sx_standing.specs.declared.binders.BoundSpec.{BoundSpec}
-use Rattle.sx_heads.specs.Depth.{deeper}
+use Rattle.sx_heads.specs.Depth.{deeper, most_round}
 use Rattle.sx_heads.specs.Items.{begun, define_keyword}
 use Rattle.sx_heads.specs.declared.item.Item.{Item}
 use Rattle.sx_heads.specs.declared.item.Item.TheVariants as items
@@ -70,7 +70,7 @@ parts-append d [] qs h k = k
 parts-append d (p ∷ ps) qs h k = (h.0, parts-append d ps qs h.1 k)
 
 made-from : (d : ℕ) (t : Tree) (depth : ℕ) (done : List Part) → d ≤ depth → Each (PartFrom d) done → Each (PartFrom d) (with_made t depth done)
-made-from d t depth done le h = by (nat_lt 600 depth)
+made-from d t depth done le h = by (nat_lt most_round depth)
   where
     by : (b : Bool) → Each (PartFrom d) (if b then done ++ part t depth ∷ [] else done)
     by true = parts-append d done (part t depth ∷ []) h (le, tt)
@@ -298,12 +298,12 @@ module _ (go ho : Inside) (d : ℕ) (same : Agree d go ho) (keeps : Keeps go) wh
 
   pub same-form-at : (place : Span) (level depth : ℕ) (t : Tree) (s : State) → d ≤ deeper depth → form_at go place level depth t s ≡ form_at ho place level depth t s
   unfolding form_at
-  same-form-at place level depth t s le = ap (λ r. if nat_lt 600 depth then fault_form kind.TooDeep t place s else r)
+  same-form-at place level depth t s le = ap (λ r. if nat_lt most_round depth then fault_form kind.TooDeep t place s else r)
       (ap (λ rs. after (settle rs place level t s) (perform_settled go level depth)) same.earlier
       ∙ same-after (settle ho.earlier place level t s) (perform_settled go level depth) (perform_settled ho level depth) (λ x u. same-perform x.place level depth x.form x.plan u le))
 
   pub same-item : (at : BodyAt) (depth : ℕ) (done : Taken) (t : Tree) (s : State) → d ≤ deeper depth → item go at depth done t s ≡ item ho at depth done t s
   unfolding item
-  same-item at depth done t s le = ap (λ r. if nat_lt 600 depth then fault_form kind.TooDeep t at.place s else r)
+  same-item at depth done t s le = ap (λ r. if nat_lt most_round depth then fault_form kind.TooDeep t at.place s else r)
       (ap (λ rs. after (settle_item rs at depth done t s) (bodies.perform_settled go depth)) same.earlier
       ∙ same-after (settle_item ho.earlier at depth done t s) (bodies.perform_settled go depth) (bodies.perform_settled ho depth) (λ p u. same-perform-item p.1.at depth p.0 p.1.form p.1.item u le))

@@ -11,7 +11,7 @@ use Rattle.sx_core.specs.declared.record.LibRecord.{LibRecord}
 use Rattle.sx_shapes.specs.declared.shape.FormalIds.{FormalIds}
 use Rattle.sx_standing.specs.Binders.{bind_formals}
 use Rattle.sx_standing.specs.State.{State, fault_form}
-use Rattle.sx_heads.specs.Depth.{deeper}
+use Rattle.sx_heads.specs.Depth.{deeper, most_round}
 use Rattle.sx_heads.specs.Items.{begun}
 use Rattle.sx_heads.specs.declared.item.Item.{Item}
 use Rattle.sx_heads.specs.declared.item.Item.TheVariants as items
@@ -28,7 +28,7 @@ use Rattle.sx_room_laws.proofs.Same.{Gave, gave-after, gave-any, gave-if, gave-g
 use Rattle.sx_room_laws.proofs.Waiting.{WaitsFrom, from-settle}
 
 pub deeper-from : (n depth : ℕ) → n ≤ depth → n ≤ deeper depth
-deeper-from n depth le = by (nat_lt 600 depth)
+deeper-from n depth le = by (nat_lt most_round depth)
   where
     by : (b : Bool) → n ≤ (if b then depth else depth + 1)
     by true = le
@@ -54,7 +54,7 @@ module _ (go : Inside) (keeps : Keeps go) (n : ℕ) where
 
   keeps-item : (at : BodyAt) (depth : ℕ) (done : Taken) (t : Tree) (s : State) → n ≤ depth → WaitsFrom n done → Gave (WaitsFrom n) (item go at depth done t s)
   unfolding item
-  keeps-item at depth done t s le h = gave-if (WaitsFrom n) (nat_lt 600 depth) _ _ tt
+  keeps-item at depth done t s le h = gave-if (WaitsFrom n) (nat_lt most_round depth) _ _ tt
       (gave-after (λ (p : Taken × SettledItem). WaitsFrom n p.0) (WaitsFrom n) (settle_item go.earlier at depth done t s) (bodies.perform_settled go depth) (from-settle n depth le go.earlier at done t s h)
       (λ p u k. keeps-perform p.1.at depth p.0 p.1.form p.1.item u le k))
 
@@ -66,7 +66,7 @@ keeps-inside rs (suc room) n at depth done t s le h = keeps-item (inside rs room
 -- Forms that are too deep.
 
 abbrev pub IsShallow : Inside → Type 0
-IsShallow go = (at : BodyAt) (depth : ℕ) (done : Taken) (t : Tree) (s : State) → nat_lt 600 depth ≡ true → go.item at depth done t s ≡ fault_form kind.TooDeep t at.place s
+IsShallow go = (at : BodyAt) (depth : ℕ) (done : Taken) (t : Tree) (s : State) → nat_lt most_round depth ≡ true → go.item at depth done t s ≡ fault_form kind.TooDeep t at.place s
 
 pub too-deep-item : (go : Inside) → IsShallow (record { earlier = go.earlier; form = go.form; procedure = go.procedure; item = item go })
 unfolding item
@@ -78,7 +78,7 @@ shallow-inside rs zero at depth done t s deep = refl
 shallow-inside rs (suc room) at depth done t s deep = too-deep-item (inside rs room) at depth done t s deep
 
 -- so a body and a case that are too deep answer the same, whatever is done with what lies inside
-module _ (go ho : Inside) (low : IsShallow go) (lower : IsShallow ho) (depth : ℕ) (deep : nat_lt 600 depth ≡ true) where
+module _ (go ho : Inside) (low : IsShallow go) (lower : IsShallow ho) (depth : ℕ) (deep : nat_lt most_round depth ≡ true) where
   deep-finish : (place : Span) (level : ℕ) (t : Tree) (s : State) → finish go place level t begun s ≡ finish ho place level t begun s
   unfolding finish
   deep-finish place level t s = refl

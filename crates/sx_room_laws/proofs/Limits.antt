@@ -16,13 +16,13 @@ use Rattle.sx_shapes.specs.Forms.{shaped, shape_of, shape}
 use Rattle.sx_shapes.specs.Lists.{is_nil_atom}
 use Rattle.sx_standing.specs.Standing.{standing_of, role_of}
 use Rattle.sx_standing.specs.State.{State, fault_form}
-use Rattle.sx_heads.specs.Depth.{deeper}
+use Rattle.sx_heads.specs.Depth.{deeper, most_round}
 use Rattle.sx_heads.specs.Plan.{application, by_head, constant, keyword_plan, list_plan, plan_of, shape_plan}
 use Rattle.sx_heads.specs.declared.plan.Plan.{Plan}
 use Rattle.sx_heads.specs.declared.plan.Plan.TheVariants as plans
 use Rattle.sx_expand.specs.Body.{sequence_of}
 use Rattle.sx_expand.specs.Expanding.{expression}
-use Rattle.sx_expand.specs.Expression.{in_sequence, perform, perform_settled, form_at, inside}
+use Rattle.sx_expand.specs.Expression.{in_sequence, perform, perform_settled, form_at, inside, full_room}
 use Rattle.sx_expand.specs.Inside.{Inside}
 use Rattle.sx_expand.specs.Settle.{next_form, too_many, step_of, step, settled_by, settle_to, settle}
 use Rattle.sx_expand.specs.declared.settle.Step.TheVariants as steps
@@ -30,15 +30,15 @@ use Rattle.sx_room_laws.specs.Limit.{begun, IsBegin, LimitOfNesting}
 use Rattle.sx_room_laws.proofs.Items.{shallow-inside}
 use Rattle.sx_room_laws.proofs.Rooms.{form-is, too-deep-form, forms-need-no-more}
 
-pub over : (depth : ℕ) → 600 < depth → nat_lt 600 depth ≡ true
+pub over : (depth : ℕ) → most_round < depth → nat_lt most_round depth ≡ true
 over depth h = grind (arith, nat_tests)
 
-within-limit : (depth : ℕ) → depth ≤ 600 → nat_lt 600 depth ≡ false
+within-limit : (depth : ℕ) → depth ≤ most_round → nat_lt most_round depth ≡ false
 within-limit depth h = grind (arith, nat_tests)
 
 -- A form that is no use is done at once.
 
-module _ (go : Inside) (place : Span) (level depth : ℕ) (t : Tree) (s : State) (p : Plan) (few : depth ≤ 600) where
+module _ (go : Inside) (place : Span) (level depth : ℕ) (t : Tree) (s : State) (p : Plan) (few : depth ≤ most_round) where
   settled-by : (left : ℕ) → plan_of place level t s ≡ Ok (p, s) → ((rs : List LibRecord) → step_of rs place t p s ≡ Ok (steps.Plan p, s)) → settle_to go.earlier left place level t s ≡ Ok (record { place = place; form = t; plan = p }, s)
   unfolding settle_to step
   settled-by zero e k =
@@ -72,11 +72,11 @@ begin-performed : (go : Inside) (place : Span) (level depth : ℕ) (t form : Tre
 unfolding perform in_sequence each
 begin-performed go place level depth t form s = only (go.form place level (deeper depth) form s)
 
-pub one-deeper : (depth : ℕ) → depth ≤ 600 → deeper depth ≡ suc depth
+pub one-deeper : (depth : ℕ) → depth ≤ most_round → deeper depth ≡ suc depth
 one-deeper depth few = ap (λ b. if b then depth else depth + 1) (within-limit depth few) ∙ (omega arith)
 
 module _ (rs : List LibRecord) (place : Span) (level : ℕ) (word t : Tree) (s : State) (is : IsBegin s word) where
-  begin-in : (room depth : ℕ) (o : Option Span) (form : Tree) → depth ≤ 600 → (inside rs (suc room)).form place level depth (pair o word (pair None form nil)) s ≡ (inside rs room).form place level (suc depth) form s
+  begin-in : (room depth : ℕ) (o : Option Span) (form : Tree) → depth ≤ most_round → (inside rs (suc room)).form place level depth (pair o word (pair None form nil)) s ≡ (inside rs room).form place level (suc depth) form s
   begin-in room depth o form few =
       form-is rs room place level depth (pair o word (pair None form nil)) s
       ∙ done-at (inside rs room) place level depth (pair o word (pair None form nil)) s (plans.Sequence (form ∷ [])) few (begin-plan place level o word form s is) (λ rs. refl)
@@ -89,19 +89,19 @@ module _ (rs : List LibRecord) (place : Span) (level : ℕ) (word t : Tree) (s :
   depth-is : (room a b : ℕ) → a ≡ b → (inside rs room).form place level a t s ≡ (inside rs room).form place level b t s
   depth-is room a b e = ap (λ n. (inside rs room).form place level n t s) e
 
-  all-begins : (ss : List (Option Span)) (room depth : ℕ) → depth + length ss ≤ 601 → (inside rs (length ss + room)).form place level depth (begun ss word t) s ≡ (inside rs room).form place level (depth + length ss) t s
+  all-begins : (ss : List (Option Span)) (room depth : ℕ) → depth + length ss ≤ most_round + 1 → (inside rs (length ss + room)).form place level depth (begun ss word t) s ≡ (inside rs room).form place level (depth + length ss) t s
   all-begins [] room depth h = room-is (length {A = Option Span} [] + room) room depth t (omega arith) ∙ depth-is room depth (depth + length {A = Option Span} []) (omega arith)
   all-begins (o ∷ ss) room depth h =
       room-is (length (o ∷ ss) + room) (suc (length ss + room)) depth (begun (o ∷ ss) word t) (omega arith) ∙ begin-in (length ss + room) depth o (begun ss word t) (omega (arith, h))
       ∙ all-begins ss room (suc depth) (omega (arith, h)) ∙ depth-is room (suc depth + length ss) (depth + length (o ∷ ss)) (omega arith)
 
-begins-are : (rs : List LibRecord) (place : Span) (level : ℕ) (ss : List (Option Span)) (word t : Tree) (s : State) → IsBegin s word → length ss ≤ 601
-    → expression rs place level (begun ss word t) s ≡ (inside rs 602).form place level (length ss) t s
+begins-are : (rs : List LibRecord) (place : Span) (level : ℕ) (ss : List (Option Span)) (word t : Tree) (s : State) → IsBegin s word → length ss ≤ most_round + 1
+    → expression rs place level (begun ss word t) s ≡ (inside rs full_room).form place level (length ss) t s
 begins-are rs place level ss word t s is few =
-    forms-need-no-more rs 602 (length ss + 602) place level 0 (begun ss word t) s (omega arith) (omega arith) ∙ all-begins rs place level word t s is ss 602 0 (omega (arith, few))
-    ∙ depth-is rs place level word t s is 602 (0 + length ss) (length ss) (omega arith)
+    forms-need-no-more rs full_room (length ss + full_room) place level 0 (begun ss word t) s (omega arith) (omega arith) ∙ all-begins rs place level word t s is ss full_room 0 (omega (arith, few))
+    ∙ depth-is rs place level word t s is full_room (0 + length ss) (length ss) (omega arith)
 
-pub constant-is : (go : Inside) (place : Span) (level depth : ℕ) (o : Option Span) (a : Atom) (s : State) → depth ≤ 600 → is_nil_atom a ≡ false → form_at go place level depth (atom o a) s ≡ Ok (quoted (strip (atom o a)), s)
+pub constant-is : (go : Inside) (place : Span) (level depth : ℕ) (o : Option Span) (a : Atom) (s : State) → depth ≤ most_round → is_nil_atom a ≡ false → form_at go place level depth (atom o a) s ≡ Ok (quoted (strip (atom o a)), s)
 unfolding perform
 constant-is go place level depth o a s few some =
     done-at go place level depth (atom o a) s (plans.Done (quoted (strip (atom o a)))) few (ap (λ b. constant place (atom o a) b s) some) (λ rs. refl)
@@ -112,7 +112,7 @@ limit-of-nesting = record {
   items = λ rs room at depth done t s h. shallow-inside rs room at depth done t s (over depth h);
   begins = begins-are;
   taken = λ rs place level ss word o a s is few some.
-      begins-are rs place level ss word (atom o a) s is (omega (arith, few)) ∙ form-is rs 601 place level (length ss) (atom o a) s ∙ constant-is (inside rs 601) place level (length ss) o a s few some;
+      begins-are rs place level ss word (atom o a) s is (omega (arith, few)) ∙ form-is rs (most_round + 1) place level (length ss) (atom o a) s ∙ constant-is (inside rs (most_round + 1)) place level (length ss) o a s few some;
   refused = λ rs place level ss word t s is all.
-      begins-are rs place level ss word t s is (omega (arith, all)) ∙ too-deep-form rs 602 place level (length ss) t s (over (length ss) (omega (arith, all)));
+      begins-are rs place level ss word t s is (omega (arith, all)) ∙ too-deep-form rs full_room place level (length ss) t s (over (length ss) (omega (arith, all)));
 }

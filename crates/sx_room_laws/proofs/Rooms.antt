@@ -10,7 +10,7 @@ use Rattle.sx_tree.specs.Tree.{Tree}
 use Rattle.sx_core.specs.declared.record.LibRecord.{LibRecord}
 use Rattle.sx_shapes.specs.declared.shape.FormalIds.{FormalIds}
 use Rattle.sx_standing.specs.State.{State, fault_form}
-use Rattle.sx_heads.specs.Depth.{deeper}
+use Rattle.sx_heads.specs.Depth.{deeper, most_round}
 use Rattle.sx_heads.specs.declared.taken.BodyAt.{BodyAt}
 use Rattle.sx_heads.specs.declared.taken.Taken.{Taken}
 use Rattle.sx_expand.specs.Body.{item}
@@ -44,66 +44,66 @@ unfolding inside
 case-is rs room place level depth t ids forms s = refl
 
 -- a form that is too deep, in any room
-pub too-deep-form : (rs : List LibRecord) (room : ℕ) (place : Span) (level depth : ℕ) (t : Tree) (s : State) → nat_lt 600 depth ≡ true → (inside rs room).form place level depth t s ≡ fault_form kind.TooDeep t place s
+pub too-deep-form : (rs : List LibRecord) (room : ℕ) (place : Span) (level depth : ℕ) (t : Tree) (s : State) → nat_lt most_round depth ≡ true → (inside rs room).form place level depth t s ≡ fault_form kind.TooDeep t place s
 unfolding inside form_at
 too-deep-form rs zero place level depth t s deep = refl
 too-deep-form rs (suc room) place level depth t s deep =
     ap (λ b. if b then fault_form kind.TooDeep t place s else after (settle (inside rs room).earlier place level t s) (perform_settled (inside rs room) level depth)) deep
 
-deeper-is : (d depth : ℕ) → d ≤ depth → nat_lt 600 depth ≡ false → suc d ≤ deeper depth
+deeper-is : (d depth : ℕ) → d ≤ depth → nat_lt most_round depth ≡ false → suc d ≤ deeper depth
 deeper-is d depth le few = subst (λ (b : Bool). suc d ≤ (if b then depth else depth + 1)) (sym few) (omega (arith, le))
 
 -- one round more: from what lies inside, one deeper
-module _ (rs : List LibRecord) (p q d : ℕ) (next : d ≤ 600 → Agree (suc d) (inside rs p) (inside rs q)) where
-  agrees : (depth : ℕ) → d ≤ depth → nat_lt 600 depth ≡ false → Agree (suc d) (inside rs p) (inside rs q)
+module _ (rs : List LibRecord) (p q d : ℕ) (next : d ≤ most_round → Agree (suc d) (inside rs p) (inside rs q)) where
+  agrees : (depth : ℕ) → d ≤ depth → nat_lt most_round depth ≡ false → Agree (suc d) (inside rs p) (inside rs q)
   agrees depth le few = next (grind (arith, nat_tests))
 
-  form-by : (place : Span) (level depth : ℕ) (t : Tree) (s : State) → d ≤ depth → (b : Bool) → nat_lt 600 depth ≡ b → (inside rs (suc p)).form place level depth t s ≡ (inside rs (suc q)).form place level depth t s
+  form-by : (place : Span) (level depth : ℕ) (t : Tree) (s : State) → d ≤ depth → (b : Bool) → nat_lt most_round depth ≡ b → (inside rs (suc p)).form place level depth t s ≡ (inside rs (suc q)).form place level depth t s
   form-by place level depth t s le true e = too-deep-form rs (suc p) place level depth t s e ∙ sym (too-deep-form rs (suc q) place level depth t s e)
   form-by place level depth t s le false e =
       form-is rs p place level depth t s ∙ same-form-at (inside rs p) (inside rs q) (suc d) (agrees depth le e) (keeps-inside rs p) place level depth t s (deeper-is d depth le e) ∙ sym (form-is rs q place level depth t s)
 
-  item-by : (at : BodyAt) (depth : ℕ) (done : Taken) (t : Tree) (s : State) → d ≤ depth → (b : Bool) → nat_lt 600 depth ≡ b → (inside rs (suc p)).item at depth done t s ≡ (inside rs (suc q)).item at depth done t s
+  item-by : (at : BodyAt) (depth : ℕ) (done : Taken) (t : Tree) (s : State) → d ≤ depth → (b : Bool) → nat_lt most_round depth ≡ b → (inside rs (suc p)).item at depth done t s ≡ (inside rs (suc q)).item at depth done t s
   item-by at depth done t s le true e = shallow-inside rs (suc p) at depth done t s e ∙ sym (shallow-inside rs (suc q) at depth done t s e)
   item-by at depth done t s le false e =
       item-is rs p at depth done t s ∙ same-item (inside rs p) (inside rs q) (suc d) (agrees depth le e) (keeps-inside rs p) at depth done t s (deeper-is d depth le e) ∙ sym (item-is rs q at depth done t s)
 
-  case-by : (place : Span) (level depth : ℕ) (t : Tree) (ids : FormalIds) (forms : List Tree) (s : State) → d ≤ depth → (b : Bool) → nat_lt 600 depth ≡ b
+  case-by : (place : Span) (level depth : ℕ) (t : Tree) (ids : FormalIds) (forms : List Tree) (s : State) → d ≤ depth → (b : Bool) → nat_lt most_round depth ≡ b
       → lambda_case (inside rs p) place level (deeper depth) t ids forms s ≡ lambda_case (inside rs q) place level (deeper depth) t ids forms s
   case-by place level depth t ids forms s le true e =
-      deep-case (inside rs p) (inside rs q) (shallow-inside rs p) (shallow-inside rs q) (deeper depth) (ap (λ b. nat_lt 600 (if b then depth else depth + 1)) e ∙ e) place level t ids forms s
+      deep-case (inside rs p) (inside rs q) (shallow-inside rs p) (shallow-inside rs q) (deeper depth) (ap (λ b. nat_lt most_round (if b then depth else depth + 1)) e ∙ e) place level t ids forms s
   case-by place level depth t ids forms s le false e = same-case (inside rs p) (inside rs q) (suc d) (agrees depth le e) (keeps-inside rs p) place level (deeper depth) t ids forms s (deeper-is d depth le e)
 
   round : Agree d (inside rs (suc p)) (inside rs (suc q))
   round = record {
     earlier = earlier-are rs (suc p) ∙ sym (earlier-are rs (suc q));
-    form = λ place level depth t s le. form-by place level depth t s le (nat_lt 600 depth) refl;
+    form = λ place level depth t s le. form-by place level depth t s le (nat_lt most_round depth) refl;
     procedure = λ place level depth t ids forms s le.
-        case-is rs p place level (deeper depth) t ids forms s ∙ case-by place level depth t ids forms s le (nat_lt 600 depth) refl ∙ sym (case-is rs q place level (deeper depth) t ids forms s);
-    item = λ at depth done t s le. item-by at depth done t s le (nat_lt 600 depth) refl;
+        case-is rs p place level (deeper depth) t ids forms s ∙ case-by place level depth t ids forms s le (nat_lt most_round depth) refl ∙ sym (case-is rs q place level (deeper depth) t ids forms s);
+    item = λ at depth done t s le. item-by at depth done t s le (nat_lt most_round depth) refl;
   }
 
-agree : (rs : List LibRecord) (p q d : ℕ) → 601 ≤ p + d → 601 ≤ q + d → Agree d (inside rs (suc p)) (inside rs (suc q))
+agree : (rs : List LibRecord) (p q d : ℕ) → most_round + 1 ≤ p + d → most_round + 1 ≤ q + d → Agree d (inside rs (suc p)) (inside rs (suc q))
 agree rs zero q d h k = round rs zero q d (λ le. elim (none le) [ ])
   where
-    none : d ≤ 600 → ⊥
+    none : d ≤ most_round → ⊥
     none le = omega (arith, h, le)
 agree rs (suc p) zero d h k = round rs (suc p) zero d (λ le. elim (none le) [ ])
   where
-    none : d ≤ 600 → ⊥
+    none : d ≤ most_round → ⊥
     none le = omega (arith, k, le)
 agree rs (suc p) (suc q) d h k = round rs (suc p) (suc q) d (λ le. agree rs p q (suc d) (omega (arith, h)) (omega (arith, k)))
 
 -- The laws.
 
-few-or-deep : (A : Type 0) (depth : ℕ) → (nat_lt 600 depth ≡ true → A) → (nat_lt 600 depth ≡ false → A) → A
-few-or-deep A depth deep few = by (nat_lt 600 depth) refl
+few-or-deep : (A : Type 0) (depth : ℕ) → (nat_lt most_round depth ≡ true → A) → (nat_lt most_round depth ≡ false → A) → A
+few-or-deep A depth deep few = by (nat_lt most_round depth) refl
   where
-    by : (b : Bool) → nat_lt 600 depth ≡ b → A
+    by : (b : Bool) → nat_lt most_round depth ≡ b → A
     by true e = deep e
     by false e = few e
 
-both : (rs : List LibRecord) (room other depth : ℕ) → depth ≤ 600 → IsEnough room depth → IsEnough other depth → Agree depth (inside rs room) (inside rs other)
+both : (rs : List LibRecord) (room other depth : ℕ) → depth ≤ most_round → IsEnough room depth → IsEnough other depth → Agree depth (inside rs room) (inside rs other)
 both rs zero other depth le h k = elim (none h) [ ]
   where
     none : IsEnough zero depth → ⊥
@@ -114,7 +114,7 @@ both rs (suc p) zero depth le h k = elim (none k) [ ]
     none e = omega (arith, e, le)
 both rs (suc p) (suc q) depth le h k = agree rs p q depth (omega (arith, h)) (omega (arith, k))
 
-at-most : (depth : ℕ) → nat_lt 600 depth ≡ false → depth ≤ 600
+at-most : (depth : ℕ) → nat_lt most_round depth ≡ false → depth ≤ most_round
 at-most depth few = grind (arith, nat_tests)
 
 self : (n : ℕ) → n ≤ n
@@ -132,7 +132,7 @@ items-need-no-more rs room other at depth done t s h k = few-or-deep _ depth
 
 pub cases-need-no-more : CasesNeedNoMore
 cases-need-no-more rs room other place level depth t ids forms s le h k =
-    let few : nat_lt 600 depth ≡ false = grind (arith, nat_tests) in
+    let few : nat_lt most_round depth ≡ false = grind (arith, nat_tests) in
     subst (λ (n : ℕ). (inside rs room).procedure place level n t ids forms s ≡ (inside rs other).procedure place level n t ids forms s) (ap (λ b. if b then depth else depth + 1) few)
     ((both rs room other depth le h k).procedure place level depth t ids forms s (self depth))
 

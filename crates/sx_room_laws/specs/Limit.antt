@@ -1,6 +1,6 @@
 -- How deep forms may nest: 600 core forms and applications may stand round a form, and no more (R6RS leaves such limits to an
 -- implementation).
-use Rattle.std.specs.Prelude.{◌≡◌, ◌<◌, ◌≤◌, ℕ, true, false, List, [], ◌∷◌, length, Option, None, Ok}
+use Rattle.std.specs.Prelude.{◌≡◌, ◌<◌, ◌≤◌, ℕ, ◌+◌, true, false, List, [], ◌∷◌, length, Option, None, Ok}
 use Rattle.sx_base.specs.declared.atom.Atom.{Atom}
 use Rattle.sx_base.specs.declared.fault.FaultKind.TheVariants as kind
 use Rattle.sx_base.specs.declared.span.Span.{Span}
@@ -13,10 +13,11 @@ use Rattle.sx_shapes.specs.Lists.{is_leaf, is_nil_atom}
 use Rattle.sx_standing.specs.Standing.{standing_of}
 use Rattle.sx_standing.specs.State.{State, fault_form}
 use Rattle.sx_standing.specs.declared.standing.Standing.TheVariants as standing
+use Rattle.sx_heads.specs.Depth.{most_round}
 use Rattle.sx_heads.specs.declared.taken.BodyAt.{BodyAt}
 use Rattle.sx_heads.specs.declared.taken.Taken.{Taken}
 use Rattle.sx_expand.specs.Expanding.{expression}
-use Rattle.sx_expand.specs.Expression.{inside}
+use Rattle.sx_expand.specs.Expression.{inside, full_room}
 
 -- `(begin (begin ... form))`, with a `begin` for each of the spans
 abbrev pub begun : List (Option Span) → Tree → Tree → Tree
@@ -30,15 +31,15 @@ pub record IsBegin (s : State) (word : Tree) : Type 0 where
 
 pub record LimitOfNesting : Type 0 where
   -- With more round it a form is TooDeep, whatever form it is, at its place, and whatever the room is: an expression,
-  pub expressions : (records : List LibRecord) (room : ℕ) (place : Span) (level depth : ℕ) (t : Tree) (s : State) → 600 < depth → (inside records room).form place level depth t s ≡ fault_form kind.TooDeep t place s
+  pub expressions : (records : List LibRecord) (room : ℕ) (place : Span) (level depth : ℕ) (t : Tree) (s : State) → most_round < depth → (inside records room).form place level depth t s ≡ fault_form kind.TooDeep t place s
   -- and a form of a body.
-  pub items : (records : List LibRecord) (room : ℕ) (at : BodyAt) (depth : ℕ) (done : Taken) (t : Tree) (s : State) → 600 < depth → (inside records room).item at depth done t s ≡ fault_form kind.TooDeep t at.place s
+  pub items : (records : List LibRecord) (room : ℕ) (at : BodyAt) (depth : ℕ) (done : Taken) (t : Tree) (s : State) → most_round < depth → (inside records room).item at depth done t s ≡ fault_form kind.TooDeep t at.place s
   -- `begin`s round a form make it so much deeper, and nothing else.
-  pub begins : (records : List LibRecord) (place : Span) (level : ℕ) (ss : List (Option Span)) (word t : Tree) (s : State) → IsBegin s word → length ss ≤ 601
-      → expression records place level (begun ss word t) s ≡ (inside records 602).form place level (length ss) t s
+  pub begins : (records : List LibRecord) (place : Span) (level : ℕ) (ss : List (Option Span)) (word t : Tree) (s : State) → IsBegin s word → length ss ≤ most_round + 1
+      → expression records place level (begun ss word t) s ≡ (inside records full_room).form place level (length ss) t s
   -- So a constant in 600 of them is taken,
-  pub taken : (records : List LibRecord) (place : Span) (level : ℕ) (ss : List (Option Span)) (word : Tree) (o : Option Span) (a : Atom) (s : State) → IsBegin s word → length ss ≤ 600 → is_nil_atom a ≡ false
+  pub taken : (records : List LibRecord) (place : Span) (level : ℕ) (ss : List (Option Span)) (word : Tree) (o : Option Span) (a : Atom) (s : State) → IsBegin s word → length ss ≤ most_round → is_nil_atom a ≡ false
       → expression records place level (begun ss word (atom o a)) s ≡ Ok (quoted (strip (atom o a)), s)
   -- and any form in 601 of them is TooDeep.
-  pub refused : (records : List LibRecord) (place : Span) (level : ℕ) (ss : List (Option Span)) (word t : Tree) (s : State) → IsBegin s word → length ss ≡ 601
+  pub refused : (records : List LibRecord) (place : Span) (level : ℕ) (ss : List (Option Span)) (word t : Tree) (s : State) → IsBegin s word → length ss ≡ most_round + 1
       → expression records place level (begun ss word t) s ≡ fault_form kind.TooDeep t place s

@@ -5,16 +5,17 @@ use Rattle.sx_tree.specs.Tree.{Tree}
 use Rattle.sx_core.specs.declared.record.LibRecord.{LibRecord}
 use Rattle.sx_shapes.specs.declared.shape.FormalIds.{FormalIds}
 use Rattle.sx_standing.specs.State.{State}
+use Rattle.sx_heads.specs.Depth.{most_round}
 use Rattle.sx_heads.specs.declared.taken.BodyAt.{BodyAt}
 use Rattle.sx_heads.specs.declared.taken.Taken.{Taken}
 use Rattle.sx_expand.specs.Body.{body}
-use Rattle.sx_expand.specs.Expression.{inside}
+use Rattle.sx_expand.specs.Expression.{inside, full_room}
 use Rattle.sx_expand.specs.Top.{top}
 use Rattle.sx_expand.specs.declared.top.TopAt.{TopAt}
 
 -- with so many core forms and applications round it, at most 600, a form has all the room that it needs
 abbrev pub IsEnough : ℕ → ℕ → Type 0
-IsEnough room depth = 602 ≤ room + depth
+IsEnough room depth = full_room ≤ room + depth
 
 -- an expression
 abbrev pub FormsNeedNoMore : Type 0
@@ -28,7 +29,7 @@ ItemsNeedNoMore = (records : List LibRecord) (room other : ℕ) (at : BodyAt) (d
 
 -- the case of a procedure that a form at this depth defines; it stands one deeper
 abbrev pub CasesNeedNoMore : Type 0
-CasesNeedNoMore = (records : List LibRecord) (room other : ℕ) (place : Span) (level depth : ℕ) (t : Tree) (ids : FormalIds) (forms : List Tree) (s : State) → depth ≤ 600 → IsEnough room depth → IsEnough other depth
+CasesNeedNoMore = (records : List LibRecord) (room other : ℕ) (place : Span) (level depth : ℕ) (t : Tree) (ids : FormalIds) (forms : List Tree) (s : State) → depth ≤ most_round → IsEnough room depth → IsEnough other depth
     → (inside records room).procedure place level (depth + 1) t ids forms s ≡ (inside records other).procedure place level (depth + 1) t ids forms s
 
 -- the body of a procedure or `letrec`

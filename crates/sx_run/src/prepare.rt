@@ -18,6 +18,7 @@ use sx_base::fault_line::fault_line;
 use sx_base::items::Items;
 use sx_base::memory::Memory;
 use sx_base::symbol::Symbol;
+use sx_derived::implementation::Implementation;
 use sx_library::loaded::{first_fault, program_text};
 use sx_load::found::{Found, Loading, Source};
 use sx_load::halt::Halt;
@@ -109,17 +110,17 @@ fn source_of<'a>(sources: &'a [Source], path: &Symbol) -> &'a [u8]
 }
 
 // The line of a fault, whose place is that in the file that it names.
-fn line_of(alloc: Global, loading: &Loading, fault: &Fault) -> Result<String, Memory>
-    ensures { IfOk result (λ line. string_bytes line ≡ fault_line fault.now (source_of loading.now.sources fault.now.span.file)) }
+fn line_of(alloc: Global, sources: &[Source], fault: &Fault) -> Result<String, Memory>
+    ensures { IfOk result (λ line. string_bytes line ≡ fault_line fault.now (source_of sources.now fault.now.span.file)) }
 {
-    let source = source_of(loading.sources.as_slice(), &fault.span.file);
+    let source = source_of(sources, &fault.span.file);
     fault_line(alloc, fault, source)
 }
 
 // The codes of the procedures that are texts.
 fn prelude<N: Ledger, L: Ledger>(
     alloc: Global,
-    prims: &PrimTable,
+    primitives: &PrimTable,
     counts: &mut Counts<N, L>,
 ) -> Result<Prelude, Memory>
     ensures { IfOk result (λ p. kept p ≡ prelude_table) }
@@ -128,30 +129,42 @@ fn prelude<N: Ledger, L: Ledger>(
         records: &[],
         needs: &[],
     };
-    let means = Means { earlier, prims };
+    let means = Means {
+        earlier,
+        prims: primitives,
+    };
     Prelude::new(alloc, &means, counts)
+}
+
+// What was loaded, and whether a report on it is asked for.
+#[derive(Drop)]
+struct Loaded {
+    loading: Loading,
+    report: bool,
 }
 
 // What comes of a program that was loaded.
 fn of_found<N: Ledger, L: Ledger>(
     alloc: Global,
-    prelude: &Prelude,
-    report: bool,
+    implementation: &Implementation,
+    loaded: Loaded,
     found: Found,
-    loading: &Loading,
-    prims: &PrimTable,
     counts: &mut Counts<N, L>,
 ) -> Result<Prepared, Unfinished>
-    requires { kept prelude.now ≡ prelude_table }
-    ensures gives { Prepares result (of_loaded report (Ok (found, loading.now))) }
+    requires { kept implementation.now.prelude ≡ prelude_table }
+    ensures gives { Prepares result (of_loaded loaded.report (Ok (found, loaded.loading))) }
     ensures unread { result ≢ Err Unfinished.Read }
 {
-    match program_text(alloc, prelude, found, loading, prims, counts) {
-        Ok(text) => {
-            let report = report_if(alloc, report, loading)?;
-            Ok(Prepared { text, report })
-        }
-        Err(Stop::Fault(fault)) => Err(Unfinished::Line(line_of(alloc, loading, &fault)?)),
+    let Loaded { loading, report } = loaded;
+    let report = report_if(alloc, report, &loading)?;
+    let Loading { done, sources, .. } = loading;
+    match program_text(alloc, implementation, found, done, counts) {
+        Ok(text) => Ok(Prepared { text, report }),
+        Err(Stop::Fault(fault)) => Err(Unfinished::Line(line_of(
+            alloc,
+            sources.as_slice(),
+            &fault,
+        )?)),
         Err(Stop::Memory) => Err(Unfinished::Memory),
     }
 }
@@ -159,19 +172,18 @@ fn of_found<N: Ledger, L: Ledger>(
 // What comes of a fault that ended loading.
 fn of_fault<N: Ledger, L: Ledger>(
     alloc: Global,
-    prelude: &Prelude,
-    report: bool,
-    loading: &Loading,
+    implementation: &Implementation,
+    loaded: Loaded,
     fault: Fault,
-    prims: &PrimTable,
     counts: &mut Counts<N, L>,
 ) -> Result<Prepared, Unfinished>
-    requires { kept prelude.now ≡ prelude_table }
-    ensures gives { Prepares result (of_loaded report (Err (loading.now, fault))) }
+    requires { kept implementation.now.prelude ≡ prelude_table }
+    ensures gives { Prepares result (of_loaded loaded.report (Err (loaded.loading, fault))) }
     ensures unread { result ≢ Err Unfinished.Read }
 {
-    match first_fault(alloc, prelude, loading, fault, prims, counts) {
-        Stop::Fault(fault) => Err(Unfinished::Line(line_of(alloc, loading, &fault)?)),
+    let Loading { done, sources, .. } = loaded.loading;
+    match first_fault(alloc, implementation, done, fault, counts) {
+        Stop::Fault(fault) => Err(Unfinished::Line(line_of(alloc, sources.as_slice(), &fault)?)),
         Stop::Memory => Err(Unfinished::Memory),
     }
 }
@@ -180,28 +192,30 @@ fn of_fault<N: Ledger, L: Ledger>(
 #[tactic(auto, unfolding(crate::specs::Whole::of_job))]
 fn of_job<F: Files, N: Ledger, L: Ledger>(
     alloc: Global,
-    prelude: &Prelude,
+    implementation: &Implementation,
     job: &Job,
     files: &mut F,
-    prims: &PrimTable,
     counts: &mut Counts<N, L>,
 ) -> Result<Prepared, Unfinished>
-    requires { kept prelude.now ≡ prelude_table }
+    requires { kept implementation.now.prelude ≡ prelude_table }
     ensures gives { IfSome (F.told files.old) (λ fs. Prepares result (of_job fs job.now)) }
     ensures read { result ≡ Err Unfinished.Read → Rose (F.faults files.old) (F.faults files.new) }
 {
     let mut loading = Loading::new(alloc);
-    match load(
+    let came = load(
         alloc,
         files,
         job.roots.as_slice(),
         &job.program,
         &mut loading,
-    ) {
-        Ok(found) => of_found(alloc, prelude, job.report, found, &loading, prims, counts),
-        Err(Halt::Fault(fault)) => of_fault(
-            alloc, prelude, job.report, &loading, fault, prims, counts,
-        ),
+    );
+    let loaded = Loaded {
+        loading,
+        report: job.report,
+    };
+    match came {
+        Ok(found) => of_found(alloc, implementation, loaded, found, counts),
+        Err(Halt::Fault(fault)) => of_fault(alloc, implementation, loaded, fault, counts),
         Err(Halt::Read) => Err(Unfinished::Read),
         Err(Halt::Memory) => Err(Unfinished::Memory),
     }
@@ -212,12 +226,16 @@ pub fn prepare<F: Files, N: Ledger, L: Ledger>(
     alloc: Global,
     job: &Job,
     files: &mut F,
-    prims: &PrimTable,
+    primitives: &PrimTable,
     counts: &mut Counts<N, L>,
 ) -> Result<Prepared, Unfinished>
     ensures gives { IfSome (F.told files.old) (λ fs. Prepares result (of_job fs job.now)) }
     ensures read { result ≡ Err Unfinished.Read → Rose (F.faults files.old) (F.faults files.new) }
 {
-    let prelude = prelude(alloc, prims, counts)?;
-    of_job(alloc, &prelude, job, files, prims, counts)
+    let prelude = prelude(alloc, primitives, counts)?;
+    let implementation = Implementation {
+        prelude,
+        primitives,
+    };
+    of_job(alloc, &implementation, job, files, counts)
 }

@@ -18,6 +18,17 @@ use sx_standing::means::Counts;
 pub const USAGE: &[u8] =
     b"usage: scheme-expand [--root DIR[:DIR]...] [--cache DIR] [--report] [--write core|xref] PROGRAM | --make N\n";
 
+/// What a run meets outside the program.
+#[derive(Drop)]
+pub struct Outside<F, O, E> {
+    /// The files that it reads.
+    pub files: F,
+    /// Where it writes the core text.
+    pub out: O,
+    /// Where it writes the line of a fault, and the report.
+    pub err: E,
+}
+
 // Puts a report on `err`.
 fn tell<E: Sink>(err: &mut E, report: &[u8]) -> Status
     ensures { Reports (record { before = E.told err.old; after = E.told err.new; faults_before = E.faults err.old; faults_after = E.faults err.new; puts_before = E.puts err.old; puts_after = E.puts err.new }) report.now result }
@@ -53,22 +64,21 @@ fn complain<O: Sink, E: Sink>(out: &mut O, err: &mut E, line: &[u8], status: Sta
 fn run_words<F: Files, O: Sink, E: Sink, N: Ledger, L: Ledger>(
     alloc: Global,
     words: &[String],
-    files: &mut F,
-    out: &mut O,
-    err: &mut E,
-    prims: &PrimTable,
+    outside: &mut Outside<F, O, E>,
+    primitives: &PrimTable,
     counts: &mut Counts<N, L>,
 ) -> Status
-    ensures { Headline (F.told files.old) (texts words.now) (F.faults files.old) (F.faults files.new)
-        (record { before = O.told out.old; after = O.told out.new; faults_before = O.faults out.old; faults_after = O.faults out.new; puts_before = O.puts out.old; puts_after = O.puts out.new })
-        (record { before = E.told err.old; after = E.told err.new; faults_before = E.faults err.old; faults_after = E.faults err.new; puts_before = E.puts err.old; puts_after = E.puts err.new }) result }
+    ensures { Headline (F.told outside.old.files) (texts words.now) (F.faults outside.old.files) (F.faults outside.new.files)
+        (record { before = O.told outside.old.out; after = O.told outside.new.out; faults_before = O.faults outside.old.out; faults_after = O.faults outside.new.out; puts_before = O.puts outside.old.out; puts_after = O.puts outside.new.out })
+        (record { before = E.told outside.old.err; after = E.told outside.new.err; faults_before = E.faults outside.old.err; faults_after = E.faults outside.new.err; puts_before = E.puts outside.old.err; puts_after = E.puts outside.new.err }) result }
 {
+    let Outside { files, out, err } = outside;
     let job = match job_asked(alloc, words) {
         Ok(Some(job)) => job,
         Ok(None) => return complain(out, err, USAGE, Status::Usage),
         Err(_) => return Status::Memory,
     };
-    match prepare(alloc, &job, files, prims, counts) {
+    match prepare(alloc, &job, files, primitives, counts) {
         Ok(made) => finish(out, err, made.text.as_bytes(), made.report.as_bytes()),
         Err(Unfinished::Line(line)) => complain(out, err, line.as_bytes(), Status::Fault),
         Err(Unfinished::Read) => Status::ReadFault,
@@ -79,21 +89,19 @@ fn run_words<F: Files, O: Sink, E: Sink, N: Ledger, L: Ledger>(
 /// All that the program does. It reads the program that the words name, and writes its core text on `out`
 /// and behind it, where it is asked for, the report on `err`; or the line of its first fault on `err`. All
 /// text is made before the first write: `out` gets at most one put, and `err` at most one behind it.
-/// `prims` computes the primitives that transformers call. What is counted: the nodes that changes of syntax trees
+/// `primitives` computes those that transformers call. What is counted: the nodes that changes of syntax trees
 /// make, and the fuel that evaluations spend.
 pub fn run<F: Files, O: Sink, E: Sink, N: Ledger, L: Ledger>(
     alloc: Global,
     words: &[String],
-    files: &mut F,
-    out: &mut O,
-    err: &mut E,
-    prims: &PrimTable,
+    outside: &mut Outside<F, O, E>,
+    primitives: &PrimTable,
     counts: &mut Counts<N, L>,
 ) -> Status
-    ensures headline { Headline (F.told files.old) (texts words.now) (F.faults files.old) (F.faults files.new)
-        (record { before = O.told out.old; after = O.told out.new; faults_before = O.faults out.old; faults_after = O.faults out.new; puts_before = O.puts out.old; puts_after = O.puts out.new })
-        (record { before = E.told err.old; after = E.told err.new; faults_before = E.faults err.old; faults_after = E.faults err.new; puts_before = E.puts err.old; puts_after = E.puts err.new }) result }
-    ensures complete { Complete (F.told files.old) (texts words.now) (Rose (F.faults files.old) (F.faults files.new)) (Rose (O.faults out.old) (O.faults out.new)) (Rose (E.faults err.old) (E.faults err.new)) result }
+    ensures headline { Headline (F.told outside.old.files) (texts words.now) (F.faults outside.old.files) (F.faults outside.new.files)
+        (record { before = O.told outside.old.out; after = O.told outside.new.out; faults_before = O.faults outside.old.out; faults_after = O.faults outside.new.out; puts_before = O.puts outside.old.out; puts_after = O.puts outside.new.out })
+        (record { before = E.told outside.old.err; after = E.told outside.new.err; faults_before = E.faults outside.old.err; faults_after = E.faults outside.new.err; puts_before = E.puts outside.old.err; puts_after = E.puts outside.new.err }) result }
+    ensures complete { Complete (F.told outside.old.files) (texts words.now) (Rose (F.faults outside.old.files) (F.faults outside.new.files)) (Rose (O.faults outside.old.out) (O.faults outside.new.out)) (Rose (E.faults outside.old.err) (E.faults outside.new.err)) result }
 {
-    run_words(alloc, words, files, out, err, prims, counts)
+    run_words(alloc, words, outside, primitives, counts)
 }

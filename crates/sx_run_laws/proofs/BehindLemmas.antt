@@ -4,7 +4,7 @@ use Rattle.std.specs.Prelude.{map}
 use Rattle.sx_base.specs.Datum.{PlainDatum}
 use Rattle.sx_base.specs.Gives.{◌>>=◌}
 use Rattle.sx_base.specs.declared.fault.Fault.{Fault}
-use Rattle.sx_base.specs.Op.{op_text}
+use Rattle.sx_base.specs.Op.{name_count, op_text}
 use Rattle.sx_base.specs.declared.library.LibName.{LibName}
 use Rattle.sx_base.specs.declared.library.LibName.TheVariants as library
 use Rattle.sx_base.specs.declared.name.Label.{Label}
@@ -99,7 +99,7 @@ module _ (d : LibRecord) where
         named = g.1;
         good = g.0;
         keywords = keywords-good library.Derived path [] names [] start (exports_of derived) forms codes d is_ready h;
-        serves = records-serve library.Derived path [] names [] start (exports_of derived) forms codes d is_ready (names_there derived 0 301) h;
+        serves = records-serve library.Derived path [] names [] start (exports_of derived) forms codes d is_ready (names_there derived 0 name_count) h;
         indices = variables-indexed library.Derived path [] names [] start (exports_of derived) forms codes d is_ready h;
         shallow = records-shallow library.Derived path [] names [] start (exports_of derived) forms codes d is_ready h;
       }

@@ -133,7 +133,7 @@ module _ (own : LibName) where
 
   pub steps-pattern : (literals : List Tree) (place : Span) (t : Tree) (s : State) → Names own s → Gave (St own s) (pattern_of literals place t s)
   unfolding stage_patterns.pattern_of
-  steps-pattern literals place t s n = by (patterns.compiled s.frames literals place t s.names) (compiles own s.frames literals place t s.names n)
+  steps-pattern literals place t s n = by (patterns.compiled (record { frames = s.frames; literals = literals; place = place }) t s.names) (compiles own (record { frames = s.frames; literals = literals; place = place }) t s.names n)
     where
       by : (r : Result (Compiled × Named) Fault) → GaveBy (Compiles own s.names) r → Gave (St own s) (staged s (stage_patterns.named (stage_of s) r))
       by (Err e) h = tt

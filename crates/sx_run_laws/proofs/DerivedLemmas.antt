@@ -101,7 +101,7 @@ module _ (d : LibRecord) where
         new = λ a. elim a [ ];
         no_core = λ e. absurd (cc);
         no_prelude = λ e. absurd (cc);
-        known = left_known names (names_left derived 0 301 (omega arith));
+        known = left_known names (names_left derived 0 name_count (omega arith));
         imported_once = once_by_name names derived-names-once;
         exported_once = exports_once;
       } in

@@ -21,7 +21,7 @@ use Rattle.sx_standing.specs.Patterns.{pattern_of, check_literals, bind_pattern}
 use Rattle.sx_standing.specs.State.{State, fresh, fresh_frame}
 use Rattle.sx_standing.specs.Uses.{bind_keywords, finish_keyword}
 use Rattle.sx_standing.specs.declared.binders.BoundSpec.{BoundSpec}
-use Rattle.sx_heads.specs.Depth.{deeper}
+use Rattle.sx_heads.specs.Depth.{deeper, most_round}
 use Rattle.sx_heads.specs.Items.{begun, define_keyword}
 use Rattle.sx_heads.specs.declared.item.Item.{Item}
 use Rattle.sx_heads.specs.declared.item.Item.TheVariants as items
@@ -229,7 +229,7 @@ module _ (own : LibName) (go : Inside) (inner : Inner own go) where
 
   b-form : (place : Span) (level depth : ℕ) (t : Tree) (s : State) → Names own s → Gave (St own s) (form_at go place level depth t s)
   unfolding form_at
-  b-form place level depth t s n = gave-if (St own s) (nat_lt 600 depth) _ _ (λ e. tt)
+  b-form place level depth t s n = gave-if (St own s) (nat_lt most_round depth) _ _ (λ e. tt)
       (λ e. steps-after own s (settle go.earlier place level t s) (perform_settled go level depth) (steps-settle own go.earlier s.uses_left place level t s n) (λ x u m. b-perform x.place level depth x.form x.plan u m))
 
   b-perform-item : (at : BodyAt) (depth : ℕ) (d : Taken) (t : Tree) (i : Item) (s : State) → at.frame.0.library ≡ own → Names own s → Gave (St own s) (perform_item go at depth d t i s)
@@ -244,7 +244,7 @@ module _ (own : LibName) (go : Inside) (inner : Inner own go) where
 
   b-item : (at : BodyAt) (depth : ℕ) (d : Taken) (t : Tree) (s : State) → at.frame.0.library ≡ own → Names own s → Gave (St own s) (item go at depth d t s)
   unfolding item
-  b-item at depth d t s mine n = gave-if (St own s) (nat_lt 600 depth) _ _ (λ e. tt)
+  b-item at depth d t s mine n = gave-if (St own s) (nat_lt most_round depth) _ _ (λ e. tt)
       (λ e. gave-after (SettlesAt own go.earlier at s) (St own s) (settle_item go.earlier at depth d t s) (bodies.perform_settled go depth) (steps-settle-item own go.earlier s.uses_left at mine depth d t s n)
       (λ p u h. gave-less (St own u) (St own s) (perform_item go p.1.at depth p.0 p.1.form p.1.item u)
       (b-perform-item p.1.at depth p.0 p.1.form p.1.item u (subst (λ (f : FrameNo). f.0.library ≡ own) (sym h.1) mine) h.0.next) (λ x v k. steps-then own s u v h.0 k)))

@@ -1,5 +1,5 @@
 -- A library whose forms are all definitions of keywords has no lines.
-use Rattle.std.proofs.Common.{◌≡◌, ℕ, zero, suc, Bool, true, false, List, [], ◌∷◌, map, Option, Some, None, Result, Ok, Err, refl, sym, ◌∙◌, ap, subst, inl, inr, if◌then◌else◌}
+use Rattle.std.proofs.Common.{◌≡◌, ℕ, zero, suc, ◌+◌, Bool, true, false, List, [], ◌∷◌, map, Option, Some, None, Result, Ok, Err, refl, sym, ◌∙◌, ap, subst, inl, inr, if◌then◌else◌}
 use Rattle.std.specs.Prelude.{nat_eq, nat_lt, codes}
 use Rattle.std.specs.Cmp.Lexicographic.{pointwise}
 use Rattle.std.proofs.lemmas.Bool.{and_from, and_parts}
@@ -32,7 +32,7 @@ use Rattle.sx_standing.specs.Start.{first_frame, started}
 use Rattle.sx_standing.specs.State.{State, Does}
 use Rattle.sx_standing.specs.declared.standing.Standing.{Standing}
 use Rattle.sx_standing.specs.declared.standing.Standing.TheVariants as standing
-use Rattle.sx_heads.specs.Depth.{deeper}
+use Rattle.sx_heads.specs.Depth.{deeper, most_round}
 use Rattle.sx_heads.specs.Items.{begun, is_top, kept_head, wait, alone, keep, core_item, headed_item, list_item, item_plan, keywords_item, with_shape}
 use Rattle.sx_heads.specs.Kept.{with_head}
 use Rattle.sx_heads.specs.declared.item.Item.{Item}
@@ -44,7 +44,7 @@ use Rattle.sx_heads.specs.declared.taken.Waiting.{Waiting}
 use Rattle.sx_expand.specs.Body as body
 use Rattle.sx_expand.specs.Body.{splice, perform_item, item, finish_one, finish_all}
 use Rattle.sx_expand.specs.Expanding.{ready, body_of, library_record}
-use Rattle.sx_expand.specs.Expression.{inside}
+use Rattle.sx_expand.specs.Expression.{inside, full_room}
 use Rattle.sx_expand.specs.Inside.{Inside}
 use Rattle.sx_expand.specs.Keywords.{define_syntax}
 use Rattle.sx_expand.specs.Settle as settle
@@ -236,7 +236,7 @@ module _ (at : BodyAt) (depth : ℕ) where
   pub definition-taken : (go : Inside) (d : Taken) (t : Tree) (s : State) → Found s → IsDefinition (stamped at.frame blank) t → Gave (λ e u. e.waiting ≡ d.waiting) (item go at depth d t s)
   unfolding item
   definition-taken go d t s f h =
-      gave-if (λ e u. e.waiting ≡ d.waiting) (nat_lt 600 depth) _ (after (settle_item go.earlier at depth d t s) (body.perform_settled go depth)) (λ e. tt)
+      gave-if (λ e u. e.waiting ≡ d.waiting) (nat_lt most_round depth) _ (after (settle_item go.earlier at depth d t s) (body.perform_settled go depth)) (λ e. tt)
       (λ e. gave-after (Settles go.earlier d) (λ x u. x.waiting ≡ d.waiting) (settle_item go.earlier at depth d t s) (body.perform_settled go depth) (definition-settled go.earlier s.uses_left d t s f h)
       (λ p u k. gave-less (λ x v. x ≡ p.0) (λ x v. x.waiting ≡ d.waiting) (body.perform_settled go depth p u) (keyword-performed go p.1.at p.0 p.1.form p.1.item u k.1) (λ x v j. ap (λ (y : Taken). y.waiting) j ∙ k.0)))
 
@@ -320,20 +320,20 @@ finished-bare go at es d s none =
     (λ ls t k. subst (λ (ws : List Waiting). Gave (λ r u. r.run ≡ []) (after (finish_all go 0 ws t) (λ lines. give_record at ls lines))) (sym none)
     (subst (λ (x : Result (List Line × State) Fault). Gave (λ r u. r.run ≡ []) (after x (λ lines. give_record at ls lines))) (sym (each-nil (finish_one go 0) t)) refl))
 
-top-bare : (at : TopAt) (es : List (List ℕ × Tree)) (forms : List Tree) (start : State) → start.names.library ≡ start.library → IsOwn start.library at.frame.0 → AreKeyed start.library start.frames → label_at start.frames at.frame word [] ≡ Some defining → Each (IsDefinition blank) forms → Gave (λ r t. r.run ≡ []) (top (inside [] 602) at es forms start)
+top-bare : (at : TopAt) (es : List (List ℕ × Tree)) (forms : List Tree) (start : State) → start.names.library ≡ start.library → IsOwn start.library at.frame.0 → AreKeyed start.library start.frames → label_at start.frames at.frame word [] ≡ Some defining → Each (IsDefinition blank) forms → Gave (λ r t. r.run ≡ []) (top (inside [] full_room) at es forms start)
 unfolding top first_pass
 top-bare at es forms start n mine keyed found are =
     let place = body_at at start.library in
-    gave-after (λ d t. d.waiting ≡ []) (λ r t. r.run ≡ []) (splice (inside [] 602) place 0 begun (map (stamp at.frame) forms) start) (finished (inside [] 602) at es)
-    (definitions-leave start.library [] 601 place (λ e. refl) mine start (map (stamp at.frame) forms) n keyed found (definitions-stamped at.frame forms are))
-    (λ d t k. finished-bare (inside [] 602) at es d t k)
+    gave-after (λ d t. d.waiting ≡ []) (λ r t. r.run ≡ []) (splice (inside [] full_room) place 0 begun (map (stamp at.frame) forms) start) (finished (inside [] full_room) at es)
+    (definitions-leave start.library [] (most_round + 1) place (λ e. refl) mine start (map (stamp at.frame) forms) n keyed found (definitions-stamped at.frame forms are))
+    (λ d t k. finished-bare (inside [] full_room) at es d t k)
 
 pub no-lines : (own : LibName) (path : List ℕ) (imports : List (List ℕ × Label)) (version : List ℕ) (place : Span) (es : List (List ℕ × Tree)) (forms : List Tree) (codes : Codes) (r : LibRecord)
     → label_at (started own [] imports codes).frames (first_frame own) word [] ≡ Some defining → (started own [] imports codes).names.library ≡ (started own [] imports codes).library → (started own [] imports codes).library ≡ own → AreKeyed own (started own [] imports codes).frames
     → Each (IsDefinition blank) forms
     → library_record (ready own path [] imports codes) [] version place es forms ≡ Ok r → r.run ≡ []
 no-lines own path imports version place es forms codes r found same lib keyed are e =
-    by (top (inside [] 602) (body_of (ready own path [] imports codes) version place) es forms (started own [] imports codes)) (top-bare (body_of (ready own path [] imports codes) version place) es forms (started own [] imports codes) same (sym lib) (subst (λ (k : LibName). AreKeyed k (started own [] imports codes).frames) (sym lib) keyed) found are) e
+    by (top (inside [] full_room) (body_of (ready own path [] imports codes) version place) es forms (started own [] imports codes)) (top-bare (body_of (ready own path [] imports codes) version place) es forms (started own [] imports codes) same (sym lib) (subst (λ (k : LibName). AreKeyed k (started own [] imports codes).frames) (sym lib) keyed) found are) e
   where
     by : (x : Result (LibRecord × State) Fault) → Gave (λ q t. q.run ≡ []) x → record_in x ≡ Ok r → r.run ≡ []
     by (Ok p) h k = let is : p.0 ≡ r = cc in subst (λ (q : LibRecord). q.run ≡ []) is h

@@ -8,6 +8,7 @@ use Rattle.std.specs.Cmp.{unsigned_Decides}
 use Rattle.sx_base.specs.Same.{same_library, same_library_decides}
 use Rattle.sx_base.specs.declared.library.LibName.TheVariants as library
 use Rattle.sx_base.specs.declared.name.CodeNo.{CodeNo}
+use Rattle.sx_base.specs.declared.op.names.TheConstants as names
 use Rattle.sx_core.specs.Core.{PlainCore, PlainCode}
 use Rattle.sx_core_laws.specs.Words.{Each, Among}
 use Rattle.sx_core_laws.specs.Parts.{code_numbers}
@@ -31,8 +32,8 @@ use Rattle.sx_steady_laws.specs.Libraries.{AreTexts}
 -- the texts, each as the procedure whose body it is
 abbrev texts : List PlainCore
 texts =
-    text_code 133 map_text ∷ text_code 110 for_each_text ∷ text_code 192 for_all_text ∷ text_code 193 exists_text ∷ text_code 194 filter_text ∷
-    text_code 198 remp_text ∷ text_code 191 find_text ∷ text_code 202 memp_text ∷ text_code 196 fold_left_text ∷ text_code 197 fold_right_text ∷ []
+    text_code names.MAP map_text ∷ text_code names.FOR_EACH for_each_text ∷ text_code names.FOR_ALL for_all_text ∷ text_code names.EXISTS exists_text ∷ text_code names.FILTER filter_text ∷
+    text_code names.REMP remp_text ∷ text_code names.FIND find_text ∷ text_code names.MEMP memp_text ∷ text_code names.FOLD_LEFT fold_left_text ∷ text_code names.FOLD_RIGHT fold_right_text ∷ []
 
 -- ---- the op of a text is one of ten
 
@@ -49,16 +50,16 @@ is-op op k e a = subst (HasText texts) (sym ((unsigned_Decides op k).0 e)) a
 has-body : (op : ℕ) → has_text op ≡ true → HasText texts op
 unfolding has_text
 has-body op h =
-    by-test (op == 110) _ _ (HasText texts op) (λ e. is-op op 110 e (record { body = for_each_text; among = inr (inl refl); gives = tt })) (λ h.
-    by-test (op == 133) _ _ (HasText texts op) (λ e. is-op op 133 e (record { body = map_text; among = inl refl; gives = tt })) (λ h.
-    by-test (op == 191) _ _ (HasText texts op) (λ e. is-op op 191 e (record { body = find_text; among = inr (inr (inr (inr (inr (inr (inl refl)))))); gives = refl })) (λ h.
-    by-test (op == 192) _ _ (HasText texts op) (λ e. is-op op 192 e (record { body = for_all_text; among = inr (inr (inl refl)); gives = tt })) (λ h.
-    by-test (op == 193) _ _ (HasText texts op) (λ e. is-op op 193 e (record { body = exists_text; among = inr (inr (inr (inl refl))); gives = tt })) (λ h.
-    by-test (op == 194) _ _ (HasText texts op) (λ e. is-op op 194 e (record { body = filter_text; among = inr (inr (inr (inr (inl refl)))); gives = refl })) (λ h.
-    by-test (op == 196) _ _ (HasText texts op) (λ e. is-op op 196 e (record { body = fold_left_text; among = inr (inr (inr (inr (inr (inr (inr (inr (inl refl)))))))); gives = tt })) (λ h.
-    by-test (op == 197) _ _ (HasText texts op) (λ e. is-op op 197 e (record { body = fold_right_text; among = inr (inr (inr (inr (inr (inr (inr (inr (inr (inl refl))))))))); gives = tt })) (λ h.
-    by-test (op == 198) _ _ (HasText texts op) (λ e. is-op op 198 e (record { body = remp_text; among = inr (inr (inr (inr (inr (inl refl))))); gives = tt })) (λ h.
-    by-test (op == 202) _ _ (HasText texts op) (λ e. is-op op 202 e (record { body = memp_text; among = inr (inr (inr (inr (inr (inr (inr (inl refl))))))); gives = refl })) (λ h.
+    by-test (op == names.FOR_EACH) _ _ (HasText texts op) (λ e. is-op op names.FOR_EACH e (record { body = for_each_text; among = inr (inl refl); gives = tt })) (λ h.
+    by-test (op == names.MAP) _ _ (HasText texts op) (λ e. is-op op names.MAP e (record { body = map_text; among = inl refl; gives = tt })) (λ h.
+    by-test (op == names.FIND) _ _ (HasText texts op) (λ e. is-op op names.FIND e (record { body = find_text; among = inr (inr (inr (inr (inr (inr (inl refl)))))); gives = refl })) (λ h.
+    by-test (op == names.FOR_ALL) _ _ (HasText texts op) (λ e. is-op op names.FOR_ALL e (record { body = for_all_text; among = inr (inr (inl refl)); gives = tt })) (λ h.
+    by-test (op == names.EXISTS) _ _ (HasText texts op) (λ e. is-op op names.EXISTS e (record { body = exists_text; among = inr (inr (inr (inl refl))); gives = tt })) (λ h.
+    by-test (op == names.FILTER) _ _ (HasText texts op) (λ e. is-op op names.FILTER e (record { body = filter_text; among = inr (inr (inr (inr (inl refl)))); gives = refl })) (λ h.
+    by-test (op == names.FOLD_LEFT) _ _ (HasText texts op) (λ e. is-op op names.FOLD_LEFT e (record { body = fold_left_text; among = inr (inr (inr (inr (inr (inr (inr (inr (inl refl)))))))); gives = tt })) (λ h.
+    by-test (op == names.FOLD_RIGHT) _ _ (HasText texts op) (λ e. is-op op names.FOLD_RIGHT e (record { body = fold_right_text; among = inr (inr (inr (inr (inr (inr (inr (inr (inr (inl refl))))))))); gives = tt })) (λ h.
+    by-test (op == names.REMP) _ _ (HasText texts op) (λ e. is-op op names.REMP e (record { body = remp_text; among = inr (inr (inr (inr (inr (inl refl))))); gives = tt })) (λ h.
+    by-test (op == names.MEMP) _ _ (HasText texts op) (λ e. is-op op names.MEMP e (record { body = memp_text; among = inr (inr (inr (inr (inr (inr (inr (inl refl))))))); gives = refl })) (λ h.
     no-more (HasText texts op) h) h) h) h) h) h) h) h) h) h) h
 
 -- ---- each is closed and well made, and no two codes have one number

@@ -13,6 +13,7 @@ use Rattle.sx_builtin.specs.Prelude.{prelude_text}
 use Rattle.sx_builtin.specs.declared.derived.TheConstants.{DERIVED_SOURCE}
 use Rattle.sx_core.specs.Core.{PlainCode}
 use Rattle.sx_core.specs.declared.record.LibRecord.{LibRecord}
+use Rattle.sx_expand.specs.Expression.{full_room}
 use Rattle.sx_derived.specs.Derived.{forms_of, record_of, derived_record}
 use Rattle.sx_derived.specs.Derived as of_derived
 use Rattle.sx_derived.specs.Names as derived_names
@@ -63,7 +64,7 @@ expanded-holds : (n : ℕ) (r : Result Tree Fault) (s : State) → F s → OkHol
 expanded-holds n (Err f) s h k = tt
 expanded-holds n (Ok t) s h k =
     gave-after C ReadableCode (expression [] (place_of n) 0 (stamp (first_frame library.Prelude) t) s) (λ c. give (procedure_of n c))
-    ((inside-keeps [] 602 tt).form (place_of n) 0 0 (stamp (first_frame library.Prelude) t) s h (changed-holds (change.Stamp (first_frame library.Prelude) ∷ []) t k)) (λ c u i y. (i, (y, tt)))
+    ((inside-keeps [] full_room tt).form (place_of n) 0 0 (stamp (first_frame library.Prelude) t) s h (changed-holds (change.Stamp (first_frame library.Prelude) ∷ []) t k)) (λ c u i y. (i, (y, tt)))
 
 code-holds : (n : ℕ) (s : State) → F s → Gave ReadableCode (text_code n s)
 unfolding text_code

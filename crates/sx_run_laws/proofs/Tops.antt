@@ -22,7 +22,7 @@ use Rattle.sx_heads.specs.Items.{begun}
 use Rattle.sx_heads.specs.declared.taken.Taken.{Taken}
 use Rattle.sx_expand.specs.Body.{splice, finish_all}
 use Rattle.sx_expand.specs.Expanding.{ready, body_of, library_record}
-use Rattle.sx_expand.specs.Expression.{inside}
+use Rattle.sx_expand.specs.Expression.{inside, full_room}
 use Rattle.sx_expand.specs.Inside.{Inside}
 use Rattle.sx_expand.specs.Top.{record_in, give_record, exports, body_at, finished, first_pass, top}
 use Rattle.sx_expand.specs.declared.top.TopAt.{TopAt}
@@ -98,7 +98,7 @@ pub once-behind : (own : LibName) (path : List ℕ) (records : List LibRecord) (
 once-behind own path records imports version place exports forms codes r h other o e named =
     let start = started own records imports codes in
     let at = body_of (ready own path records imports codes) version place in
-    let ends = in-record (Ends own start) (top (inside records 602) at exports forms start) r (ends-top own (inside records 602) (inside-binds own records 602) at refl start exports forms (started-names own records imports codes)) e in
+    let ends = in-record (Ends own start) (top (inside records full_room) at exports forms start) r (ends-top own (inside records full_room) (inside-binds own records full_room) at refl start exports forms (started-names own records imports codes)) e in
     let once = binds-once own start.frames ends.ended.frames ends.binds (once-started own records h other imports codes o) in
     record {
       rows = subst (AreBound []) (sym ends.frames) (rows-bound r.name ends.ended.frames (subst (λ (l : LibName). RowsOnce l ends.ended.frames) (sym named) once));

@@ -14,7 +14,7 @@ named s (Err f) = Err f
 
 -- the pattern of a form; the next names are the labels of its variables
 unfoldable pub pattern_of : List Tree → Span → Tree → Does Compiled
-pattern_of literals place t s = named s (compiled s.frames literals place t s.names)
+pattern_of literals place t s = named s (compiled (record { frames = s.frames; literals = literals; place = place }) t s.names)
 
 abbrev pub unchanged : {A : Type 0} → PlainStage → Result A Fault → Result (A × PlainStage) Fault
 unchanged s (Ok x) = Ok (x, s)

@@ -30,6 +30,7 @@
 //! and are used, and it counts the uses.
 #![tactic(auto)]
 
+pub mod context;
 mod cutting;
 pub mod earlier;
 mod fault;

@@ -7,7 +7,7 @@ use crate::stage::Stage;
 use sx_base::fault::Stop;
 use sx_base::span::Span;
 use sx_pattern::compile as patterns;
-use sx_pattern::compile::{Compiled, compile_pattern};
+use sx_pattern::compile::{Compiled, PatternContext, compile_pattern};
 use sx_syntax::syn::Syn;
 
 impl Stage {
@@ -16,14 +16,13 @@ impl Stage {
     pub fn pattern(&mut self, form: &Syn, literals: &[Syn], place: &Span) -> Result<Compiled, Stop>
         ensures { GivesAfter (λ c. c) result self.new (pattern_of literals.now place.now form.now self.old) }
     {
-        compile_pattern(
-            self.alloc,
-            form,
+        let context = PatternContext {
+            alloc: self.alloc,
+            frames: &self.world.frames,
             literals,
             place,
-            &self.world.frames,
-            &mut self.world.names,
-        )
+        };
+        compile_pattern(&context, form, &mut self.world.store.names)
     }
 
     /// It is `BadPattern` at the first literal that is no identifier, or is an ellipsis or an underscore.
@@ -31,6 +30,12 @@ impl Stage {
     pub fn check_literals(&self, literals: &[Syn], place: &Span) -> Result<(), Stop>
         ensures { GivesAfter (λ _. tt) result self.now (check_literals place.now literals.now self.now) }
     {
-        patterns::check_literals(self.alloc, literals, place, &self.world.frames)
+        let context = PatternContext {
+            alloc: self.alloc,
+            frames: &self.world.frames,
+            literals,
+            place,
+        };
+        patterns::check_literals(&context)
     }
 }

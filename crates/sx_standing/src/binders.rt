@@ -17,6 +17,15 @@ use sx_shapes::lists::is_id;
 use sx_shapes::shape::{BindingSpec, FormalIds};
 use sx_syntax::syn::Syn;
 
+/// Where identifiers are bound.
+#[derive(Drop)]
+pub struct BinderContext<'a> {
+    pub frame: &'a FrameNo,
+    /// Where an identifier without a span stands.
+    pub place: &'a Span,
+    pub level: u32,
+}
+
 /// A variable of a `letrec`, with the form of its value.
 #[derive(Drop)]
 pub struct BoundSpec {
@@ -97,18 +106,16 @@ impl Expansion {
 
     fn bind_as(
         &mut self,
-        frame: &FrameNo,
+        context: &BinderContext,
         id: &Syn,
-        place: &Span,
-        level: u32,
         top: bool,
         name: Name,
     ) -> Result<Label, Stop>
-        ensures { GivesAfter (λ l. l) result self.new (bind_as frame.now id.now place.now level top name self.old) }
+        ensures { GivesAfter (λ l. l) result self.new (bind_as context.now.frame.now id.now context.now.place.now context.now.level top name self.old) }
     {
         let label = Label(name);
-        let info = self.variable_for(id, level, top)?;
-        self.bind_row(frame, id, &label, place)?;
+        let info = self.variable_for(id, context.level, top)?;
+        self.bind_row(context.frame, id, &label, context.place)?;
         let bound = label.share()?;
         self.add_binding(bound, info)?;
         Ok(label)
@@ -118,50 +125,36 @@ impl Expansion {
     #[tactic(auto, unfolding(crate::specs::Binders::bind_variable))]
     pub fn bind_variable(
         &mut self,
-        frame: &FrameNo,
-        place: &Span,
-        level: u32,
+        context: &BinderContext,
         top: bool,
         id: &Syn,
     ) -> Result<Label, Stop>
-        ensures { GivesAfter (λ l. l) result self.new (bind_variable frame.now place.now level top id.now self.old) }
+        ensures { GivesAfter (λ l. l) result self.new (bind_variable context.now.frame.now context.now.place.now context.now.level top id.now self.old) }
     {
         if !is_id(self.alloc, id)? {
-            return Err(self.fault_form(FaultKind::BadForm, id, place));
+            return Err(self.fault_form(FaultKind::BadForm, id, context.place));
         }
         let name = self.fresh()?;
-        self.bind_as(frame, id, place, level, top, name)
+        self.bind_as(context, id, top, name)
     }
 
     /// Binds identifiers in order.
-    pub fn bind_all(
-        &mut self,
-        frame: &FrameNo,
-        place: &Span,
-        level: u32,
-        ids: &[Syn],
-    ) -> Result<Items<Label>, Stop>
-        ensures { GivesAfter (λ ls. ls) result self.new (bind_all frame.now place.now level ids.now self.old) }
+    pub fn bind_all(&mut self, context: &BinderContext, ids: &[Syn]) -> Result<Items<Label>, Stop>
+        ensures { GivesAfter (λ ls. ls) result self.new (bind_all context.now.frame.now context.now.place.now context.now.level ids.now self.old) }
     {
         let mut labels = Items::new(self.alloc);
         for id in ids {
-            let label = self.bind_variable(frame, place, level, false, id)?;
+            let label = self.bind_variable(context, false, id)?;
             labels.push(label)?;
         }
         Ok(labels)
     }
 
     #[tactic(auto, unfolding(crate::specs::Binders::bind_spec))]
-    fn bind_spec(
-        &mut self,
-        frame: &FrameNo,
-        place: &Span,
-        level: u32,
-        spec: &BindingSpec,
-    ) -> Result<BoundSpec, Stop>
-        ensures { GivesAfter (λ b. b) result self.new (bind_spec frame.now place.now level spec.now self.old) }
+    fn bind_spec(&mut self, context: &BinderContext, spec: &BindingSpec) -> Result<BoundSpec, Stop>
+        ensures { GivesAfter (λ b. b) result self.new (bind_spec context.now.frame.now context.now.place.now context.now.level spec.now self.old) }
     {
-        let label = self.bind_variable(frame, place, level, false, &spec.id)?;
+        let label = self.bind_variable(context, false, &spec.id)?;
         let init = spec.init.share()?;
         Ok(BoundSpec { label, init })
     }
@@ -169,16 +162,14 @@ impl Expansion {
     /// Binds the variables of a `letrec` in order.
     pub fn bind_specs(
         &mut self,
-        frame: &FrameNo,
-        place: &Span,
-        level: u32,
+        context: &BinderContext,
         specs: &[BindingSpec],
     ) -> Result<Items<BoundSpec>, Stop>
-        ensures { GivesAfter (λ bs. bs) result self.new (bind_specs frame.now place.now level specs.now self.old) }
+        ensures { GivesAfter (λ bs. bs) result self.new (bind_specs context.now.frame.now context.now.place.now context.now.level specs.now self.old) }
     {
         let mut done = Items::new(self.alloc);
         for spec in specs {
-            let one = self.bind_spec(frame, place, level, spec)?;
+            let one = self.bind_spec(context, spec)?;
             done.push(one)?;
         }
         Ok(done)
@@ -186,17 +177,15 @@ impl Expansion {
 
     fn bind_rest(
         &mut self,
-        frame: &FrameNo,
-        place: &Span,
-        level: u32,
+        context: &BinderContext,
         id: &Option<Syn>,
     ) -> Result<Option<Label>, Stop>
-        ensures { GivesAfter (λ l. l) result self.new (bind_rest frame.now place.now level id.now self.old) }
+        ensures { GivesAfter (λ l. l) result self.new (bind_rest context.now.frame.now context.now.place.now context.now.level id.now self.old) }
     {
         match id {
             None => Ok(None),
             Some(id) => {
-                let label = self.bind_variable(frame, place, level, false, id)?;
+                let label = self.bind_variable(context, false, id)?;
                 Ok(Some(label))
             }
         }
@@ -206,15 +195,13 @@ impl Expansion {
     #[tactic(auto, unfolding(crate::specs::Binders::bind_formals))]
     pub fn bind_formals(
         &mut self,
-        frame: &FrameNo,
-        place: &Span,
-        level: u32,
+        context: &BinderContext,
         ids: &FormalIds,
     ) -> Result<Formals, Stop>
-        ensures { GivesAfter (λ f. f) result self.new (bind_formals frame.now place.now level ids.now self.old) }
+        ensures { GivesAfter (λ f. f) result self.new (bind_formals context.now.frame.now context.now.place.now context.now.level ids.now self.old) }
     {
-        let required = self.bind_all(frame, place, level, ids.required.as_slice())?;
-        let rest = self.bind_rest(frame, place, level, &ids.rest)?;
+        let required = self.bind_all(context, ids.required.as_slice())?;
+        let rest = self.bind_rest(context, &ids.rest)?;
         Ok(Formals { required, rest })
     }
 }

@@ -2,23 +2,26 @@
 
 ghost use Rattle.std.specs.Prelude.{◌≡◌, true, IfOk};
 ghost use Rattle.sx_base.specs.Act.{GivesAfter};
+ghost use Rattle.sx_base.specs.Gives.{Gives};
 ghost use Rattle.sx_standing.specs.Patterns.{pattern_of, check_literals, put_pattern_variable, bind_pattern_variable, bind_pattern, has_variables, has_item_variables, is_outside, if_outside, first_outside, all_outside, template_of};
 ghost use Rattle.sx_core.specs.TemplateView.{items};
 ghost use Rattle.sx_scope.specs.Stands.{stands};
 ghost use Rattle.sx_tree.specs.Tree.{is_pair};
+ghost use Rattle.sx_template.specs.Compile.{compiled};
 
+use crate::binders::BinderContext;
 use crate::expansion::Expansion;
 use crate::in_scope::InScope;
 use sx_base::fault::{FaultKind, Stop};
 use sx_base::memory::Memory;
-use sx_base::name::{FrameNo, Label};
+use sx_base::name::Label;
 use sx_base::span::Span;
 use sx_core::binding::Binding;
 use sx_core::template::{Item, Template, TemplateNode};
 use sx_pattern::compile::{Compiled, PatternVariable};
 use sx_shapes::lists::parts_of;
 use sx_syntax::syn::{Opened, Syn};
-use sx_template::compile::compile_template;
+use sx_template::compile::{TemplateContext, compile_template};
 
 /// Whether all pattern variables of a template are in scope.
 #[cycle(has)]
@@ -80,29 +83,25 @@ impl Expansion {
     #[tactic(auto, unfolding(crate::specs::Patterns::bind_pattern_variable))]
     fn bind_pattern_variable(
         &mut self,
-        frame: &FrameNo,
-        place: &Span,
-        level: u32,
+        context: &BinderContext,
         variable: &PatternVariable,
     ) -> Result<(), Stop>
-        ensures { GivesAfter (λ _. tt) result self.new (bind_pattern_variable frame.now place.now level variable.now self.old) }
+        ensures { GivesAfter (λ _. tt) result self.new (bind_pattern_variable context.now.frame.now context.now.place.now context.now.level variable.now self.old) }
     {
-        self.bind_row(frame, &variable.id, &variable.label, place)?;
-        self.put_pattern_variable(&variable.label, level, variable.depth)
+        self.bind_row(context.frame, &variable.id, &variable.label, context.place)?;
+        self.put_pattern_variable(&variable.label, context.level, variable.depth)
     }
 
-    /// Binds the variables of a pattern in a frame.
+    /// Binds the variables of a pattern.
     pub fn bind_pattern(
         &mut self,
-        frame: &FrameNo,
-        place: &Span,
-        level: u32,
+        context: &BinderContext,
         variables: &[PatternVariable],
     ) -> Result<(), Stop>
-        ensures { GivesAfter (λ _. tt) result self.new (bind_pattern frame.now place.now level variables.now self.old) }
+        ensures { GivesAfter (λ _. tt) result self.new (bind_pattern context.now.frame.now context.now.place.now context.now.level variables.now self.old) }
     {
         for variable in variables {
-            self.bind_pattern_variable(frame, place, level, variable)?;
+            self.bind_pattern_variable(context, variable)?;
         }
         Ok(())
     }
@@ -173,20 +172,27 @@ impl Expansion {
         Ok(None)
     }
 
+    /// The template of a form at a level, in scope or not.
+    fn compiled_template(&self, form: &Syn, place: &Span, level: u32) -> Result<Template, Stop>
+        ensures { Gives (λ t. t) result (compiled (record { frames = self.now.frames; bindings = self.now.bindings; level = level; place = place.now }) form.now) }
+    {
+        let context = TemplateContext {
+            alloc: self.alloc,
+            frames: self.stage.frames(),
+            bindings: &self.bindings,
+            level,
+            place,
+        };
+        compile_template(&context, form)
+    }
+
     /// The template of a form at a level (libraries report 12.4). Where it has no other fault, it is
     /// `OutOfContext` at the first pattern variable that isn't in scope.
     #[tactic(auto, unfolding(crate::specs::Patterns::template_of))]
     pub fn template(&mut self, form: &Syn, place: &Span, level: u32) -> Result<Template, Stop>
         ensures { GivesAfter (λ t. t) result self.new (template_of place.now level form.now self.old) }
     {
-        let template = compile_template(
-            self.alloc,
-            form,
-            place,
-            self.stage.frames(),
-            &self.bindings,
-            level,
-        )?;
+        let template = self.compiled_template(form, place, level)?;
         if has_variables(&self.scope, &template) {
             return Ok(template);
         }

@@ -5,12 +5,14 @@ ghost use Rattle.sx_base.specs.Act.{GivesAfter};
 ghost use Rattle.sx_standing.specs.RecordUses.{defines_type, count_record_type, record_tree, record_marked, use_record};
 
 use crate::expansion::Expansion;
+use crate::uses::UsedForm;
 use std::sync::ledger::Ledger;
 use sx_base::fault::Stop;
-use sx_base::name::{FrameNo, Mark};
+use sx_base::name::Mark;
 use sx_base::span::Span;
 use sx_base::steps::Steps;
 use sx_core::core_form::CoreForm;
+use sx_records::context::RecordContext;
 use sx_records::forms::record_forms;
 use sx_records::names::record_uid;
 use sx_syntax::syn::Syn;
@@ -50,21 +52,26 @@ impl Expansion {
         ensures { GivesAfter (λ t. t) result self.now (record_tree place.now form.now which before self.now) }
     {
         let uid = record_uid(self.alloc, self.library(), form, before)?;
-        record_forms(self.alloc, form, which, place, &uid, self.frames())
+        let context = RecordContext {
+            alloc: self.alloc,
+            frames: self.frames(),
+            place,
+            uid: &uid,
+        };
+        record_forms(&context, form, which)
     }
 
     #[tactic(auto, unfolding(crate::specs::RecordUses::record_marked))]
     fn record_marked<N: Ledger>(
         &mut self,
-        form: &Syn,
+        used: UsedForm,
         which: CoreForm,
-        frame: Option<FrameNo>,
         mark: Mark,
-        place: &Span,
         nodes: &mut Steps<N>,
     ) -> Result<Syn, Stop>
-        ensures { GivesAfter (λ t. t) result self.new (record_marked place.now form.now which frame mark self.old) }
+        ensures { GivesAfter (λ t. t) result self.new (record_marked used.entry.place.now used.entry.form.now which used.entry.frame mark self.old) }
     {
+        let UsedForm { form, frame, place } = used;
         let before = self.count_record_type(which)?;
         let entered = form.enter(self.alloc, mark.share()?, nodes)?;
         let made = self.record_tree(&entered, which, before, place)?;
@@ -72,20 +79,18 @@ impl Expansion {
         Ok(left)
     }
 
-    /// What comes of a use of a record form, at a place, with the frame of a body where it stands in one. Its faults
-    /// are those of `record_forms`. The uses are counted by the caller; nothing is evaluated.
+    /// What comes of a use of a record form. Its faults are those of `record_forms`. The uses are counted by the
+    /// caller; nothing is evaluated.
     #[tactic(auto, unfolding(crate::specs::RecordUses::use_record))]
     pub fn use_record<N: Ledger>(
         &mut self,
-        form: &Syn,
+        used: UsedForm,
         which: CoreForm,
-        frame: Option<FrameNo>,
-        place: &Span,
         nodes: &mut Steps<N>,
     ) -> Result<Syn, Stop>
-        ensures { GivesAfter (λ t. t) result self.new (use_record place.now form.now which frame self.old) }
+        ensures { GivesAfter (λ t. t) result self.new (use_record used.entry.place.now used.entry.form.now which used.entry.frame self.old) }
     {
         let mark = Mark(self.fresh()?);
-        self.record_marked(form, which, frame, mark, place, nodes)
+        self.record_marked(used, which, mark, nodes)
     }
 }

@@ -136,6 +136,17 @@ fn names_of(library: &Rc<LibName>) -> Result<Names, Memory>
     Ok(names)
 }
 
+/// What a library is expanded in.
+#[derive(Drop)]
+pub struct Environment<'a> {
+    /// The records of a run.
+    pub earlier: &'a ReadyRecords,
+    /// Which of them the library needs.
+    pub needs: &'a [bool],
+    /// The names that it imports, with their labels.
+    pub imports: &'a [(Symbol, Label)],
+}
+
 /// What an expansion begins with, but for the codes.
 #[derive(Drop)]
 struct Beginning {
@@ -149,16 +160,15 @@ struct Beginning {
 #[tactic(auto, using(crate::proofs::Adopted::adopted_append))]
 fn first_frames(
     alloc: Global,
-    earlier: &ReadyRecords,
+    environment: &Environment,
     marks: Rc<Items<bool>>,
     records: &[FrameRow],
     frame: &FrameNo,
-    imports: &[(Symbol, Label)],
 ) -> Result<Frames, Memory>
-    ensures { IfOk result (λ fs. fs ≡ adopted [] (rows_of (needed_records marks.value earlier.now) ++ (records.now ++ map (import_row frame.now) imports.now))) }
+    ensures { IfOk result (λ fs. fs ≡ adopted [] (rows_of (needed_records marks.value environment.now.earlier.now) ++ (records.now ++ map (import_row frame.now) environment.now.imports.now))) }
 {
-    let mut frames = earlier.frames(alloc, marks)?;
-    adopt_both(alloc, &mut frames, records, frame, imports)?;
+    let mut frames = environment.earlier.frames(alloc, marks)?;
+    adopt_both(alloc, &mut frames, records, frame, environment.imports)?;
     Ok(frames)
 }
 
@@ -166,22 +176,20 @@ fn first_frames(
 fn begin_over(
     alloc: Global,
     library: LibName,
-    earlier: &ReadyRecords,
-    needs: &[bool],
-    imports: &[(Symbol, Label)],
+    environment: &Environment,
     records: &[FrameRow],
 ) -> Result<Beginning, Memory>
     ensures library { IfOk result (λ b. b.library.value ≡ library) }
     ensures names { IfOk result (λ b. b.names ≡ second_name library) }
-    ensures frames { IfOk result (λ b. b.frames ≡ adopted [] (rows_of (needed_records needs.now earlier.now) ++ (records.now ++ map (import_row (first_frame library)) imports.now))) }
-    ensures bindings { IfOk result (λ b. b.bindings ≡ bindings_of (needed_records needs.now earlier.now)) }
+    ensures frames { IfOk result (λ b. b.frames ≡ adopted [] (rows_of (needed_records environment.now.needs.now environment.now.earlier.now) ++ (records.now ++ map (import_row (first_frame library)) environment.now.imports.now))) }
+    ensures bindings { IfOk result (λ b. b.bindings ≡ bindings_of (needed_records environment.now.needs.now environment.now.earlier.now)) }
 {
     let library = Rc::new(alloc, library)?;
     let names = names_of(&library)?;
     let frame = frame_of(&library)?;
-    let marks = marks_of(alloc, needs)?;
-    let bindings = earlier.bindings(alloc, marks.clone()?)?;
-    let frames = first_frames(alloc, earlier, marks, records, &frame, imports)?;
+    let marks = marks_of(alloc, environment.needs)?;
+    let bindings = environment.earlier.bindings(alloc, marks.clone()?)?;
+    let frames = first_frames(alloc, environment, marks, records, &frame)?;
     Ok(Beginning {
         library,
         names,
@@ -190,20 +198,14 @@ fn begin_over(
     })
 }
 
-fn begin(
-    alloc: Global,
-    library: LibName,
-    earlier: &ReadyRecords,
-    needs: &[bool],
-    imports: &[(Symbol, Label)],
-) -> Result<Beginning, Memory>
+fn begin(alloc: Global, library: LibName, environment: &Environment) -> Result<Beginning, Memory>
     ensures library { IfOk result (λ b. b.library.value ≡ library) }
     ensures names { IfOk result (λ b. b.names ≡ second_name library) }
-    ensures frames { IfOk result (λ b. b.frames ≡ adopted [] (rows_of (needed_records needs.now earlier.now) ++ (record_frame ++ map (import_row (first_frame library)) imports.now))) }
-    ensures bindings { IfOk result (λ b. b.bindings ≡ bindings_of (needed_records needs.now earlier.now)) }
+    ensures frames { IfOk result (λ b. b.frames ≡ adopted [] (rows_of (needed_records environment.now.needs.now environment.now.earlier.now) ++ (record_frame ++ map (import_row (first_frame library)) environment.now.imports.now))) }
+    ensures bindings { IfOk result (λ b. b.bindings ≡ bindings_of (needed_records environment.now.needs.now environment.now.earlier.now)) }
 {
     let records = record_frame(alloc)?;
-    begin_over(alloc, library, earlier, needs, imports, records.as_slice())
+    begin_over(alloc, library, environment, records.as_slice())
 }
 
 /// The state before the first form. It takes no memory.
@@ -252,21 +254,18 @@ fn expansion_with(
 }
 
 impl Expansion {
-    /// The state that the expansion of a library begins with. The records before the library are those of the
-    /// earlier ones that are marked, and the imports are names with their labels. The codes are those of procedures
-    /// that are texts. Two imports of one name are refused as want of memory is.
+    /// The state that the expansion of a library begins with. The codes are those of procedures that are texts. Two
+    /// imports of one name are refused as want of memory is.
     #[tactic(auto, unfolding(crate::specs::Start::started))]
     pub fn start(
         alloc: Global,
         library: LibName,
-        earlier: &ReadyRecords,
-        needs: &[bool],
-        imports: &[(Symbol, Label)],
+        environment: &Environment,
         codes: IndexMap<CodeNo, Rc<Code>>,
     ) -> Result<Expansion, Memory>
-        ensures { IfOk result (λ e. e ≡ started library (needed_records needs.now earlier.now) imports.now (table.seen codes.entries)) }
+        ensures { IfOk result (λ e. e ≡ started library (needed_records environment.now.needs.now environment.now.earlier.now) environment.now.imports.now (table.seen codes.entries)) }
     {
-        match begin(alloc, library, earlier, needs, imports) {
+        match begin(alloc, library, environment) {
             Ok(beginning) => Ok(expansion_with(alloc, beginning, codes)),
             Err(memory) => Err(memory),
         }

@@ -8,7 +8,7 @@ ghost use Rattle.sx_stage.specs.Transformers as stage;
 ghost use Rattle.sx_standing.specs.State.{on_stage};
 ghost use Rattle.sx_standing.specs.Uses.{macro_expression, use_keyword, asks_variable, put_keyword, bind_keyword_as, bind_keyword, bind_keywords, finish_keyword};
 
-use crate::binders::BoundSpec;
+use crate::binders::{BinderContext, BoundSpec};
 use crate::expansion::Expansion;
 use crate::means::{Counts, Means};
 use std::sync::ledger::Ledger;
@@ -22,7 +22,27 @@ use sx_core::code::Core;
 use sx_shapes::at::place_of;
 use sx_shapes::lists::is_id;
 use sx_shapes::shape::BindingSpec;
+use sx_stage::context::StageContext;
+use sx_stage::earlier::Earlier;
+use sx_stage::uses::MacroUse;
 use sx_syntax::syn::Syn;
+
+/// A form that is used.
+#[derive(Drop)]
+pub struct UsedForm<'a> {
+    pub form: &'a Syn,
+    /// That of the body, where the use stands in one.
+    pub frame: Option<FrameNo>,
+    /// Where a form without a span stands, and faults of evaluation.
+    pub place: &'a Span,
+}
+
+/// A keyword that waits for its expression, which stands at the place.
+#[derive(Drop)]
+pub struct KeywordAt<'a> {
+    pub label: &'a Label,
+    pub place: &'a Span,
+}
 
 impl Expansion {
     /// How many uses of keywords are left.
@@ -54,32 +74,35 @@ impl Expansion {
         }
     }
 
-    /// What comes of a use of a keyword, with the frame of a body where it stands in one. Faults of evaluation
-    /// stand at the place.
+    /// What comes of a use of a keyword.
     #[tactic(auto, unfolding(crate::specs::Uses::use_keyword), using(crate::proofs::Staged::staged_gives))]
     pub fn use_keyword<N: Ledger, L: Ledger>(
         &mut self,
-        form: &Syn,
-        place: &Span,
+        used: UsedForm,
         label: &Label,
-        frame: Option<FrameNo>,
         means: &Means,
         counts: &mut Counts<N, L>,
     ) -> Result<Syn, Stop>
-        ensures { GivesAfter (λ t. t) result self.new (use_keyword (earlier_in means.now.earlier) place.now form.now label.now frame self.old) }
+        ensures { GivesAfter (λ t. t) result self.new (use_keyword (earlier_in means.now.earlier) used.entry.place.now used.entry.form.now label.now used.entry.frame self.old) }
     {
+        let UsedForm { form, frame, place } = used;
         let expression = self.macro_expression(label)?;
-        self.stage.used(
-            &means.earlier,
+        let earlier = Earlier {
+            records: means.earlier.records,
+            needs: means.earlier.needs,
+        };
+        let context = StageContext {
+            earlier,
+            prims: means.prims,
             place,
+        };
+        let one = MacroUse {
             form,
             label,
-            &expression,
+            expression: &expression,
             frame,
-            means.prims,
-            counts.nodes,
-            counts.steps,
-        )
+        };
+        self.stage.used(&context, one, counts.nodes, counts.steps)
     }
 
     /// Whether an assignment to a keyword is a use of it.
@@ -94,14 +117,17 @@ impl Expansion {
         ensures { GivesAfter (λ b. b) result self.new (asks_variable (earlier_in means.now.earlier) place.now label.now self.old) }
     {
         let expression = self.macro_expression(label)?;
-        self.stage.is_variable_transformer(
-            &means.earlier,
+        let earlier = Earlier {
+            records: means.earlier.records,
+            needs: means.earlier.needs,
+        };
+        let context = StageContext {
+            earlier,
+            prims: means.prims,
             place,
-            label,
-            &expression,
-            means.prims,
-            counts.steps,
-        )
+        };
+        self.stage
+            .is_variable_transformer(&context, label, &expression, counts.steps)
     }
 
     fn put_keyword(&mut self, label: &Label, level: u32) -> Result<(), Stop>
@@ -127,18 +153,16 @@ impl Expansion {
 
     fn bind_keyword_as(
         &mut self,
-        frame: &FrameNo,
-        place: &Span,
-        level: u32,
+        context: &BinderContext,
         spec: &BindingSpec,
         name: Name,
     ) -> Result<BoundSpec, Stop>
-        ensures { GivesAfter (λ b. b) result self.new (bind_keyword_as frame.now place.now level spec.now name self.old) }
+        ensures { GivesAfter (λ b. b) result self.new (bind_keyword_as context.now.frame.now context.now.place.now context.now.level spec.now name self.old) }
     {
         let label = Label(name);
-        self.bind_row(frame, &spec.id, &label, place)?;
-        self.put_keyword(&label, level)?;
-        let at = place_of(&spec.init, place)?;
+        self.bind_row(context.frame, &spec.id, &label, context.place)?;
+        self.put_keyword(&label, context.level)?;
+        let at = place_of(&spec.init, context.place)?;
         self.begin_keyword(&label, &at)?;
         let init = spec.init.share()?;
         Ok(BoundSpec { label, init })
@@ -148,57 +172,55 @@ impl Expansion {
     #[tactic(auto, unfolding(crate::specs::Uses::bind_keyword))]
     pub fn bind_keyword(
         &mut self,
-        frame: &FrameNo,
-        place: &Span,
-        level: u32,
+        context: &BinderContext,
         spec: &BindingSpec,
     ) -> Result<BoundSpec, Stop>
-        ensures { GivesAfter (λ b. b) result self.new (bind_keyword frame.now place.now level spec.now self.old) }
+        ensures { GivesAfter (λ b. b) result self.new (bind_keyword context.now.frame.now context.now.place.now context.now.level spec.now self.old) }
     {
         if !is_id(self.alloc, &spec.id)? {
-            return Err(self.fault_form(FaultKind::BadForm, &spec.id, place));
+            return Err(self.fault_form(FaultKind::BadForm, &spec.id, context.place));
         }
         let name = self.fresh()?;
-        self.bind_keyword_as(frame, place, level, spec, name)
+        self.bind_keyword_as(context, spec, name)
     }
 
     /// Binds the keywords of `let-syntax` or `letrec-syntax` in order.
     pub fn bind_keywords(
         &mut self,
-        frame: &FrameNo,
-        place: &Span,
-        level: u32,
+        context: &BinderContext,
         specs: &[BindingSpec],
     ) -> Result<Items<BoundSpec>, Stop>
-        ensures { GivesAfter (λ bs. bs) result self.new (bind_keywords frame.now place.now level specs.now self.old) }
+        ensures { GivesAfter (λ bs. bs) result self.new (bind_keywords context.now.frame.now context.now.place.now context.now.level specs.now self.old) }
     {
         let mut done = Items::new(self.alloc);
         for spec in specs {
-            let one = self.bind_keyword(frame, place, level, spec)?;
+            let one = self.bind_keyword(context, spec)?;
             done.push(one)?;
         }
         Ok(done)
     }
 
-    /// Evaluates the expression of a keyword, which stands at the place, and keeps what it gives.
+    /// Evaluates the expression of a keyword, and keeps what it gives.
     #[tactic(auto, unfolding(crate::specs::Uses::finish_keyword), using(crate::proofs::Staged::staged_gives))]
     pub fn finish_keyword<N: Ledger, L: Ledger>(
         &mut self,
-        place: &Span,
-        label: &Label,
+        keyword: &KeywordAt,
         code: Core,
         means: &Means,
         counts: &mut Counts<N, L>,
     ) -> Result<(), Stop>
-        ensures { GivesAfter (λ _. tt) result self.new (finish_keyword (earlier_in means.now.earlier) place.now label.now code self.old) }
+        ensures { GivesAfter (λ _. tt) result self.new (finish_keyword (earlier_in means.now.earlier) keyword.now.place.now keyword.now.label.now code self.old) }
     {
-        self.stage.finish_keyword(
-            &means.earlier,
-            place,
-            label,
-            code,
-            means.prims,
-            counts.steps,
-        )
+        let earlier = Earlier {
+            records: means.earlier.records,
+            needs: means.earlier.needs,
+        };
+        let context = StageContext {
+            earlier,
+            prims: means.prims,
+            place: keyword.place,
+        };
+        self.stage
+            .finish_keyword(&context, label, code, counts.steps)
     }
 }

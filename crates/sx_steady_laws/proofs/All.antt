@@ -12,7 +12,7 @@ use Rattle.sx_core_laws.specs.Records.{defined}
 use Rattle.sx_shapes.specs.At.{place_of}
 use Rattle.sx_standing.specs.State.{State}
 use Rattle.sx_standing.specs.Uses.{asks_variable}
-use Rattle.sx_heads.specs.Depth.{deeper}
+use Rattle.sx_heads.specs.Depth.{deeper, most_round}
 use Rattle.sx_heads.specs.Plan.{plan_of}
 use Rattle.sx_heads.specs.declared.plan.Plan.{Plan}
 use Rattle.sx_heads.specs.declared.plan.Plan.TheVariants as plans
@@ -112,7 +112,7 @@ module _ (own : LibName) (texts : List CodeNo) (rs : List LibRecord) (x : Around
     pub form-goes : (place : Span) (level depth : ℕ) (t : Tree) (s : State) → Bs s → S s → Sure (R s) (form_at inner place level depth t s)
     unfolding form_at
     form-goes place level depth t s b h =
-        sure-if (R s) (nat_lt 600 depth) _ (after (settle inner.earlier place level t s) (perform_settled inner level depth)) (λ e. tt)
+        sure-if (R s) (nat_lt most_round depth) _ (after (settle inner.earlier place level t s) (perform_settled inner level depth)) (λ e. tt)
         (λ e. go own texts rs s (settle inner.earlier place level t s) (perform_settled inner level depth)
         (subst (λ (qs : List LibRecord). Sure (R s) (settle qs place level t s)) (sym holds.earlier) (settle-goes level s.uses_left place t s b h))
         (λ d u g. performs d.place level depth d.form d.plan u g.onward.0 g.safe))

@@ -106,7 +106,7 @@ module _ (own : LibName) (texts : List CodeNo) (rs : List LibRecord) where
 
   pattern-is : (literals : List Tree) (place : Span) (t : Tree) (s : State) → Sure (λ (c : Compiled) u. u ≡ record s { names = u.names }) (pattern_of literals place t s)
   unfolding stage_patterns.pattern_of
-  pattern-is literals place t s = by (patterns.compiled s.frames literals place t s.names) (patterns_say.says-compiled s.frames literals place t s.names)
+  pattern-is literals place t s = by (patterns.compiled (record { frames = s.frames; literals = literals; place = place }) t s.names) (patterns_say.says-compiled (record { frames = s.frames; literals = literals; place = place }) t s.names)
     where
       by : (r : Result (Compiled × Named) Fault) → Says r → Sure (λ (c : Compiled) u. u ≡ record s { names = u.names }) (staged s (stage_patterns.named (stage_of s) r))
       by (Ok p) h = refl

@@ -13,7 +13,7 @@ use Rattle.sx_shapes.specs.declared.shape.BindingSpec.{BindingSpec}
 use Rattle.sx_standing.specs.State.{State, fault_word}
 use Rattle.sx_standing.specs.Uses.{asks_variable, bind_keyword}
 use Rattle.sx_standing.specs.declared.binders.BoundSpec.{BoundSpec}
-use Rattle.sx_heads.specs.Depth.{deeper}
+use Rattle.sx_heads.specs.Depth.{deeper, most_round}
 use Rattle.sx_heads.specs.Items.{any_changed, heads_like, is_mixed, is_top, keyword_in_time, define_keyword, item_plan}
 use Rattle.sx_heads.specs.declared.item.Item.{Item}
 use Rattle.sx_heads.specs.declared.item.Item.TheVariants as items
@@ -176,7 +176,7 @@ module _ (own : LibName) (texts : List CodeNo) (rs : List LibRecord) (x : Around
     pub item-goes : (at : BodyAt) (depth : ℕ) (d : Taken) (t : Tree) (s : State) → Low at → Bs s → S s → W s d → Sure (λ e u. Goes own texts rs s u × W u e) (item inner at depth d t s)
     unfolding item
     item-goes at depth d t s low b h k =
-        sure-if (λ e u. Goes own texts rs s u × W u e) (nat_lt 600 depth) _ (after (settle_item inner.earlier at depth d t s) (expand_body.perform_settled inner depth)) (λ e. tt)
+        sure-if (λ e u. Goes own texts rs s u × W u e) (nat_lt most_round depth) _ (after (settle_item inner.earlier at depth d t s) (expand_body.perform_settled inner depth)) (λ e. tt)
         (λ e. sure-after (Settled depth at s) (λ e u. Goes own texts rs s u × W u e) (settle_item inner.earlier at depth d t s) (expand_body.perform_settled inner depth)
         (subst (λ (qs : List LibRecord). Sure (Settled depth at s) (settle_item qs at depth d t s)) (sym holds.earlier) (settle-goes depth s.uses_left at d t s low b h k))
         (λ p u g. subst (λ (other : BodyAt). Sure (λ e v. Goes own texts rs s v × W v e) (perform_item inner other depth p.0 p.1.form p.1.item u)) (sym g.1.1.1)

@@ -31,7 +31,7 @@ use Rattle.sx_heads.specs.Items.{begun}
 use Rattle.sx_heads.specs.declared.taken.Taken.{Taken}
 use Rattle.sx_expand.specs.Body.{splice, finish_all}
 use Rattle.sx_expand.specs.Expanding.{ready, body_of}
-use Rattle.sx_expand.specs.Expression.{inside}
+use Rattle.sx_expand.specs.Expression.{inside, full_room}
 use Rattle.sx_expand.specs.Inside.{Inside}
 use Rattle.sx_expand.specs.Top.{stands_for, export, all_exports, exports, give_record, record_in, body_at, finished, first_pass, top}
 use Rattle.sx_expand.specs.declared.top.TopAt.{TopAt}
@@ -150,8 +150,8 @@ expansions_never_stuck own path records imports version place exports forms code
     let around : Around own numbers records = record { new = ready_for.new; no_text = no_text; texts_only = texts_only own records codes texts; behind = behind } in
     let at = body_of (ready own path records imports codes) version place in
     let s = started own records imports codes in
-    by (top (inside records 602) at exports forms s)
-    (top-fine own numbers records around (inside records 602) (inside-holds own numbers records around 602) at exports forms s refl (started-begins own records imports codes ready_for) (started-safe own records codes texts imports))
+    by (top (inside records full_room) at exports forms s)
+    (top-fine own numbers records around (inside records full_room) (inside-holds own numbers records around full_room) at exports forms s refl (started-begins own records imports codes ready_for) (started-safe own records codes texts imports))
   where
     by : (r : Result (LibRecord × State) Fault) → Sure (λ a u. Unit {0}) r → IsNotStuck (record_in r)
     by (Ok p) h = tt

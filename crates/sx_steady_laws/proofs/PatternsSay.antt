@@ -10,7 +10,7 @@ use Rattle.sx_scope.specs.Stands.{stands}
 use Rattle.sx_core.specs.Pattern.{PlainPattern}
 use Rattle.sx_core.specs.declared.core_form.CoreForm.TheVariants as form
 use Rattle.sx_core_laws.specs.Words.{Each}
-use Rattle.sx_pattern.specs.Compile.{Taken, may_be_literal, literals_checked, is_literal, is_known, new_variable, leaf_pattern, no_parts, with_repeated, Element, next_ellipsis, repeated_part, element, step, walked, vector_with, pattern, element_patterns, tail_pattern, with_variables, compiled}
+use Rattle.sx_pattern.specs.Compile.{Context, Taken, may_be_literal, literals_checked, is_literal, is_known, new_variable, leaf_pattern, no_parts, with_repeated, Element, next_ellipsis, repeated_part, element, step, walked, vector_with, pattern, element_patterns, tail_pattern, with_variables, compiled}
 use Rattle.sx_pattern.specs.Keywords.{is_form}
 use Rattle.sx_steady_laws.proofs.Says.{Says, says-if, says-then, says-after}
 
@@ -21,58 +21,58 @@ says-literals fs place (t ∷ ts) = says-if (may_be_literal fs t) _ _ (says-lite
 abbrev Quiet : Element → Type 0
 Quiet x = (depth : ℕ) (s : Taken) → Says (x.1 depth s)
 
-module _ (fs : Scope) (ls : List Tree) (place : Span) where
-  says-leaf : (t : Tree) (depth : ℕ) (s : Taken) → Says (leaf_pattern fs ls place t depth s)
+module _ (c : Context) where
+  says-leaf : (t : Tree) (depth : ℕ) (s : Taken) → Says (leaf_pattern c t depth s)
   says-leaf t depth s =
-      says-if (is_form form.Ellipsis (stands fs t)) _ _ tt
-      (says-if (is_form form.Underscore (stands fs t)) _ _ tt (says-if (is_literal ls t) _ (new_variable place t depth s) tt (says-if (is_known s.0 t) _ _ tt tt)))
+      says-if (is_form form.Ellipsis (stands c.frames t)) _ _ tt
+      (says-if (is_form form.Underscore (stands c.frames t)) _ _ tt (says-if (is_literal c.literals t) _ (new_variable c.place t depth s) tt (says-if (is_known s.0 t) _ _ tt tt)))
 
-  says-repeated : (e : Tree) (o : Option PlainPattern) (parts : _) (p : PlainPattern) → Says (with_repeated place e o parts p)
+  says-repeated : (e : Tree) (o : Option PlainPattern) (parts : _) (p : PlainPattern) → Says (with_repeated c.place e o parts p)
   says-repeated e None parts p = tt
   says-repeated e (Some r) parts p = tt
 
-  says-element : (depth : ℕ) (x : Element) (o : Option Tree) (parts : _) (s : Taken) → Quiet x → Says (element place depth x o parts s)
+  says-element : (depth : ℕ) (x : Element) (o : Option Tree) (parts : _) (s : Taken) → Quiet x → Says (element c.place depth x o parts s)
   says-element depth x None parts s h = says-after (x.1 depth s) _ (h depth s) (λ p u. tt)
   says-element depth x (Some e) parts s h =
-      says-after (x.1 (depth + 1) s) (repeated_part place e parts) (h (depth + 1) s) (λ p u. says-then (with_repeated place e parts.repeated parts p) (λ more. Ok ((true, more), u)) (says-repeated e parts.repeated parts p) (λ more. tt))
+      says-after (x.1 (depth + 1) s) (repeated_part c.place e parts) (h (depth + 1) s) (λ p u. says-then (with_repeated c.place e parts.repeated parts p) (λ more. Ok ((true, more), u)) (says-repeated e parts.repeated parts p) (λ more. tt))
 
-  says-step : (depth : ℕ) (skips : Bool) (x : Element) (o : Option Tree) (parts : _) (s : Taken) → Quiet x → Says (step place depth skips x o parts s)
+  says-step : (depth : ℕ) (skips : Bool) (x : Element) (o : Option Tree) (parts : _) (s : Taken) → Quiet x → Says (step c.place depth skips x o parts s)
   says-step depth true x o parts s h = tt
   says-step depth false x o parts s h = says-element depth x o parts s h
 
-  says-walked : (depth : ℕ) (skips : Bool) (parts : _) (xs : List Element) (s : Taken) → Each Quiet xs → Says (walked fs place depth skips parts xs s)
+  says-walked : (depth : ℕ) (skips : Bool) (parts : _) (xs : List Element) (s : Taken) → Each Quiet xs → Says (walked c depth skips parts xs s)
   says-walked depth skips parts [] s h = tt
   says-walked depth skips parts (x ∷ xs) s h =
-      says-after (step place depth skips x (next_ellipsis fs xs) parts s) (λ w. walked fs place depth w.0 w.1 xs) (says-step depth skips x (next_ellipsis fs xs) parts s h.0) (λ w u. says-walked depth w.0 w.1 xs u h.1)
+      says-after (step c.place depth skips x (next_ellipsis c.frames xs) parts s) (λ w. walked c depth w.0 w.1 xs) (says-step depth skips x (next_ellipsis c.frames xs) parts s h.0) (λ w u. says-walked depth w.0 w.1 xs u h.1)
 
-  says-vector : (depth : ℕ) (xs : List Element) (s : Taken) → Each Quiet xs → Says (vector_with (walked fs place depth false no_parts xs) s)
-  says-vector depth xs s h = says-after (walked fs place depth false no_parts xs s) _ (says-walked depth false no_parts xs s h) (λ parts u. tt)
+  says-vector : (depth : ℕ) (xs : List Element) (s : Taken) → Each Quiet xs → Says (vector_with (walked c depth false no_parts xs) s)
+  says-vector depth xs s h = says-after (walked c depth false no_parts xs s) _ (says-walked depth false no_parts xs s h) (λ parts u. tt)
 
   mutual
-    says-pattern : (t : Tree) (depth : ℕ) (s : Taken) → Says (pattern fs ls place t depth s)
+    says-pattern : (t : Tree) (depth : ℕ) (s : Taken) → Says (pattern c t depth s)
     says-pattern (tree.atom p a) depth s = tt
-    says-pattern (tree.leaf p x c) depth s = says-leaf (tree.leaf p x c) depth s
+    says-pattern (tree.leaf p x k) depth s = says-leaf (tree.leaf p x k) depth s
     says-pattern (tree.pair p a d) depth s =
-        says-after (walked fs place depth false no_parts ((a, pattern fs ls place a) ∷ element_patterns fs ls place d) s) _ (says-walked depth false no_parts ((a, pattern fs ls place a) ∷ element_patterns fs ls place d) s (says-pattern a, says-elements d))
-        (λ parts u. says-after (tail_pattern fs ls place d depth u) _ (says-tail d depth u) (λ q v. tt))
-    says-pattern (tree.vector p d) depth s = says-vector depth (element_patterns fs ls place d) s (says-elements d)
+        says-after (walked c depth false no_parts ((a, pattern c a) ∷ element_patterns c d) s) _ (says-walked depth false no_parts ((a, pattern c a) ∷ element_patterns c d) s (says-pattern a, says-elements d))
+        (λ parts u. says-after (tail_pattern c d depth u) _ (says-tail d depth u) (λ q v. tt))
+    says-pattern (tree.vector p d) depth s = says-vector depth (element_patterns c d) s (says-elements d)
 
-    says-elements : (t : Tree) → Each Quiet (element_patterns fs ls place t)
+    says-elements : (t : Tree) → Each Quiet (element_patterns c t)
     says-elements (tree.atom p a) = tt
-    says-elements (tree.leaf p x c) = tt
+    says-elements (tree.leaf p x k) = tt
     says-elements (tree.pair p a d) = (says-pattern a, says-elements d)
     says-elements (tree.vector p d) = tt
 
-    says-tail : (t : Tree) (depth : ℕ) (s : Taken) → Says (tail_pattern fs ls place t depth s)
+    says-tail : (t : Tree) (depth : ℕ) (s : Taken) → Says (tail_pattern c t depth s)
     says-tail (tree.atom p a) depth s = tt
-    says-tail (tree.leaf p x c) depth s = says-leaf (tree.leaf p x c) depth s
+    says-tail (tree.leaf p x k) depth s = says-leaf (tree.leaf p x k) depth s
     says-tail (tree.pair p a d) depth s = says-tail d depth s
-    says-tail (tree.vector p d) depth s = says-vector depth (element_patterns fs ls place d) s (says-elements d)
+    says-tail (tree.vector p d) depth s = says-vector depth (element_patterns c d) s (says-elements d)
 
   says-variables : (r : Result (PlainPattern × Taken) Fault) → Says r → Says (with_variables r)
   says-variables (Ok p) h = tt
   says-variables (Err f) h = h
 
-  pub says-compiled : (t : Tree) (names : Named) → Says (compiled fs ls place t names)
+  pub says-compiled : (t : Tree) (names : Named) → Says (compiled c t names)
   says-compiled t names =
-      says-then (literals_checked fs place ls) (λ _. with_variables (pattern fs ls place t 0 ([], names))) (says-literals fs place ls) (λ _. says-variables (pattern fs ls place t 0 ([], names)) (says-pattern t 0 ([], names)))
+      says-then (literals_checked c.frames c.place c.literals) (λ _. with_variables (pattern c t 0 ([], names))) (says-literals c.frames c.place c.literals) (λ _. says-variables (pattern c t 0 ([], names)) (says-pattern t 0 ([], names)))

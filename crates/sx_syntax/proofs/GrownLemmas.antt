@@ -166,3 +166,18 @@ pub vector_node : (b : Spans) (s : Sample) (p q : Option Span) (ds es : List Pla
 vector_node b s p q ds es d e g i =
     let grown = grown_tree b s in
     ap grown (sym i) ∙ grown-vector b s p ds ∙ ap (λ r. vector r (chain (map grown ds) nil)) (sym g) ∙ ap (λ xs. vector q (chain (map grown xs) nil)) (sym e)
+
+-- the empty list behind the last element
+pub nil_end : (b : Spans) (s : Sample) (t : PlainDatum) → IsTrue (datum.is_tail t) → datum.is_nil t ≡ true → nil ≡ grown_tree b s t
+nil_end spans.Keep s (datum.atom None Nil) h n = refl
+nil_end spans.Leave s (datum.atom None Nil) h n = refl
+nil_end b s (datum.atom (Some p) Nil) h n = absurd (cc)
+nil_end b s (datum.atom p (Boolean x)) h n = absurd (cc)
+nil_end b s (datum.atom p (Int x)) h n = absurd (cc)
+nil_end b s (datum.atom p (Spelt x)) h n = absurd (cc)
+nil_end b s (datum.atom p (Char x)) h n = absurd (cc)
+nil_end b s (datum.atom p (Str x)) h n = absurd (cc)
+nil_end b s (datum.atom p (Bytes x)) h n = absurd (cc)
+nil_end b s (datum.symbol p x) h n = absurd (cc)
+nil_end b s (datum.pair p d e) h n = absurd (cc)
+nil_end b s (datum.vector p d) h n = absurd (cc)

@@ -1,7 +1,7 @@
 -- A list that becomes longer by one element.
 use Rattle.std.specs.Prelude.{◌≡◌, ℕ, ◌+◌, ◌≤◌, max, Option, None, Some}
 use Rattle.sx_tree.specs.Tree.{Tree}
-use Rattle.sx_tree.specs.Measures.{Fits}
+use Rattle.sx_tree.specs.Measures.{Fits, max_height, max_size}
 use Rattle.sx_syntax.specs.KeptView.{IsExtent}
 use Rattle.sx_syntax.specs.declared.kept.Extent.{Extent}
 
@@ -18,5 +18,5 @@ abbrev pub grown_size : Extent → Extent → ℕ → ℕ
 grown_size element rest joint = element.size + (rest.size + joint)
 
 abbrev pub Grows : Option Extent → ℕ → ℕ → Type 0
-Grows None h n = ¬ ((h ≤ 1000) × (n ≤ 16777216))
-Grows (Some e) h n = (e.height ≡ h) × (e.size ≡ n) × (h ≤ 1000) × (n ≤ 16777216)
+Grows None h n = ¬ ((h ≤ max_height) × (n ≤ max_size))
+Grows (Some e) h n = (e.height ≡ h) × (e.size ≡ n) × (h ≤ max_height) × (n ≤ max_size)

@@ -15,16 +15,49 @@ use crate::kept::{Kept, Shape};
 use crate::pairs::empty_list;
 use crate::wrap::Wrap;
 use std::alloc::Global;
+use std::marker::Model;
 use sx_base::datum::{self, Datum};
 use sx_base::fault::BareStop;
 use sx_base::memory::Memory;
 use sx_base::span::{Span, share_span};
 use sx_base::symbol::Symbol;
 
-/// What new leaves take from a leaf: its marks and stamps.
+/// The empty list without a span, made once for all lists of a datum to end in.
+#[derive(Drop)]
+pub(crate) struct End {
+    nil: Kept,
+}
+
+impl Model for End {
+    ghost use Rattle.std.specs.Prelude.{◌≡◌};
+    ghost use Rattle.sx_tree.specs.Tree.{nil};
+
+    ghost Value = { Unit {0} };
+
+    ghost view = { λ e. tt };
+
+    ghost invariant = { λ e. e.nil ≡ nil };
+}
+
+impl End {
+    fn new(alloc: Global) -> Result<End, Memory> {
+        let nil = empty_list(alloc)?;
+        Ok(End { nil })
+    }
+
+    /// Another owner of it.
+    fn share(&self) -> Result<Kept, Memory>
+        ensures { IfOk result (λ k. k ≡ nil) }
+    {
+        self.nil.share()
+    }
+}
+
+/// What new leaves take from a leaf, its marks and stamps, and what new lists end in.
 #[derive(Drop)]
 pub(crate) struct Sample {
     base: Base,
+    end: End,
 }
 
 /// Whether a tree has the spans of its datum.
@@ -47,12 +80,12 @@ impl Spans {
 
 impl Sample {
     /// No marks and no stamps.
-    pub(crate) fn blank() -> Sample
-        ensures { sample_context result ≡ blank }
+    pub(crate) fn blank(alloc: Global) -> Result<Sample, Memory>
+        ensures { IfOk result (λ s. sample_context s ≡ blank) }
     {
-        Sample {
-            base: Base::blank(),
-        }
+        let base = Base::blank();
+        let end = End::new(alloc)?;
+        Ok(Sample { base, end })
     }
 
     /// The leaf of this symbol.
@@ -71,7 +104,8 @@ impl Kept {
         ensures { IfOk result (λ s. sample_context s ≡ context_of self.now) }
     {
         let base = self.context(alloc)?;
-        Ok(Sample { base })
+        let end = End::new(alloc)?;
+        Ok(Sample { base, end })
     }
 }
 
@@ -135,7 +169,7 @@ fn from_vector(
     ensures tree { IfOk result (λ k. k ≡ vector span (chain (map (grown_tree spans sample.now) items.now) nil)) }
     ensures refused { IfErr result (λ e. Refuses e (Fits (chain (map (grown_tree spans sample.now) items.now) nil))) }
 {
-    let end = empty_list(alloc)?;
+    let end = sample.end.share()?;
     let list = data_before(alloc, spans, sample, items, end)?;
     let kept = list.into_vector(alloc, span)?;
     Ok(kept)
@@ -149,6 +183,10 @@ fn from_end(alloc: Global, spans: Spans, sample: &Sample, tail: &Datum) -> Resul
     ensures rest { IfOk result (λ k. IsRest k) }
     ensures refused { IfErr result (λ e. Refuses e (Fits (grown_tree spans sample.now tail.now))) }
 {
+    if tail.is_nil() {
+        let nil = sample.end.share()?;
+        return Ok(nil);
+    }
     from_datum(alloc, spans, sample, tail)
 }
 

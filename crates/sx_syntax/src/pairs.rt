@@ -4,7 +4,7 @@ ghost use Rattle.std.specs.Prelude.{◌≡◌, ◌<◌, ◌≤◌, [], None, IfO
 ghost use Rattle.sx_base.specs.declared.fault.BareStop.TheVariants as stop;
 ghost use Rattle.sx_tree.specs.Tree.{pair, vector, chain, nil, rest_of};
 ghost use Rattle.sx_tree.specs.Changes.{changed};
-ghost use Rattle.sx_tree.specs.Measures.{Fits, joint, too_deep};
+ghost use Rattle.sx_tree.specs.Measures.{Fits, joint, too_deep, max_height, max_size};
 ghost use Rattle.sx_syntax.specs.Kept.{IsRest, IsElements};
 ghost use Rattle.sx_syntax.specs.KeptView.{IsExtent};
 ghost use Rattle.sx_syntax.specs.Pairs.{Extends, Grows, grown_height, grown_size};
@@ -36,7 +36,7 @@ pub(crate) fn too_deep(alloc: Global) -> BareStop
 
 /// The extent of a list with one more element before the others, within the limits.
 fn grown(element: Extent, rest: Extent, joint: u32) -> Option<Extent>
-    requires rest { (rest.height ≤ 1000) × (rest.size ≤ 16777216) }
+    requires rest { (rest.height ≤ max_height) × (rest.size ≤ max_size) }
     requires joint { joint ≤ 1 }
     ensures { Grows result (grown_height element rest joint) (grown_size element rest joint) }
 {

@@ -37,7 +37,8 @@ impl Kept {
             }
             Shape::Pair(_, first, rest) => { strip_list(alloc, span, first, rest) }
             Shape::Vector(_, elements) => {
-                let items = strip_elements(alloc, elements)?;
+                let mut items = strip_elements(alloc, elements)?;
+                items.shrink_to_fit();
                 Ok(Datum {
                     span,
                     node: datum::Node::Vector(items),
@@ -53,7 +54,8 @@ fn strip_list(alloc: Global, span: Option<Span>, first: &Kept, rest: &Kept) -> R
     requires { IsRest rest.now }
     ensures { IfOk result (λ d. d ≡ datum.pair span (strip first.now) (strip rest.now)) }
 {
-    let (items, tail) = strip_along(alloc, first, rest)?;
+    let (mut items, tail) = strip_along(alloc, first, rest)?;
+    items.shrink_to_fit();
     let tail = Box::new(alloc, tail)?;
     Ok(Datum {
         span,

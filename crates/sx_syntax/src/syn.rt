@@ -332,7 +332,8 @@ impl Syn {
     pub fn of_datum(alloc: Global, datum: &Datum) -> Result<Syn, BareStop>
         ensures { BareGives (λ t. t) result (within (tree_of blank datum.now)) }
     {
-        grown(alloc, Spans::Keep, &Sample::blank(), datum)
+        let sample = Sample::blank(alloc)?;
+        grown(alloc, Spans::Keep, &sample, datum)
     }
 
     /// The tree of a datum, without spans: its symbols are leaves with the marks and stamps of this

@@ -26,6 +26,7 @@ use Rattle.sx_pattern.specs.Keywords.{is_form, is_ellipsis}
 use Rattle.sx_template.specs.declared.compile.Made.{Made}
 use Rattle.sx_template.specs.declared.compile.Made.TheVariants.{Fixed, Varied}
 use Rattle.sx_template.specs.declared.compile.MadeItem.{MadeItem}
+use Rattle.sx_template.specs.declared.compile.TemplateContext.{TemplateContext}
 
 -- what is known round a template: frames, bindings, the level of the template, and the place round it
 pub record Context : Type 0 where
@@ -33,6 +34,9 @@ pub record Context : Type 0 where
   pub bindings : List (Label × Binding)
   pub level : ℕ
   pub place : Span
+
+abbrev pub seen : TemplateContext → Context
+seen c = record { frames = c.frames.now; bindings = c.bindings.now; level = c.level; place = c.place.now }
 
 abbrev pub bad : Span → Tree → Fault
 bad place t = fault_at kind.BadTemplate t place []

@@ -1,7 +1,7 @@
 //! Templates of forms.
 
 ghost use Rattle.std.specs.Prelude.{◌≡◌, ◌++◌, ◌∷◌, [], false, true, drop, option_map, IfOk, OnOk};
-ghost use Rattle.sx_base.specs.Gives.{Gives};
+ghost use Rattle.sx_base.specs.Gives.{Gives, StopsWith};
 ghost use Rattle.sx_tree.specs.Tree.{is_pair, span_of, spanned, list_of, vector_of};
 ghost use Rattle.sx_tree.specs.Measures.{within};
 ghost use Rattle.sx_core.specs.Template.{list, vector};
@@ -10,7 +10,7 @@ ghost use Rattle.sx_core.specs.Bindings.{bound_to};
 ghost use Rattle.sx_scope.specs.Stands.{stands};
 ghost use Rattle.sx_shapes.specs.Lists.{tail_of, elements};
 ghost use Rattle.sx_template.specs.declared.compile.Made.TheVariants.{Fixed, Varied};
-ghost use Rattle.sx_template.specs.Compile.{variable_made, bound_made, label_made, is_special, leaf_made, dot_count, first_label, reach, fitted, item_made, constant_of, template_of, items_of, reaches, is_fixed, all_fixed, is_changed, any_changed, tree_before, trees, StopsAt, rebuilt, fixed_list, list_joined, fixed_vector, vector_joined, unescaped, template, with_template, forms_walked, escaped_form, list_template, escaped_template, vector_template, compiled};
+ghost use Rattle.sx_template.specs.Compile.{seen, bad, variable_made, bound_made, label_made, is_special, leaf_made, dot_count, first_label, reach, fitted, item_made, constant_of, template_of, items_of, reaches, is_fixed, all_fixed, is_changed, any_changed, tree_before, trees, StopsAt, rebuilt, fixed_list, list_joined, fixed_vector, vector_joined, unescaped, template, with_template, forms_walked, escaped_form, list_template, escaped_template, vector_template, compiled};
 
 use std::alloc::Global;
 use sx_base::fault::{Bare, BareStop, Fault, FaultKind, Stop};
@@ -29,6 +29,35 @@ use sx_shapes::at::{fault_at, place_of};
 use sx_shapes::lists::{is_nil, parts_of};
 use sx_syntax::syn::{Opened, Syn};
 
+/// What forms are read with as templates.
+#[derive(Drop)]
+pub struct TemplateContext<'a> {
+    pub alloc: Global,
+    /// They say what identifiers stand for.
+    pub frames: &'a Frames,
+    /// They say which labels are those of pattern variables.
+    pub bindings: &'a KnownBindings,
+    /// The level of the template, which is that of its pattern variables.
+    pub level: u32,
+    /// Where a form without a span stands.
+    pub place: &'a Span,
+}
+
+/// An identifier of a template, and its symbol.
+#[derive(Drop)]
+pub(crate) struct Identifier<'a> {
+    pub(crate) form: &'a Syn,
+    pub(crate) symbol: &'a Symbol,
+}
+
+/// A pattern variable, as it is bound.
+#[derive(Drop)]
+pub(crate) struct Variable {
+    pub(crate) label: Label,
+    pub(crate) level: u32,
+    pub(crate) depth: u32,
+}
+
 /// What is made of a form.
 #[derive(Drop)]
 pub(crate) enum Made {
@@ -36,6 +65,16 @@ pub(crate) enum Made {
     Fixed(bool, Syn),
     /// A template, and how many ellipses behind it have a variable of depth before them.
     Varied(Template, u32),
+}
+
+/// An element of a list or vector.
+#[derive(Drop)]
+pub(crate) struct Element<'a> {
+    pub(crate) form: &'a Syn,
+    /// The label that the form stands for.
+    pub(crate) label: Option<Label>,
+    /// The ellipses behind it.
+    pub(crate) ellipses: &'a [Syn],
 }
 
 /// What is made of an element, and how many ellipses stand behind it.
@@ -52,75 +91,80 @@ pub(crate) struct MadeItem {
 /// form, stands first or as tail; what comes first is the fault. A list of just an ellipsis and a form
 /// is that form, in which ellipses have no meaning. Whether a variable is in scope isn't looked at. Parts
 /// without pattern variables lose their spans, so that a fault at one has the place of the use.
-pub fn compile_template(
-    alloc: Global,
-    form: &Syn,
-    place: &Span,
-    frames: &Frames,
-    bindings: &KnownBindings,
-    level: u32,
-) -> Result<Template, Stop>
-    ensures { Gives (λ t. t) result (compiled (record { frames = frames.now; bindings = bindings.now; level = level; place = place.now }) form.now) }
+pub fn compile_template(context: &TemplateContext, form: &Syn) -> Result<Template, Stop>
+    ensures { Gives (λ t. t) result (compiled (seen context.now) form.now) }
 {
-    let label = label_of(form, frames)?;
-    let made = template(alloc, form, label, false, 0, place, frames, bindings, level)?;
-    let template = template_of(alloc, made)?;
+    let label = label_of(form, context.frames)?;
+    let made = template(context, form, label, false, 0)?;
+    let template = template_of(context.alloc, made)?;
     Ok(template)
 }
 
-fn variable_made(
-    alloc: Global,
-    form: &Syn,
-    symbol: &Symbol,
-    under: u64,
-    label: Label,
-    own_level: u32,
-    depth: u32,
-    place: &Span,
-    frames: &Frames,
-    bindings: &KnownBindings,
-    level: u32,
-) -> Result<Made, Stop>
-    ensures { Gives (λ m. m) result (variable_made (record { frames = frames.now; bindings = bindings.now; level = level; place = place.now }) under symbol.now form.now label own_level depth) }
+/// `BadTemplate` at a form.
+fn bad_template(context: &TemplateContext, form: &Syn) -> Stop
+    ensures { StopsWith result (bad context.now.place.now form.now) }
 {
-    if own_level != level {
-        return Err(fault_at(alloc, FaultKind::OutOfContext, form, place, Some(symbol)));
+    fault_at(
+        context.alloc,
+        FaultKind::BadTemplate,
+        form,
+        context.place,
+        None,
+    )
+}
+
+fn variable_made(
+    context: &TemplateContext,
+    id: &Identifier,
+    under: u64,
+    variable: Variable,
+) -> Result<Made, Stop>
+    ensures { Gives (λ m. m) result (variable_made (seen context.now) under id.now.symbol.now id.now.form.now variable.label variable.level variable.depth) }
+{
+    let Variable {
+        label,
+        level,
+        depth,
+    } = variable;
+    if level != context.level {
+        return Err(fault_at(
+            context.alloc,
+            FaultKind::OutOfContext,
+            id.form,
+            context.place,
+            Some(id.symbol),
+        ));
     }
     if under < u64::from(depth) {
-        return Err(fault_at(alloc, FaultKind::BadTemplate, form, place, None));
+        return Err(bad_template(context, id.form));
     }
     let node = TemplateNode::Variable(label, depth);
     Ok(Made::Varied(Template { node }, depth))
 }
 
 fn label_made(
-    alloc: Global,
-    form: &Syn,
-    symbol: &Symbol,
+    context: &TemplateContext,
+    id: &Identifier,
     under: u64,
     label: Option<Label>,
-    place: &Span,
-    frames: &Frames,
-    bindings: &KnownBindings,
-    level: u32,
 ) -> Result<Made, Stop>
-    ensures { Gives (λ m. m) result (label_made (record { frames = frames.now; bindings = bindings.now; level = level; place = place.now }) under symbol.now form.now label) }
+    ensures { Gives (λ m. m) result (label_made (seen context.now) under id.now.symbol.now id.now.form.now label) }
 {
     let Some(label) = label else {
-        let form = form.share()?;
+        let form = id.form.share()?;
         return Ok(Made::Fixed(false, form));
     };
-    match bindings.get(&label) {
-        Some(
-            Binding::PatternVariable {
-                level: own_level,
-                depth,
-            },
-        ) => variable_made(
-            alloc, form, symbol, under, label, *own_level, *depth, place, frames, bindings, level,
-        ),
+    match context.bindings.get(&label) {
+        Some(Binding::PatternVariable { level, depth }) => {
+            let variable = Variable {
+                label,
+                level: *level,
+                depth: *depth,
+            };
+            variable_made(context, id, under, variable)
+        }
         _ => {
-            let form = form.share()?;
+            let form = id.form.share()?;
             Ok(Made::Fixed(false, form))
         }
     }
@@ -135,28 +179,21 @@ fn is_special(escaped: bool, label: &Option<Label>) -> bool
     is_form(CoreForm::Ellipsis, label)
 }
 
-/// What is made of a leaf that stands for this.
+/// What is made of an identifier that stands for this.
 fn leaf_made(
-    alloc: Global,
-    form: &Syn,
-    symbol: &Symbol,
+    context: &TemplateContext,
+    id: &Identifier,
     label: Option<Label>,
     escaped: bool,
     under: u64,
-    place: &Span,
-    frames: &Frames,
-    bindings: &KnownBindings,
-    level: u32,
 ) -> Result<Made, Stop>
-    requires { label ≡ stands frames.now form.now }
-    ensures { Gives (λ m. m) result (leaf_made (record { frames = frames.now; bindings = bindings.now; level = level; place = place.now }) escaped symbol.now form.now under) }
+    requires { label ≡ stands context.now.frames.now id.now.form.now }
+    ensures { Gives (λ m. m) result (leaf_made (seen context.now) escaped id.now.symbol.now id.now.form.now under) }
 {
     if is_special(escaped, &label) {
-        return Err(fault_at(alloc, FaultKind::BadTemplate, form, place, None));
+        return Err(bad_template(context, id.form));
     }
-    label_made(
-        alloc, form, symbol, under, label, place, frames, bindings, level,
-    )
+    label_made(context, id, under, label)
 }
 
 /// The label that a form stands for. What is no leaf stands for none, and isn't opened where its height tells so.
@@ -215,14 +252,13 @@ fn reach(made: &Made) -> u32
 }
 
 /// An item with the ellipses behind it, each of which must have a variable of depth before it.
-fn fitted(alloc: Global, made: Made, ellipses: &[Syn], place: &Span) -> Result<MadeItem, Stop>
-    ensures { Gives (λ i. i) result (fitted place.now ellipses.now made) }
+fn fitted(context: &TemplateContext, made: Made, ellipses: &[Syn]) -> Result<MadeItem, Stop>
+    ensures { Gives (λ i. i) result (fitted context.now.place.now ellipses.now made) }
 {
     let reach = reach(&made);
     let count = ellipses.len();
     if (reach as usize) < count {
-        let ellipsis = &ellipses[reach as usize];
-        return Err(fault_at(alloc, FaultKind::BadTemplate, ellipsis, place, None));
+        return Err(bad_template(context, &ellipses[reach as usize]));
     }
     Ok(MadeItem {
         made,
@@ -358,65 +394,58 @@ fn fixed_again(alloc: Global, form: &Syn, tree: &Syn) -> Result<Made, Memory>
 
 #[tactic(auto, using(crate::proofs::Places::rebuilt_stops))]
 fn list_again(
-    alloc: Global,
+    context: &TemplateContext,
     form: &Syn,
-    place: &Span,
     trees: Vec<Syn>,
     tail: Syn,
 ) -> Result<Made, Stop>
-    ensures { Gives (λ m. m) result (rebuilt place.now form.now (within (list_of trees.items (Some tail)))) }
+    ensures { Gives (λ m. m) result (rebuilt context.now.place.now form.now (within (list_of trees.items (Some tail)))) }
 {
-    match Syn::list(alloc, trees, Some(tail)) {
+    match Syn::list(context.alloc, trees, Some(tail)) {
         Ok(tree) => {
-            let made = fixed_again(alloc, form, &tree)?;
+            let made = fixed_again(context.alloc, form, &tree)?;
             Ok(made)
         }
-        Err(stop) => Err(stopped_at(stop, form, place)),
+        Err(stop) => Err(stopped_at(stop, form, context.place)),
     }
 }
 
 #[tactic(auto, using(crate::proofs::Places::rebuilt_stops))]
-fn vector_again(alloc: Global, form: &Syn, place: &Span, trees: Vec<Syn>) -> Result<Made, Stop>
-    ensures { Gives (λ m. m) result (rebuilt place.now form.now (within (vector_of trees.items))) }
+fn vector_again(context: &TemplateContext, form: &Syn, trees: Vec<Syn>) -> Result<Made, Stop>
+    ensures { Gives (λ m. m) result (rebuilt context.now.place.now form.now (within (vector_of trees.items))) }
 {
-    match Syn::vector(alloc, trees) {
+    match Syn::vector(context.alloc, trees) {
         Ok(tree) => {
-            let made = fixed_again(alloc, form, &tree)?;
+            let made = fixed_again(context.alloc, form, &tree)?;
             Ok(made)
         }
-        Err(stop) => Err(stopped_at(stop, form, place)),
+        Err(stop) => Err(stopped_at(stop, form, context.place)),
     }
 }
 
 fn fixed_list(
-    alloc: Global,
+    context: &TemplateContext,
     form: &Syn,
-    place: &Span,
     items: Items<MadeItem>,
     changed: bool,
     tail: Syn,
 ) -> Result<Made, Stop>
-    ensures { Gives (λ m. m) result (fixed_list place.now form.now items changed tail) }
+    ensures { Gives (λ m. m) result (fixed_list context.now.place.now form.now items changed tail) }
 {
     if changed || any_changed(items.as_slice()) {
-        let trees = trees_of(alloc, items)?;
-        return list_again(alloc, form, place, trees, tail);
+        let trees = trees_of(context.alloc, items)?;
+        return list_again(context, form, trees, tail);
     }
     let form = form.share()?;
     Ok(Made::Fixed(false, form))
 }
 
-fn fixed_vector(
-    alloc: Global,
-    form: &Syn,
-    place: &Span,
-    items: Items<MadeItem>,
-) -> Result<Made, Stop>
-    ensures { Gives (λ m. m) result (fixed_vector place.now form.now items) }
+fn fixed_vector(context: &TemplateContext, form: &Syn, items: Items<MadeItem>) -> Result<Made, Stop>
+    ensures { Gives (λ m. m) result (fixed_vector context.now.place.now form.now items) }
 {
     if any_changed(items.as_slice()) {
-        let trees = trees_of(alloc, items)?;
-        return vector_again(alloc, form, place, trees);
+        let trees = trees_of(context.alloc, items)?;
+        return vector_again(context, form, trees);
     }
     let form = form.share()?;
     Ok(Made::Fixed(false, form))
@@ -438,26 +467,25 @@ fn varied_list(
 
 /// What is made of a list, from what is made of its elements and of what ends it.
 fn list_joined(
-    alloc: Global,
+    context: &TemplateContext,
     form: &Syn,
-    place: &Span,
     items: Items<MadeItem>,
     tail: Made,
 ) -> Result<Made, Stop>
-    ensures { Gives (λ m. m) result (list_joined place.now form.now items tail) }
+    ensures { Gives (λ m. m) result (list_joined context.now.place.now form.now items tail) }
 {
     let reach = reaches(items.as_slice());
     match tail {
         Made::Varied(tail, own) => {
-            let made = varied_list(alloc, items, tail, reach.max(own))?;
+            let made = varied_list(context.alloc, items, tail, reach.max(own))?;
             Ok(made)
         }
         Made::Fixed(changed, tail) => {
             if all_fixed(items.as_slice()) {
-                return fixed_list(alloc, form, place, items, changed, tail);
+                return fixed_list(context, form, items, changed, tail);
             }
-            let tail = constant_of(alloc, &tail)?;
-            let made = varied_list(alloc, items, tail, reach)?;
+            let tail = constant_of(context.alloc, &tail)?;
+            let made = varied_list(context.alloc, items, tail, reach)?;
             Ok(made)
         }
     }
@@ -465,18 +493,17 @@ fn list_joined(
 
 /// What is made of a vector, from what is made of its elements.
 fn vector_joined(
-    alloc: Global,
+    context: &TemplateContext,
     form: &Syn,
-    place: &Span,
     items: Items<MadeItem>,
 ) -> Result<Made, Stop>
-    ensures { Gives (λ m. m) result (vector_joined place.now form.now items) }
+    ensures { Gives (λ m. m) result (vector_joined context.now.place.now form.now items) }
 {
     if all_fixed(items.as_slice()) {
-        return fixed_vector(alloc, form, place, items);
+        return fixed_vector(context, form, items);
     }
     let reach = reaches(items.as_slice());
-    let list = items_of(alloc, items)?;
+    let list = items_of(context.alloc, items)?;
     let node = TemplateNode::Vector(list);
     Ok(Made::Varied(Template { node }, reach))
 }
@@ -515,134 +542,97 @@ fn escaped_form<'a>(
 /// What is made of a form that stands for this, round which so many ellipses stand.
 #[cycle(template)]
 fn template(
-    alloc: Global,
+    context: &TemplateContext,
     form: &Syn,
     label: Option<Label>,
     escaped: bool,
     under: u64,
-    place: &Span,
-    frames: &Frames,
-    bindings: &KnownBindings,
-    level: u32,
 ) -> Result<Made, Stop>
-    requires { label ≡ stands frames.now form.now }
-    ensures { Gives (λ m. m) result (template (record { frames = frames.now; bindings = bindings.now; level = level; place = place.now }) form.now escaped under) }
+    requires { label ≡ stands context.now.frames.now form.now }
+    ensures { Gives (λ m. m) result (template (seen context.now) form.now escaped under) }
 {
-    match form.open(alloc)? {
+    match form.open(context.alloc)? {
         Opened::Atom(_) => {
             let form = form.share()?;
             Ok(Made::Fixed(false, form))
         }
-        Opened::Symbol(symbol) => leaf_made(
-            alloc, form, &symbol, label, escaped, under, place, frames, bindings, level,
-        ),
-        Opened::Pair(_, _) => {
-            list_template(alloc, form, escaped, under, place, frames, bindings, level)
+        Opened::Symbol(symbol) => {
+            let id = Identifier {
+                form,
+                symbol: &symbol,
+            };
+            leaf_made(context, &id, label, escaped, under)
         }
-        Opened::Vector(forms) => vector_template(
-            alloc, form, &forms, escaped, under, place, frames, bindings, level,
-        ),
+        Opened::Pair(_, _) => list_template(context, form, escaped, under),
+        Opened::Vector(forms) => vector_template(context, form, &forms, escaped, under),
     }
 }
 
 #[cycle(template)]
 fn vector_template(
-    alloc: Global,
+    context: &TemplateContext,
     form: &Syn,
     forms: &[Syn],
     escaped: bool,
     under: u64,
-    place: &Span,
-    frames: &Frames,
-    bindings: &KnownBindings,
-    level: u32,
 ) -> Result<Made, Stop>
-    ensures { Gives (λ m. m) result (vector_template (record { frames = frames.now; bindings = bindings.now; level = level; place = place.now }) form.now forms.now escaped under) }
+    ensures { Gives (λ m. m) result (vector_template (seen context.now) form.now forms.now escaped under) }
 {
-    let first = first_label(forms, frames)?;
-    let items = elements(
-        alloc, forms, first, escaped, under, place, frames, bindings, level,
-    )?;
-    vector_joined(alloc, form, place, items)
+    let first = first_label(forms, context.frames)?;
+    let items = elements(context, forms, first, escaped, under)?;
+    vector_joined(context, form, items)
 }
 
 #[cycle(template)]
 #[tactic(auto, using(crate::proofs::Levels::list_escaped, crate::proofs::Levels::list_plain, crate::proofs::Sizes::escaped_smaller, sx_pattern::proofs::Sizes::elements_within, sx_pattern::proofs::Sizes::tail_smaller))]
 fn list_template(
-    alloc: Global,
+    context: &TemplateContext,
     form: &Syn,
     escaped: bool,
     under: u64,
-    place: &Span,
-    frames: &Frames,
-    bindings: &KnownBindings,
-    level: u32,
 ) -> Result<Made, Stop>
     requires { is_pair form.now ≡ true }
-    ensures { Gives (λ m. m) result (template (record { frames = frames.now; bindings = bindings.now; level = level; place = place.now }) form.now escaped under) }
+    ensures { Gives (λ m. m) result (template (seen context.now) form.now escaped under) }
 {
-    let parts = parts_of(alloc, form)?;
-    let ends = is_nil(alloc, &parts.tail)?;
-    let first = first_label(parts.elements.as_slice(), frames)?;
+    let parts = parts_of(context.alloc, form)?;
+    let ends = is_nil(context.alloc, &parts.tail)?;
+    let first = first_label(parts.elements.as_slice(), context.frames)?;
     if let Some(inner) = escaped_form(parts.elements.as_slice(), &first, escaped, ends) {
-        let label = label_of(inner, frames)?;
-        let made = template(
-            alloc, inner, label, true, under, place, frames, bindings, level,
-        )?;
+        let label = label_of(inner, context.frames)?;
+        let made = template(context, inner, label, true, under)?;
         return Ok(unescaped(made));
     }
-    let items = elements(
-        alloc,
-        parts.elements.as_slice(),
-        first,
-        escaped,
-        under,
-        place,
-        frames,
-        bindings,
-        level,
-    )?;
-    let last = label_of(&parts.tail, frames)?;
-    let tail = template(
-        alloc,
-        &parts.tail,
-        last,
-        escaped,
-        under,
-        place,
-        frames,
-        bindings,
-        level,
-    )?;
-    list_joined(alloc, form, place, items, tail)
+    let items = elements(context, parts.elements.as_slice(), first, escaped, under)?;
+    let last = label_of(&parts.tail, context.frames)?;
+    let tail = template(context, &parts.tail, last, escaped, under)?;
+    list_joined(context, form, items, tail)
 }
 
 /// What is made of the elements of a list or vector, of which the first stands for this.
 #[cycle(template)]
 #[tactic(auto, using(crate::proofs::Walks::forms_on, crate::proofs::Walks::forms_stop))]
 fn elements(
-    alloc: Global,
+    context: &TemplateContext,
     forms: &[Syn],
     first: Option<Label>,
     escaped: bool,
     under: u64,
-    place: &Span,
-    frames: &Frames,
-    bindings: &KnownBindings,
-    level: u32,
 ) -> Result<Items<MadeItem>, Stop>
-    requires { first ≡ first_label frames.now forms.now }
-    ensures { Gives (λ is. is) result (forms_walked (record { frames = frames.now; bindings = bindings.now; level = level; place = place.now }) escaped under forms.now) }
+    requires { first ≡ first_label context.now.frames.now forms.now }
+    ensures { Gives (λ is. is) result (forms_walked (seen context.now) escaped under forms.now) }
 {
-    let mut items = Items::new(alloc);
+    let mut items = Items::new(context.alloc);
     let mut label = first;
     let mut left = forms;
     while let Some((form, behind)) = left.split_first() {
-        let Ellipses { count, next } = ellipses_of(behind, escaped, frames)?;
+        let Ellipses { count, next } = ellipses_of(behind, escaped, context.frames)?;
         let (ellipses, after) = behind.split_at(count);
-        let made = item(
-            alloc, form, label, ellipses, escaped, under, place, frames, bindings, level,
-        )?;
+        let element = Element {
+            form,
+            label,
+            ellipses,
+        };
+        let made = item(context, element, escaped, under)?;
         items.push(made)?;
         label = next;
         left = after;
@@ -650,28 +640,25 @@ fn elements(
     Ok(items)
 }
 
-/// What is made of an element that stands for this, with the ellipses behind it.
+/// What is made of an element, with the ellipses behind it.
 #[cycle(template)]
 fn item(
-    alloc: Global,
-    form: &Syn,
-    label: Option<Label>,
-    ellipses: &[Syn],
+    context: &TemplateContext,
+    element: Element,
     escaped: bool,
     under: u64,
-    place: &Span,
-    frames: &Frames,
-    bindings: &KnownBindings,
-    level: u32,
 ) -> Result<MadeItem, Stop>
-    requires { label ≡ stands frames.now form.now }
-    ensures { Gives (λ i. i) result (item_made (record { frames = frames.now; bindings = bindings.now; level = level; place = place.now }) escaped under (with_template (record { frames = frames.now; bindings = bindings.now; level = level; place = place.now }) form.now) ellipses.now) }
+    requires { element.label ≡ stands context.now.frames.now element.form.now }
+    ensures { Gives (λ i. i) result (item_made (seen context.now) escaped under (with_template (seen context.now) element.entry.form.now) element.entry.ellipses.now) }
 {
+    let Element {
+        form,
+        label,
+        ellipses,
+    } = element;
     let Some(inner) = under.checked_add(ellipses.len() as u64) else {
         return Err(Stop::Memory);
     };
-    let made = template(
-        alloc, form, label, escaped, inner, place, frames, bindings, level,
-    )?;
-    fitted(alloc, made, ellipses, place)
+    let made = template(context, form, label, escaped, inner)?;
+    fitted(context, made, ellipses)
 }

@@ -3,21 +3,18 @@
 ghost use Rattle.std.specs.Prelude.{◌≡◌, ◌∷◌, [], None, decimal, IfOk};
 ghost use Rattle.sx_base.specs.Gives.{BareGives};
 ghost use Rattle.sx_value.specs.ToSyntax.{IsFaultOr};
-ghost use Rattle.sx_core.specs.Template.{variable};
 ghost use Rattle.sx_core.specs.TemplateView.{items};
 ghost use Rattle.sx_template.specs.Binds.{unbound};
 ghost use Rattle.sx_template.specs.Lengths.{lengths, items_lengths, differing, agree, or_none};
 
-use crate::binds::count_at;
+use crate::binds::{InstanceContext, count_at};
 use itoa::Buffer;
 use std::alloc::Global;
 use sx_base::fault::{Bare, BareStop, FaultKind};
 use sx_base::items::Items;
 use sx_base::memory::Memory;
-use sx_base::name::Label;
 use sx_base::symbol::Symbol;
 use sx_core::template::{Item, Template, TemplateNode};
-use sx_value::bind::Bind;
 
 fn number_word(alloc: Global, number: u64) -> Result<Symbol, Memory>
     ensures { IfOk result (λ s. s ≡ decimal number) }
@@ -63,71 +60,54 @@ fn agree_with(alloc: Global, so_far: Option<u64>, count: u64) -> Result<Option<u
     }
 }
 
-fn agree_at(
-    alloc: Global,
-    label: &Label,
-    depth: u32,
-    inside: u64,
-    turns: &[u64],
-    binds: &[(Label, Bind)],
-    so_far: Option<u64>,
-) -> Result<Option<u64>, BareStop>
-    ensures { BareGives (λ m. m) result (agree so_far (lengths unbound binds.now turns.now inside (variable label.now depth))) }
-{
-    let depth = u64::from(depth);
-    if inside < depth {
-        let outer = depth - inside - 1;
-        agree_with(alloc, so_far, count_at(binds, label, outer, turns))
-    } else {
-        Ok(so_far)
-    }
-}
-
 /// The one length of the variables of depth at an ellipsis, inside which so many others stand. It is
 /// `EllipsisLength` with the first two that differ, in order of place.
 #[cycle(agreed)]
 #[tactic(auto, using(crate::proofs::Agreed::agree_on, crate::proofs::Agreed::agree_stops))]
-pub fn agreed(
-    alloc: Global,
+pub(crate) fn agreed(
+    context: &InstanceContext,
     template: &Template,
     inside: u64,
     turns: &[u64],
-    binds: &[(Label, Bind)],
     so_far: Option<u64>,
 ) -> Result<Option<u64>, BareStop>
-    ensures { BareGives (λ m. m) result (agree so_far (lengths unbound binds.now turns.now inside template.now)) }
+    ensures { BareGives (λ m. m) result (agree so_far (lengths unbound context.now.binds.now turns.now inside template.now)) }
 {
     match &template.node {
         TemplateNode::Variable(label, depth) => {
-            agree_at(alloc, label, *depth, inside, turns, binds, so_far)
+            let depth = u64::from(*depth);
+            if depth <= inside {
+                return Ok(so_far);
+            }
+            let count = count_at(context.binds, label, depth - inside - 1, turns);
+            agree_with(context.alloc, so_far, count)
         }
         TemplateNode::Constant(_) => Ok(so_far),
         TemplateNode::List(list, tail) => {
-            let so_far = all_agreed(alloc, list, inside, turns, binds, so_far)?;
-            agreed(alloc, tail, inside, turns, binds, so_far)
+            let so_far = all_agreed(context, list, inside, turns, so_far)?;
+            agreed(context, tail, inside, turns, so_far)
         }
-        TemplateNode::Vector(list) => all_agreed(alloc, list, inside, turns, binds, so_far),
+        TemplateNode::Vector(list) => all_agreed(context, list, inside, turns, so_far),
     }
 }
 
 #[cycle(agreed)]
 #[tactic(auto, using(crate::proofs::Agreed::agreed_here, crate::proofs::Agreed::agreed_stops))]
 fn all_agreed(
-    alloc: Global,
+    context: &InstanceContext,
     list: &[Item],
     inside: u64,
     turns: &[u64],
-    binds: &[(Label, Bind)],
     so_far: Option<u64>,
 ) -> Result<Option<u64>, BareStop>
-    ensures { BareGives (λ m. m) result (agree so_far (items_lengths unbound binds.now turns.now inside (items list.now))) }
+    ensures { BareGives (λ m. m) result (agree so_far (items_lengths unbound context.now.binds.now turns.now inside (items list.now))) }
 {
     let mut so_far = so_far;
     for item in list {
         let Some(more) = inside.checked_add(u64::from(item.ellipses)) else {
             return Err(BareStop::Memory);
         };
-        so_far = agreed(alloc, &item.template, more, turns, binds, so_far)?;
+        so_far = agreed(context, &item.template, more, turns, so_far)?;
     }
     Ok(so_far)
 }

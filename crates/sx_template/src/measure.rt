@@ -6,6 +6,7 @@ ghost use Rattle.sx_template.specs.Binds.{unbound};
 ghost use Rattle.sx_template.specs.Instance.{counts};
 ghost use Rattle.sx_template.specs.Measure.{turns_cost, item_cost, measure, items_cost, sees, items_see, IsCost, Measures};
 
+use crate::binds::InstanceContext;
 use crate::instance::drop_last;
 use crate::lengths::agreed;
 use std::alloc::Global;
@@ -27,8 +28,9 @@ pub fn measure(
 ) -> Result<Option<u64>, BareStop>
     ensures { Measures result (measure unbound binds.now template.now []) }
 {
+    let context = InstanceContext { alloc, binds };
     let mut turns = Vec::new(alloc);
-    template_cost(alloc, template, binds, &mut turns)
+    template_cost(&context, template, &mut turns)
 }
 
 /// The sum of two costs.
@@ -99,23 +101,22 @@ fn items_see(list: &[Item], inside: u64) -> Result<bool, Memory>
 #[cycle(template_cost)]
 #[tactic(auto, using(crate::proofs::Measured::both, crate::proofs::Measured::stops_first, crate::proofs::Measured::stops_second))]
 fn template_cost(
-    alloc: Global,
+    context: &InstanceContext,
     template: &Template,
-    binds: &[(Label, Bind)],
     turns: &mut Vec<u64>,
 ) -> Result<Option<u64>, BareStop>
-    ensures cost { Measures result (measure unbound binds.now template.now turns.old.items) }
+    ensures cost { Measures result (measure unbound context.now.binds.now template.now turns.old.items) }
     ensures turns { OnOk result (turns.new.items ≡ turns.old.items) }
 {
     match &template.node {
         TemplateNode::Variable(_, _) => Ok(Some(0)),
         TemplateNode::Constant(_) => Ok(Some(0)),
         TemplateNode::List(list, tail) => {
-            let cost = items_cost(alloc, list, binds, turns)?;
-            let last = template_cost(alloc, tail, binds, turns)?;
+            let cost = items_cost(context, list, turns)?;
+            let last = template_cost(context, tail, turns)?;
             Ok(sum(cost, last))
         }
-        TemplateNode::Vector(list) => items_cost(alloc, list, binds, turns),
+        TemplateNode::Vector(list) => items_cost(context, list, turns),
     }
 }
 
@@ -123,17 +124,16 @@ fn template_cost(
 #[cycle(template_cost)]
 #[tactic(auto, using(crate::proofs::Measured::begun, crate::proofs::Measured::comes_to, crate::proofs::Measured::cost_end))]
 fn items_cost(
-    alloc: Global,
+    context: &InstanceContext,
     list: &[Item],
-    binds: &[(Label, Bind)],
     turns: &mut Vec<u64>,
 ) -> Result<Option<u64>, BareStop>
-    ensures cost { Measures result (items_cost unbound binds.now (items list.now) turns.old.items) }
+    ensures cost { Measures result (items_cost unbound context.now.binds.now (items list.now) turns.old.items) }
     ensures turns { OnOk result (turns.new.items ≡ turns.old.items) }
 {
     let mut total = Some(0);
     for part in list {
-        let cost = item_cost(alloc, &part.template, part.ellipses, binds, turns)?;
+        let cost = item_cost(context, &part.template, part.ellipses, turns)?;
         total = sum(total, cost);
     }
     Ok(total)
@@ -143,68 +143,58 @@ fn items_cost(
 #[cycle(template_cost)]
 #[tactic(auto, using(crate::proofs::Measured::both, crate::proofs::Measured::stops_first))]
 fn item_cost(
-    alloc: Global,
+    context: &InstanceContext,
     template: &Template,
     ellipses: u32,
-    binds: &[(Label, Bind)],
     turns: &mut Vec<u64>,
 ) -> Result<Option<u64>, BareStop>
-    ensures cost { Measures result (item_cost (measure unbound binds.now template.now) (counts unbound binds.now template.now) ellipses turns.old.items) }
+    ensures cost { Measures result (item_cost (measure unbound context.now.binds.now template.now) (counts unbound context.now.binds.now template.now) ellipses turns.old.items) }
     ensures turns { OnOk result (turns.new.items ≡ turns.old.items) }
 {
     if ellipses == 0 {
-        let cost = template_cost(alloc, template, binds, turns)?;
+        let cost = template_cost(context, template, turns)?;
         return Ok(sum(cost, Some(1)));
     }
     let inside = ellipses - 1;
-    let count = agreed(
-        alloc,
-        template,
-        u64::from(inside),
-        turns.as_slice(),
-        binds,
-        None,
-    )?;
-    turns_cost(alloc, template, inside, count.unwrap_or(0), binds, turns)
+    let count = agreed(context, template, u64::from(inside), turns.as_slice(), None)?;
+    turns_cost(context, template, inside, count.unwrap_or(0), turns)
 }
 
 /// The cost of the turns of an ellipsis, so many.
 #[cycle(template_cost)]
 fn turns_cost(
-    alloc: Global,
+    context: &InstanceContext,
     template: &Template,
     inside: u32,
     count: u64,
-    binds: &[(Label, Bind)],
     turns: &mut Vec<u64>,
 ) -> Result<Option<u64>, BareStop>
-    ensures cost { Measures result (turns_cost (item_cost (measure unbound binds.now template.now) (counts unbound binds.now template.now) inside) count 0 turns.old.items) }
+    ensures cost { Measures result (turns_cost (item_cost (measure unbound context.now.binds.now template.now) (counts unbound context.now.binds.now template.now) inside) count 0 turns.old.items) }
     ensures turns { OnOk result (turns.new.items ≡ turns.old.items) }
 {
     if sees(template, u64::from(inside))? {
-        return each_turn(alloc, template, inside, count, binds, turns);
+        return each_turn(context, template, inside, count, turns);
     }
-    like_turns(alloc, template, inside, count, binds, turns)
+    like_turns(context, template, inside, count, turns)
 }
 
 /// The cost of turns of which each costs what it costs.
 #[cycle(template_cost)]
 #[tactic(auto, using(crate::proofs::Measured::begun, crate::proofs::Measured::comes_to, crate::proofs::Measured::turn_end))]
 fn each_turn(
-    alloc: Global,
+    context: &InstanceContext,
     template: &Template,
     inside: u32,
     count: u64,
-    binds: &[(Label, Bind)],
     turns: &mut Vec<u64>,
 ) -> Result<Option<u64>, BareStop>
-    ensures cost { Measures result (turns_cost (item_cost (measure unbound binds.now template.now) (counts unbound binds.now template.now) inside) count 0 turns.old.items) }
+    ensures cost { Measures result (turns_cost (item_cost (measure unbound context.now.binds.now template.now) (counts unbound context.now.binds.now template.now) inside) count 0 turns.old.items) }
     ensures turns { OnOk result (turns.new.items ≡ turns.old.items) }
 {
     let mut total = Some(0);
     for turn in 0..count {
         turns.push(turn)?;
-        let cost = item_cost(alloc, template, inside, binds, turns)?;
+        let cost = item_cost(context, template, inside, turns)?;
         drop_last(turns);
         total = sum(total, cost);
     }
@@ -214,22 +204,21 @@ fn each_turn(
 /// The cost of turns that all cost the same.
 #[cycle(template_cost)]
 fn like_turns(
-    alloc: Global,
+    context: &InstanceContext,
     template: &Template,
     inside: u32,
     count: u64,
-    binds: &[(Label, Bind)],
     turns: &mut Vec<u64>,
 ) -> Result<Option<u64>, BareStop>
     requires { sees inside template.now ≡ false }
-    ensures cost { Measures result (turns_cost (item_cost (measure unbound binds.now template.now) (counts unbound binds.now template.now) inside) count 0 turns.old.items) }
+    ensures cost { Measures result (turns_cost (item_cost (measure unbound context.now.binds.now template.now) (counts unbound context.now.binds.now template.now) inside) count 0 turns.old.items) }
     ensures turns { OnOk result (turns.new.items ≡ turns.old.items) }
 {
     if count == 0 {
         return Ok(Some(0));
     }
     turns.push(0)?;
-    let cost = item_cost(alloc, template, inside, binds, turns)?;
+    let cost = item_cost(context, template, inside, turns)?;
     drop_last(turns);
     Ok(times(cost, count))
 }

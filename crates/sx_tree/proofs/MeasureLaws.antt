@@ -8,7 +8,7 @@ use Rattle.sx_base.specs.declared.span.Span.{Span}
 use Rattle.sx_base.specs.declared.fault.Bare.{Bare}
 use Rattle.sx_base.specs.declared.atom.Atom.TheVariants.{Nil, Bool as Boolean, Int, Spelt, Char, Str, Bytes}
 use Rattle.sx_tree.specs.Tree.{Tree, atom, leaf, pair, vector, nil, chain, spanned, unspanned, is_pair}
-use Rattle.sx_tree.specs.Measures.{joint, size, height, tail_part, greatest, Fits, within, too_deep}
+use Rattle.sx_tree.specs.Measures.{joint, size, height, tail_part, greatest, Fits, within, too_deep, max_height, max_size}
 use Rattle.sx_tree.specs.Changes.{changed}
 use Rattle.sx_tree.specs.declared.change.Change.{Change}
 use Rattle.sx_tree.proofs.TreeLaws.{is_list-changed, is_list-unspanned}
@@ -118,7 +118,7 @@ changed_fits xs t h = (rw (height-changed xs t) h.0, rw (size-changed xs t) h.1)
 both : (a b : Bool) → a ≡ true → b ≡ true → a && b ≡ true
 both a b p q = rw (p, q) refl
 
-neither : (h n : ℕ) (a b : Bool) → nat_le h 1000 ≡ a → nat_le n 16777216 ≡ b → ((h ≤ 1000) × (n ≤ 16777216) → ⊥) → a && b ≡ false
+neither : (h n : ℕ) (a b : Bool) → nat_le h max_height ≡ a → nat_le n max_size ≡ b → ((h ≤ max_height) × (n ≤ max_size) → ⊥) → a && b ≡ false
 neither h n true true p q f = absurd (f (grind (arith, nat_tests), grind (arith, nat_tests)))
 neither h n true false p q f = refl
 neither h n false b p q f = refl
@@ -127,10 +127,10 @@ pub within-fits : (t : Tree) → Fits t → within t ≡ Ok t
 unfolding within
 within-fits t h =
     ap (λ b. cond {A = Result Tree Bare} b (Ok t) (Err too_deep))
-    (both (nat_le (height t) 1000) (nat_le (size t) 16777216) (grind (arith, nat_tests, h.0)) (grind (arith, nat_tests, h.1)))
+    (both (nat_le (height t) max_height) (nat_le (size t) max_size) (grind (arith, nat_tests, h.0)) (grind (arith, nat_tests, h.1)))
 
 pub within-past : (t : Tree) → (Fits t → ⊥) → within t ≡ Err too_deep
 unfolding within
 within-past t h =
     ap (λ b. cond {A = Result Tree Bare} b (Ok t) (Err too_deep))
-    (neither (height t) (size t) (nat_le (height t) 1000) (nat_le (size t) 16777216) refl refl h)
+    (neither (height t) (size t) (nat_le (height t) max_height) (nat_le (size t) max_size) refl refl h)

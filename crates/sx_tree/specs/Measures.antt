@@ -30,12 +30,19 @@ abbrev pub greatest : List ℕ → ℕ
 greatest [] = 0
 greatest (n ∷ ns) = max n (greatest ns)
 
+-- how high a tree may be, and how many parts it may have
+abbrev pub max_height : ℕ
+max_height = 1000
+
+abbrev pub max_size : ℕ
+max_size = 16777216
+
 -- within the limits of a tree
 abbrev pub Fits : Tree → Type 0
-Fits t = (height t ≤ 1000) × (size t ≤ 16777216)
+Fits t = (height t ≤ max_height) × (size t ≤ max_size)
 
 abbrev pub fits : Tree → Bool
-fits t = nat_le (height t) 1000 && nat_le (size t) 16777216
+fits t = nat_le (height t) max_height && nat_le (size t) max_size
 
 abbrev pub too_deep : Bare
 too_deep = record { kind = kind.TooDeep; words = [] }

@@ -7,6 +7,7 @@ use Rattle.std.proofs.lemmas.Grind.{flat_map-append}
 use Rattle.sx_base.specs.declared.library.LibName.{LibName}
 use Rattle.sx_base.specs.declared.library.LibName.TheVariants as library
 use Rattle.sx_base.specs.declared.name.CodeNo.{CodeNo}
+use Rattle.sx_base.specs.declared.op.names.TheConstants as names
 use Rattle.sx_core.specs.Core.{PlainCore}
 use Rattle.sx_core_laws.specs.Words.{Each, Among, Once}
 use Rattle.sx_core_laws.specs.Parts.{parts, own_number, code_numbers}
@@ -86,16 +87,16 @@ is_op op k e a = subst (Among ops_with_text) (sym ((unsigned_Decides op k).0 e))
 op_of_text : (op : ℕ) → has_text op ≡ true → Among ops_with_text op
 unfolding has_text
 op_of_text op h =
-    by_test (op == 110) _ _ (Among ops_with_text op) (λ e. is_op op 110 e (inl refl)) (λ h.
-    by_test (op == 133) _ _ (Among ops_with_text op) (λ e. is_op op 133 e (inr (inl refl))) (λ h.
-    by_test (op == 191) _ _ (Among ops_with_text op) (λ e. is_op op 191 e (inr (inr (inl refl)))) (λ h.
-    by_test (op == 192) _ _ (Among ops_with_text op) (λ e. is_op op 192 e (inr (inr (inr (inl refl))))) (λ h.
-    by_test (op == 193) _ _ (Among ops_with_text op) (λ e. is_op op 193 e (inr (inr (inr (inr (inl refl)))))) (λ h.
-    by_test (op == 194) _ _ (Among ops_with_text op) (λ e. is_op op 194 e (inr (inr (inr (inr (inr (inl refl))))))) (λ h.
-    by_test (op == 196) _ _ (Among ops_with_text op) (λ e. is_op op 196 e (inr (inr (inr (inr (inr (inr (inl refl)))))))) (λ h.
-    by_test (op == 197) _ _ (Among ops_with_text op) (λ e. is_op op 197 e (inr (inr (inr (inr (inr (inr (inr (inl refl))))))))) (λ h.
-    by_test (op == 198) _ _ (Among ops_with_text op) (λ e. is_op op 198 e (inr (inr (inr (inr (inr (inr (inr (inr (inl refl)))))))))) (λ h.
-    by_test (op == 202) _ _ (Among ops_with_text op) (λ e. is_op op 202 e (inr (inr (inr (inr (inr (inr (inr (inr (inr (inl refl))))))))))) (λ h.
+    by_test (op == names.FOR_EACH) _ _ (Among ops_with_text op) (λ e. is_op op names.FOR_EACH e (inl refl)) (λ h.
+    by_test (op == names.MAP) _ _ (Among ops_with_text op) (λ e. is_op op names.MAP e (inr (inl refl))) (λ h.
+    by_test (op == names.FIND) _ _ (Among ops_with_text op) (λ e. is_op op names.FIND e (inr (inr (inl refl)))) (λ h.
+    by_test (op == names.FOR_ALL) _ _ (Among ops_with_text op) (λ e. is_op op names.FOR_ALL e (inr (inr (inr (inl refl))))) (λ h.
+    by_test (op == names.EXISTS) _ _ (Among ops_with_text op) (λ e. is_op op names.EXISTS e (inr (inr (inr (inr (inl refl)))))) (λ h.
+    by_test (op == names.FILTER) _ _ (Among ops_with_text op) (λ e. is_op op names.FILTER e (inr (inr (inr (inr (inr (inl refl))))))) (λ h.
+    by_test (op == names.FOLD_LEFT) _ _ (Among ops_with_text op) (λ e. is_op op names.FOLD_LEFT e (inr (inr (inr (inr (inr (inr (inl refl)))))))) (λ h.
+    by_test (op == names.FOLD_RIGHT) _ _ (Among ops_with_text op) (λ e. is_op op names.FOLD_RIGHT e (inr (inr (inr (inr (inr (inr (inr (inl refl))))))))) (λ h.
+    by_test (op == names.REMP) _ _ (Among ops_with_text op) (λ e. is_op op names.REMP e (inr (inr (inr (inr (inr (inr (inr (inr (inl refl)))))))))) (λ h.
+    by_test (op == names.MEMP) _ _ (Among ops_with_text op) (λ e. is_op op names.MEMP e (inr (inr (inr (inr (inr (inr (inr (inr (inr (inl refl))))))))))) (λ h.
     no_more (Among ops_with_text op) h) h) h) h) h) h) h) h) h) h) h
 
 abbrev library_of : CodeNo → LibName

@@ -68,7 +68,7 @@ well_made_never_stuck w ls c n world globals closed m new =
     let old = codes_of w in
     let v = setting_for w c in
     let all = codes_added c old in
-    let cells = w.cells.list in
+    let cells = w.store.cells.list in
     evals_never_stuck w c None n world tt (subst (Stay old) (sym all) (all_stay (parts c) old new))
     (well_made_ready v (FoundFrom v cells None) (BoundFrom cells None) ls c (globals_found w v cells ls refl globals) closed m
     (subst (λ cs. Each (CodeStands cs) (parts c)) (sym all) (all_stand (parts c) old m.numbered_once)))
@@ -92,7 +92,7 @@ records_never_stuck w ls r n world globals closed made once new =
     let old = codes_of w in
     let v = setting_for_lines w r.run in
     let all = lines_added r.run old in
-    let cells = w.cells.list in
+    let cells = w.store.cells.list in
     let numbers = numbers_of r.run in
     libraries_never_stuck w r.run n world
     (subst (Stay old) (sym all) (all_stay (lines_parts r.run) old (subst (λ ns. AreNew old ns) (sym numbers) new)))

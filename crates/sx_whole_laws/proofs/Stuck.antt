@@ -5,6 +5,7 @@ use Rattle.std.specs.Map.{lookup}
 use Rattle.sx_base.specs.declared.name.CodeNo.{CodeNo}
 use Rattle.sx_base.specs.declared.name.Label.{Label}
 use Rattle.sx_base.specs.declared.op.Op.{Op}
+use Rattle.sx_base.specs.declared.op.names.TheConstants as names
 use Rattle.sx_region.specs.declared.region.Place.{Place}
 use Rattle.sx_frames.specs.Scope.{or_else}
 use Rattle.sx_core.specs.Core.{PlainCore, quoted, variable, primitive, one_armed, two_armed, assignment, sequence, procedure, letrec, call, instance, matching}
@@ -31,7 +32,6 @@ use Rattle.sx_eval.specs.Spread.{Call, apply_args, before_last, parted, with_ele
 use Rattle.sx_eval.specs.State.{State, Outcome, done, faulted, unfit, then_do, store, next_place, with_cell}
 use Rattle.sx_eval.specs.Variables.{Entries, entry_in, parent_in, upwards, here_or_up, found, unset, assigned, all_assigned}
 use Rattle.sx_eval.specs.Meaning.{Evaluator, primitive_called, variable_read, variable_value, by_case, by_code, procedure_called, text_value_called, by_text, op_called, value_called, first_called, applied, operands, in_sequence, one_arm, two_arms, in_turn, at_once, by_letrec, fender_passed, output_given, fender_asked, on_match, tried, expressed, unrolled, evaluates, eval_of}
-use Rattle.sx_eval.specs.declared.spread.TheConstants.{APPLY}
 use Rattle.sx_whole_laws.specs.Grows.{Grows}
 use Rattle.sx_whole_laws.specs.PartsReady.{EndsWell, MatchReady}
 use Rattle.sx_whole_laws.specs.Ready.{Besides, BesidesPattern, FoundFrom, BoundFrom, Ready, ReadyIn, AllReadyIn, InitsReadyIn, CasesReadyIn, ClausesReadyIn}
@@ -136,7 +136,7 @@ OrRest vs None = Unit {0}
 OrRest vs (Some ws) = vs ≡ ws
 
 args_are_rest : (f : Value) (vs : List Value) → OrRest vs (apply_args (f ∷ vs))
-args_are_rest (value.Prim op) vs = by_op (nat_eq op.0 APPLY)
+args_are_rest (value.Prim op) vs = by_op (nat_eq op.0 names.APPLY)
   where
     by_op : (t : Bool) → OrRest vs (if t then Some vs else None)
     by_op true = refl

@@ -6,6 +6,7 @@ use Rattle.sx_base.specs.declared.atom.Atom.TheVariants as a
 use Rattle.sx_base.specs.declared.library.LibName.TheVariants as library
 use Rattle.sx_base.specs.declared.name.CodeNo.{CodeNo}
 use Rattle.sx_base.specs.declared.name.Label.{Label}
+use Rattle.sx_base.specs.declared.op.names.TheConstants as names
 use Rattle.sx_region.specs.declared.region.Place.{Place}
 use Rattle.sx_frames.specs.Scope.{Scope}
 use Rattle.sx_core.specs.Core.{PlainCore, quoted, procedure, PlainCases, case, no_case}
@@ -60,7 +61,7 @@ abbrev pub example_text : ℕ → PlainCore
 example_text op = text_code op (lambda_of op)
 
 abbrev pub ops_with_text : List ℕ
-ops_with_text = 110 ∷ 133 ∷ 191 ∷ 192 ∷ 193 ∷ 194 ∷ 196 ∷ 197 ∷ 198 ∷ 202 ∷ []
+ops_with_text = names.FOR_EACH ∷ names.MAP ∷ names.FIND ∷ names.FOR_ALL ∷ names.EXISTS ∷ names.FILTER ∷ names.FOLD_LEFT ∷ names.FOLD_RIGHT ∷ names.REMP ∷ names.MEMP ∷ []
 
 abbrev pub OneIsWhole : Type 0
 OneIsWhole = WholeWorld (first_world (map example_text ops_with_text) []) []

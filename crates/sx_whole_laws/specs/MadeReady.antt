@@ -36,4 +36,4 @@ WellMadeNeverStuck = (w : World) (ls : List Label) (c : PlainCore) (n : ℕ) →
 abbrev pub RecordsNeverStuck : Type 0
 RecordsNeverStuck = (w : World) (ls : List Label) (r : LibRecord) (n : ℕ) → IsWhole w → AreGlobals w ls → LinesClosed (ls ++ defined r) r → Each (IsWellMade []) (line_cores r)
     → Once (flat_map code_numbers (line_cores r)) → AreNew (codes_of w) (flat_map code_numbers (line_cores r))
-    → LibraryEnding (setting_for_lines w r.run) (defined r) (length w.cells.list) (library_evaluated w r.run n)
+    → LibraryEnding (setting_for_lines w r.run) (defined r) (length w.store.cells.list) (library_evaluated w r.run n)

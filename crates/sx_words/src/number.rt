@@ -1,9 +1,12 @@
 //! The number of `--make`.
 
 ghost use Rattle.std.specs.Prelude.{◌≡◌, ◌≤◌};
-ghost use Rattle.sx_words.specs.Number.{number_from, number_of};
+ghost use Rattle.sx_words.specs.Number.{greatest, number_from, number_of};
 
-/// The number that decimal digits without a leading zero spell, where it is from 1 to 1,000.
+/// The greatest number.
+const GREATEST: u32 = 1_000;
+
+/// The number that decimal digits without a leading zero spell, where it is from 1 to the greatest.
 pub fn number_of(text: &str) -> Option<u32>
     ensures { result ≡ number_of text.now }
 {
@@ -13,9 +16,9 @@ pub fn number_of(text: &str) -> Option<u32>
     }
 }
 
-// The number that digits spell behind those of `n`, where none passes 1,000.
+// The number that digits spell behind those of `n`, where none passes the greatest.
 fn number_from(n: u32, digits: &[u8]) -> Option<u32>
-    requires { n ≤ 1000 }
+    requires { n ≤ greatest }
     ensures { result ≡ number_from n digits.now }
 {
     match digits {
@@ -25,7 +28,7 @@ fn number_from(n: u32, digits: &[u8]) -> Option<u32>
                 return None;
             }
             let next = 10 * n + u32::from(digit - 48);
-            if next > 1000 {
+            if next > GREATEST {
                 return None;
             }
             number_from(next, rest)

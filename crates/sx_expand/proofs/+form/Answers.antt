@@ -9,7 +9,7 @@ use Rattle.sx_expand.specs.Quasi.{part_core}
 use Rattle.sx_expand.proofs.+form.Goals as goal
 
 pub expression::in_order-loop-form-init : goal.expression::in_order-loop-form-init
-expression::in_order-loop-form-init g t c = rw (c.new-done.ensures.items, map-id c.args.forms.now) refl
+expression::in_order-loop-form-init g t c = rw (c.with_room-done.ensures, map-id c.args.forms.now) refl
 
 pub expression::in_order-returns-in_err-core : goal.expression::in_order-returns-in_err-core
 expression::in_order-returns-in_err-core g t c =
@@ -24,7 +24,7 @@ pub expression::in_order-returns : goal.expression::in_order-returns
 expression::in_order-returns g t c = each_done (λ x. x) ((inside (g.M.Transformers.records c.args.means.now) c.args.room).form c.args.place.now c.args.level c.args.depth) c.loop-form.done.items c.args.forms.now c.loop-form.form-index c.loop-form.state _ c.loop-form-test.false c.loop-form.invariant
 
 pub expression::all_cases-loop-case-init : goal.expression::all_cases-loop-case-init
-expression::all_cases-loop-case-init g t c = rw (c.new-done.ensures.items, map-id c.args.cases.now) refl
+expression::all_cases-loop-case-init g t c = rw (c.with_room-done.ensures, map-id c.args.cases.now) refl
 
 pub expression::all_cases-returns-in_err-one : goal.expression::all_cases-returns-in_err-one
 expression::all_cases-returns-in_err-one g t c =
@@ -39,7 +39,7 @@ pub expression::all_cases-returns : goal.expression::all_cases-returns
 expression::all_cases-returns g t c = each_done (λ x. x) (one_case (inside (g.M.Transformers.records c.args.means.now) c.args.room) c.args.place.now c.args.level c.args.depth c.args.form.now) c.loop-case.done.items c.args.cases.now c.loop-case.case-index c.loop-case.state _ c.loop-case-test.false c.loop-case.invariant
 
 pub expression::all_inits-loop-one-init : goal.expression::all_inits-loop-one-init
-expression::all_inits-loop-one-init g t c = rw (c.new-done.ensures.items, map-id c.args.bound.now) refl
+expression::all_inits-loop-one-init g t c = rw (c.with_room-done.ensures, map-id c.args.bound.now) refl
 
 pub expression::all_inits-returns-in_err-init : goal.expression::all_inits-returns-in_err-init
 expression::all_inits-returns-in_err-init g t c =

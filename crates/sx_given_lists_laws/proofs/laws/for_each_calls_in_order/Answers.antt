@@ -1,4 +1,5 @@
 use Rattle.std.proofs.Common.{◌∷◌}
+use Rattle.sx_base.specs.declared.op.names.TheConstants as names
 use Rattle.sx_given_laws.specs.Calls.{CallEnds}
 use Rattle.sx_given_laws.specs.Given.{built_in}
 use Rattle.sx_given_laws.proofs.Knows.{knows}
@@ -10,7 +11,7 @@ use Rattle.sx_given_lists_laws.proofs.laws.for_each_calls_in_order.Goals as goal
 pub returns : goal.returns
 returns c = record {
   gives = λ w f l m more rows s has r give.
-      from-ends (λ e t. CallEnds w (built_in 110) (f ∷ l ∷ m ∷ more) s e t) (VisitDid w f rows s) (λ e t d. visit-values w f rows s e t give d)
+      from-ends (λ e t. CallEnds w (built_in names.FOR_EACH) (f ∷ l ∷ m ∷ more) s e t) (VisitDid w f rows s) (λ e t d. visit-values w f rows s e t give d)
       (for-each-ended w (knows w has) f l m more s rows r (all-ends w f rows s give));
   ends = λ w f l m more rows s has r give. for-each-ended w (knows w has) f l m more s rows r give;
   only = λ w f l m more rows s t e has r called. for-each-only w (knows w has) f l m more s rows r e t called;

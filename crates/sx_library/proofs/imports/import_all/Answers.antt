@@ -10,14 +10,14 @@ use Rattle.sx_library.proofs.imports.import_all.Goals as goal
 pub returns-in_err-import_into : goal.returns-in_err-import_into
 returns-in_err-import_into c =
     let p = err_from_is_err_and c.from_residual.result c.from_residual.ensures.1 in
-    rw (p.1, p.2) (turns_stop (import_into (needed_records c.args.records.now c.args.needs.now)) c.args.imports.now c.loop-import.import-index c.import-item.result c.loop-import.names _ c.in_err-import_into.field-0.0 c.loop-import-test.true c.import-item.is c.in_err-import_into.ensures.names c.loop-import.invariant.so_far)
+    rw (p.1, p.2) (turns_stop (import_into (needed_records c.args.needed.now.records.now c.args.needed.now.marks.now)) c.args.imports.now c.loop-import.import-index c.import-item.result c.loop-import.names _ c.in_err-import_into.field-0.0 c.loop-import-test.true c.import-item.is c.in_err-import_into.ensures.names c.loop-import.invariant.so_far)
 
 pub loop-import-preserved : goal.loop-import-preserved
 loop-import-preserved c = record {
-  so_far = turns_on (import_into (needed_records c.args.records.now c.args.needs.now)) c.args.imports.now c.loop-import.import-index c.import-item.result c.loop-import.names _ _ c.loop-import-test.true c.import-item.is c.in_ok-import_into.ensures.names c.loop-import.invariant.so_far;
+  so_far = turns_on (import_into (needed_records c.args.needed.now.records.now c.args.needed.now.marks.now)) c.args.imports.now c.loop-import.import-index c.import-item.result c.loop-import.names _ _ c.loop-import-test.true c.import-item.is c.in_ok-import_into.ensures.names c.loop-import.invariant.so_far;
   listed = c.in_ok-import_into.ensures.listed;
   enough = c.in_ok-import_into.ensures.enough;
 }
 
 pub returns : goal.returns
-returns c = turns_end (import_into (needed_records c.args.records.now c.args.needs.now)) c.args.imports.now c.loop-import.import-index c.loop-import.names _ c.loop-import-test.false c.loop-import.invariant.so_far
+returns c = turns_end (import_into (needed_records c.args.needed.now.records.now c.args.needed.now.marks.now)) c.args.imports.now c.loop-import.import-index c.loop-import.names _ c.loop-import-test.false c.loop-import.invariant.so_far

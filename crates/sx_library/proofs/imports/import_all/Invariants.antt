@@ -8,7 +8,7 @@ use Rattle.sx_library.proofs.imports.import_all.Given as goal
 
 abbrev pub invariant-loop-import : goal.invariant-loop-import
 invariant-loop-import l = record {
-  so_far : turns (import_into (needed_records l.records l.needs)) l.names (drop l.import-index l.imports) ≡ turns (import_into (needed_records l.records l.needs)) [] l.imports;
-  listed : AreListed (needed_records l.records l.needs) l.sources.entries;
+  so_far : turns (import_into (needed_records l.needed.records.now l.needed.marks.now)) l.names (drop l.import-index l.imports) ≡ turns (import_into (needed_records l.needed.records.now l.needed.marks.now)) [] l.imports;
+  listed : AreListed (needed_records l.needed.records.now l.needed.marks.now) l.sources.entries;
   enough : AreEnough l.names l.sources.entries;
 }

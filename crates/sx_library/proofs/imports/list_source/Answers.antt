@@ -10,7 +10,7 @@ returns-then-has_source-clause-there c = names_there c.args.library.now c.args.s
 
 pub returns-clause-listed : goal.returns-clause-listed
 returns-clause-listed c =
-    let records = needed_records c.args.records.now c.args.needs.now in
+    let records = needed_records c.args.needed.now.records.now c.args.needed.now.marks.now in
     let span = c.args.span.now in
     listed_more records c.in_ok-name.name c.in_ok-exports-2.exports span c.args.sources.now.entries _ c.in_ok-add_source.ensures.names
     (ap (λ l. joined span [] (exported records l)) c.in_ok-name.ensures ∙ sym (ap (joined span []) (c.as_slice.ensures ∙ c.in_ok-exports.ensures)) ∙ c.in_ok-exports-2.ensures) c.requires

@@ -8,5 +8,5 @@ use Rattle.sx_library.proofs.library.record_behind.Goals as goal
 
 pub returns : goal.returns
 returns g c =
-    subst (λ (rs : List LibRecord). Gives (λ (r : LibRecord). r) c.top.result (library_record c.args.begun rs c.args.version c.args.place.now c.args.exports.now c.args.forms.now))
-    (ap (needed_records c.args.needs.now) (c.as_slice.ensures ∙ c.ready.ensures) ∙ at_stage c.args.needs.now c.args.records.now) c.top.ensures
+    subst (λ (rs : List LibRecord). Gives (λ (r : LibRecord). r) c.top.result (library_record c.args.begun rs c.args.text.version c.args.text.place.now c.args.text.exports.now c.args.text.forms))
+    (ap (needed_records c.args.needed.now.marks.now) (c.as_slice.ensures ∙ c.ready.ensures) ∙ at_stage c.args.needed.now.marks.now c.args.needed.now.records.now) c.top.ensures

@@ -14,16 +14,16 @@ pub returns-in_err-body : goal.returns-in_err-body
 returns-in_err-body g c =
     let p = err_from_is_err_and c.from_residual-in_err-body.result c.from_residual-in_err-body.ensures.1 in
     let opened = c.args.found.opened in
-    rw (p.1, p.2) (read_stops (kept c.args.prelude.now) c.args.records.now opened.path opened.form c.args.found.needs (program_body opened.«data») c.program_body-data.result.now c.as_slice-3.result.now c.in_err-body.field-0.0
-    (c.as_slice-3.ensures ∙ c.in_ok-needs.ensures ∙ ap (λ ns. true ∷ ns) c.as_slice.ensures) (c.program_body-data.ensures ∙ ap program_body c.as_slice-2.ensures) c.in_err-body.ensures)
+    rw (p.1, p.2) (read_stops (kept c.args.implementation.now.prelude) c.args.records.now opened.path opened.form c.args.found.needs (program_body opened.«data») c.program_body-data.result.now c.as_slice-2.result.now c.in_err-body.field-0.0
+    (c.as_slice-2.ensures ∙ c.in_ok-marks.ensures ∙ ap (λ ns. true ∷ ns) c.as_slice.ensures) (c.program_body-data.ensures ∙ ap program_body c.as_slice-3.ensures) c.in_err-body.ensures)
 
 pub returns : goal.returns
 returns g c =
     let opened = c.args.found.opened in
-    let again = c.as_slice-4.result.now in
+    let again = c.as_slice-2.result.now in
     subst (Gives (λ (r : LibRecord). r) c.expand_body.result)
-    (ap (λ (w : List ℕ × LibraryForm). expand_body (kept c.args.prelude.now) (needed_records c.args.records.now again) w.0 w.1 c.in_ok-body.body) c.without_data-path.ensures
-    ∙ read_given (kept c.args.prelude.now) c.args.records.now opened.path opened.form c.args.found.needs (program_body opened.«data») c.program_body-data.result.now c.as_slice-3.result.now again c.in_ok-body.body
-    (c.as_slice-3.ensures ∙ c.in_ok-needs.ensures ∙ ap (λ ns. true ∷ ns) c.as_slice.ensures) (c.as_slice-4.ensures ∙ c.in_ok-needs.ensures ∙ ap (λ ns. true ∷ ns) c.as_slice.ensures)
-    (c.program_body-data.ensures ∙ ap program_body c.as_slice-2.ensures) c.in_ok-body.ensures)
+    (ap (λ (w : List ℕ × LibraryForm). expand_body (kept c.args.implementation.now.prelude) (needed_records c.args.records.now again) w.0 w.1 c.in_ok-body.body) c.without_data-path.ensures
+    ∙ read_given (kept c.args.implementation.now.prelude) c.args.records.now opened.path opened.form c.args.found.needs (program_body opened.«data») c.program_body-data.result.now c.as_slice-2.result.now again c.in_ok-body.body
+    (c.as_slice-2.ensures ∙ c.in_ok-marks.ensures ∙ ap (λ ns. true ∷ ns) c.as_slice.ensures) (c.as_slice-2.ensures ∙ c.in_ok-marks.ensures ∙ ap (λ ns. true ∷ ns) c.as_slice.ensures)
+    (c.program_body-data.ensures ∙ ap program_body c.as_slice-3.ensures) c.in_ok-body.ensures)
     c.expand_body.ensures

@@ -1,4 +1,5 @@
 use Rattle.std.proofs.Common.{[], ap, ◌∙◌, subst}
+use Rattle.sx_load.specs.Found.{most_libraries}
 use Rattle.sx_load.specs.Gives.{LoadsAfter}
 use Rattle.sx_load.specs.Stack.{meaning}
 use Rattle.sx_load.proofs.WalkLemmas.{first_alone}
@@ -7,5 +8,5 @@ use Rattle.sx_load.proofs.walk.load_all.Goals as goal
 pub returns-clause-given : goal.returns-clause-given
 returns-clause-given g c = λ fs h.
     subst (λ y. LoadsAfter c.walk.result c.walk.new.loading y)
-    (ap (λ o. meaning fs c.args.roots.now o [] c.args.loading.now) c.in_ok-first.ensures ∙ first_alone fs c.args.roots.now 1024 c.args.opened c.args.loading.now)
+    (ap (λ o. meaning fs c.args.search.now.roots.now o [] c.args.loading.now) c.in_ok-first.ensures ∙ first_alone fs c.args.search.now.roots.now most_libraries c.args.opened c.args.loading.now)
     (c.walk.ensures.given fs h)

@@ -6,6 +6,6 @@ use Rattle.sx_load.proofs.walk.walk.Given as goal
 abbrev pub invariant-loop-turn : goal.invariant-loop-turn
 invariant-loop-turn g l = record {
   same : g.F.Files.told l.files ≡ g.F.Files.told l.fn.files;
-  given : (fs : Paths) → g.F.Files.told l.fn.files ≡ Some fs → meaning fs l.roots l.at (reverse l.stack.items) l.loading ≡ meaning fs l.roots l.fn.first [] l.fn.loading;
+  given : (fs : Paths) → g.F.Files.told l.fn.files ≡ Some fs → meaning fs l.search.roots.now l.at (reverse l.stack.items) l.loading ≡ meaning fs l.search.roots.now l.fn.first [] l.fn.loading;
   later : g.F.Files.faults l.fn.files ≤ g.F.Files.faults l.files;
 }

@@ -1,15 +1,55 @@
-use Rattle.std.proofs.Common.{◌≡◌, ◌∷◌, arith}
+use Rattle.std.proofs.Common.{◌≡◌, ◌≤◌, ◌∷◌, length, ap, arith}
+use Rattle.std.proofs.lemmas.Result.{err_from_is_err_and}
+use Rattle.sx_tree.specs.Tree.{chain, nil}
+use Rattle.sx_tree.specs.Measures.{size}
 use Rattle.sx_syntax.specs.Opens.{Opens}
 use Rattle.sx_syntax.specs.declared.syn.Opened.TheVariants as opened
+use Rattle.sx_pattern.specs.Compile.{seen}
 use Rattle.sx_pattern.proofs.Levels.{pattern_pair, pattern_vector}
-use Rattle.sx_pattern.proofs.Sizes.{elements_within, tail_smaller, first_smaller}
+use Rattle.sx_pattern.proofs.Sizes.{elements_within, tail_smaller, first_smaller, rest_within, behind_fewer, behind_within}
+use Rattle.sx_pattern.proofs.Walks.{pattern_stop, part_stop, forms_on}
 use Rattle.sx_pattern.proofs.compile.+pattern.Goals as goal
 
-pub elements-step-requires : goal.elements-step-requires
-elements-step-requires t c =
+pub elements-pattern-requires : goal.elements-pattern-requires
+elements-pattern-requires t c =
     let e : c.loop-form.left.now ≡ c.in-Some.form.now ∷ c.in-Some.behind.now = c.in-Some.ensures.cases.0 in
     let below = first_smaller c.loop-form.left.now c.in-Some.form.now c.in-Some.behind.now e in
     omega (arith, below, c.loop-form.invariant.smaller)
+
+pub elements-returns-in_err-pattern : goal.elements-returns-in_err-pattern
+elements-returns-in_err-pattern t c =
+    let e : c.loop-form.left.now ≡ c.in-Some.form.now ∷ c.in-Some.behind.now = c.in-Some.ensures.cases.0 in
+    let p = err_from_is_err_and c.from_residual-in_err-pattern.result c.from_residual-in_err-pattern.ensures.1 in
+    rw (p.1, p.2)
+    (pattern_stop (seen c.args.context.now) c.args.depth c.loop-form.parts c.in-Some.form.now c.loop-form.left.now c.in-Some.behind.now _ c.in_ok-inner.inner (c.loop-form.variables, c.loop-form.names) _ e c.in_ok-ellipsis.ensures c.in_ok-inner.ensures
+    c.loop-form.invariant.gives c.in_err-pattern.field-0.0 c.in_err-pattern.ensures)
+
+pub elements-returns-in_err-add_part : goal.elements-returns-in_err-add_part
+elements-returns-in_err-add_part t c =
+    let e : c.loop-form.left.now ≡ c.in-Some.form.now ∷ c.in-Some.behind.now = c.in-Some.ensures.cases.0 in
+    let p = err_from_is_err_and c.from_residual-in_err-add_part.result c.from_residual-in_err-add_part.ensures.1 in
+    rw (p.1, p.2)
+    (part_stop (seen c.args.context.now) c.args.depth c.loop-form.parts c.in-Some.form.now c.loop-form.left.now c.in-Some.behind.now _ c.in_ok-inner.inner (c.loop-form.variables, c.loop-form.names) _ e c.in_ok-ellipsis.ensures c.in_ok-inner.ensures
+    c.loop-form.invariant.gives c.in_ok-pattern.pattern (c.pattern.new.variables, c.pattern.new.names) c.in_ok-pattern.ensures c.in_err-add_part.field-0.0 c.in_err-add_part.ensures)
+
+pub elements-loop-form-preserved : goal.elements-loop-form-preserved
+elements-loop-form-preserved t c =
+    let e : c.loop-form.left.now ≡ c.in-Some.form.now ∷ c.in-Some.behind.now = c.in-Some.ensures.cases.0 in
+    let rest = rest_within c.loop-form.left.now c.in-Some.form.now c.in-Some.behind.now e in
+    let within : size (chain c.behind_ellipsis-left.result.now nil) ≤ size (chain c.in-Some.behind.now nil) = rw c.behind_ellipsis-left.ensures (behind_within _ c.in-Some.behind.now) in
+    record {
+      gives = rw c.behind_ellipsis-left.ensures
+          (forms_on (seen c.args.context.now) c.args.depth c.loop-form.parts c.in-Some.form.now c.loop-form.left.now c.in-Some.behind.now _ c.in_ok-inner.inner (c.loop-form.variables, c.loop-form.names) _ e c.in_ok-ellipsis.ensures c.in_ok-inner.ensures
+          c.loop-form.invariant.gives c.in_ok-pattern.pattern (c.pattern.new.variables, c.pattern.new.names) c.in_ok-pattern.ensures c.add_part.new.parts c.in_ok-add_part.ensures);
+      smaller = omega (arith, within, rest, c.loop-form.invariant.smaller);
+    }
+
+pub elements-loop-form-smaller : goal.elements-loop-form-smaller
+elements-loop-form-smaller t c =
+    let e : c.loop-form.left.now ≡ c.in-Some.form.now ∷ c.in-Some.behind.now = c.in-Some.ensures.cases.0 in
+    let longer = ap length e in
+    let fewer : length c.behind_ellipsis-left.result.now ≤ length c.in-Some.behind.now = rw c.behind_ellipsis-left.ensures (behind_fewer _ c.in-Some.behind.now) in
+    omega (arith, longer, fewer)
 
 pub list_pattern-elements-requires : goal.list_pattern-elements-requires
 list_pattern-elements-requires t c = rw (c.as_slice.ensures, c.in_ok-parts.ensures.0) (grind (arith, elements_within))
@@ -20,9 +60,9 @@ list_pattern-pattern-requires t c = rw c.in_ok-parts.ensures.1 (grind (arith, ta
 pub pattern-returns-in-Pair : goal.pattern-returns-in-Pair
 pattern-returns-in-Pair t c =
     let o : Opens (opened.Pair c.in-Pair.field-0 c.in-Pair.field-1) c.args.form.now = rw c.in-Pair.is at c.in_ok-atom.ensures in
-    rw (pattern_pair c.args.frames.now c.args.literals.now c.args.place.now c.args.depth (c.args.variables.now, c.args.names.now) c.in-Pair.field-0 c.in-Pair.field-1 c.args.form.now o) c.list_pattern.ensures
+    rw (pattern_pair (seen c.args.context.now) c.args.depth (c.args.variables.now, c.args.names.now) c.in-Pair.field-0 c.in-Pair.field-1 c.args.form.now o) c.list_pattern.ensures
 
 pub pattern-returns : goal.pattern-returns
 pattern-returns t c =
     let o : Opens (opened.Vector c.in-Vector.forms) c.args.form.now = rw c.in-Vector.is at c.in_ok-atom.ensures in
-    rw (pattern_vector c.args.frames.now c.args.literals.now c.args.place.now c.args.depth (c.args.variables.now, c.args.names.now) c.in-Vector.forms c.args.form.now o, ← c.deref.ensures.value) c.vector_pattern.ensures
+    rw (pattern_vector (seen c.args.context.now) c.args.depth (c.args.variables.now, c.args.names.now) c.in-Vector.forms c.args.form.now o, ← c.deref.ensures.value) c.vector_pattern.ensures

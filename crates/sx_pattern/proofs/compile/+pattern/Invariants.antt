@@ -1,13 +1,13 @@
-use Rattle.std.proofs.Common.{◌≡◌, ◌≤◌, ◌+◌, ◌*◌, map, length}
+use Rattle.std.proofs.Common.{◌≡◌, ◌≤◌, ◌+◌, ◌*◌, map, length, false}
 use Rattle.sx_tree.specs.Tree.{chain, nil}
 use Rattle.sx_tree.specs.Measures.{size}
-use Rattle.sx_pattern.specs.Compile.{walked, with_pattern, forms_walked}
+use Rattle.sx_pattern.specs.Compile.{seen, walked, with_pattern, forms_walked}
 use Rattle.sx_pattern.proofs.compile.+pattern.Given as goal
 
 abbrev pub invariant-elements-loop-form : goal.invariant-elements-loop-form
 invariant-elements-loop-form l = record {
-  gives : walked l.frames l.place l.depth l.skips l.parts (map (with_pattern l.frames l.literals l.place) l.left) (l.variables, l.names)
-      ≡ forms_walked l.frames l.literals l.place l.depth l.forms (l.initial.variables, l.initial.names);
+  gives : walked (seen l.context) l.depth false l.parts (map (with_pattern (seen l.context)) l.left) (l.variables, l.names)
+      ≡ forms_walked (seen l.context) l.depth l.forms (l.initial.variables, l.initial.names);
   smaller : size (chain l.left nil) ≤ size (chain l.forms nil);
 }
 
@@ -25,6 +25,3 @@ decreases-vector_pattern l = 4 * size (chain l.forms.now nil) + 2
 
 abbrev pub decreases-elements : goal.decreases-elements
 decreases-elements l = 4 * size (chain l.forms.now nil) + 1
-
-abbrev pub decreases-step : goal.decreases-step
-decreases-step l = 4 * size l.form.now + 4

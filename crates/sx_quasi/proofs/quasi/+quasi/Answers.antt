@@ -20,13 +20,13 @@ quasi_at-returns t c =
     rw (made_vector (word_of family.Quote c.args.frames.now) c.args.level c.in-Vector.forms c.args.form.now o, ← c.deref.ensures.value) c.vector_at.ensures
 
 pub split_list-open_list-requires : goal.split_list-open_list-requires
-split_list-open_list-requires t c = omega (arith, tree_size c.args.tail.now)
+split_list-open_list-requires t c = omega (arith, tree_size c.args.last.now.tail.now)
 
 pub flat_list-open_list-requires : goal.flat_list-open_list-requires
-flat_list-open_list-requires t c = omega (arith, tree_size c.args.tail.now)
+flat_list-open_list-requires t c = omega (arith, tree_size c.args.list.now.tail.now)
 
 pub flat_list-quasi_at-requires : goal.flat_list-quasi_at-requires
-flat_list-quasi_at-requires t c = omega (arith, some_size c.args.forms.now c.requires)
+flat_list-quasi_at-requires t c = omega (arith, some_size c.args.list.now.elements.now c.requires)
 
 pub list_at-flat_list-requires : goal.list_at-flat_list-requires
 list_at-flat_list-requires t c =

@@ -25,10 +25,10 @@ abbrev pub decreases-list_at : goal.decreases-list_at
 decreases-list_at l = 16 * size l.form.now + 5
 
 abbrev pub decreases-split_list : goal.decreases-split_list
-decreases-split_list l = 16 * (forms_size l.front.now + forms_size l.last.now + size l.tail.now) + 4
+decreases-split_list l = 16 * (forms_size l.front.now.elements.now + forms_size l.last.now.elements.now + size l.last.now.tail.now) + 4
 
 abbrev pub decreases-flat_list : goal.decreases-flat_list
-decreases-flat_list l = 16 * (forms_size l.forms.now + size l.tail.now) + 3
+decreases-flat_list l = 16 * (forms_size l.list.now.elements.now + size l.list.now.tail.now) + 3
 
 abbrev pub decreases-vector_at : goal.decreases-vector_at
 decreases-vector_at l = 16 * forms_size l.forms.now + 10

@@ -1,19 +1,12 @@
 use Rattle.std.proofs.Common.{◌≡◌, ◌≤◌, ◌+◌, ◌*◌, map, length}
-use Rattle.sx_tree.specs.Tree.{Tree}
 use Rattle.sx_tree.specs.Measures.{size}
-use Rattle.sx_frames.specs.Scope.{Scope}
-use Rattle.sx_quasi.specs.Words.{word_of}
-use Rattle.sx_quasi.specs.QuasiSyntax.{Looked, walked, element, forms_walked}
-use Rattle.sx_quasi.specs.declared.word.Family.TheVariants as family
+use Rattle.sx_quasi.specs.QuasiSyntax.{seen, walked, element, forms_walked}
 use Rattle.sx_quasi.proofs.Sizes.{forms_size}
 use Rattle.sx_quasi.proofs.quasi_syntax.+quasi_syntax.Given as goal
 
-abbrev looked : Scope → Tree → Looked
-looked fs t = record { words = word_of family.Syntax fs; dots = t }
-
 abbrev pub invariant-walked-loop-form : goal.invariant-walked-loop-form
 invariant-walked-loop-form l = record {
-  gives : walked (looked l.frames l.dots) l.level l.row (map (element (looked l.frames l.dots)) l.left) l.inserts ≡ forms_walked (looked l.frames l.dots) l.level l.forms l.initial.inserts;
+  gives : walked (seen l.context) l.level l.row (map (element (seen l.context)) l.left) l.inserts ≡ forms_walked (seen l.context) l.level l.forms l.initial.inserts;
   smaller : forms_size l.left ≤ forms_size l.forms;
 }
 
@@ -30,10 +23,10 @@ abbrev pub decreases-list_at : goal.decreases-list_at
 decreases-list_at l = 16 * size l.form.now + 5
 
 abbrev pub decreases-split_list : goal.decreases-split_list
-decreases-split_list l = 16 * (forms_size l.front.now + forms_size l.last.now + size l.tail.now) + 4
+decreases-split_list l = 16 * (forms_size l.front.now.elements.now + forms_size l.last.now.elements.now + size l.last.now.tail.now) + 4
 
 abbrev pub decreases-flat_list : goal.decreases-flat_list
-decreases-flat_list l = 16 * (forms_size l.forms.now + size l.tail.now) + 3
+decreases-flat_list l = 16 * (forms_size l.list.now.elements.now + size l.list.now.tail.now) + 3
 
 abbrev pub decreases-vector_at : goal.decreases-vector_at
 decreases-vector_at l = 16 * forms_size l.forms.now + 10

@@ -3,4 +3,4 @@ use Rattle.sx_records.specs.Clauses.{no_clauses, all_clauses}
 use Rattle.sx_records.proofs.clauses.all_clauses.Given as goal
 
 abbrev pub invariant-loop-form : goal.invariant-loop-form
-invariant-loop-form l = all_clauses l.frames l.name l.place l.clauses (drop l.form-index l.forms) ≡ all_clauses l.frames l.name l.place no_clauses l.forms
+invariant-loop-form l = all_clauses l.context.frames.now l.name l.context.place.now l.clauses (drop l.form-index l.forms) ≡ all_clauses l.context.frames.now l.name l.context.place.now no_clauses l.forms

@@ -7,7 +7,7 @@ use Rattle.sx_template.proofs.lengths.+agreed.Given as goal
 
 abbrev pub invariant-all_agreed-loop-item : goal.invariant-all_agreed-loop-item
 invariant-all_agreed-loop-item l =
-    agree l.so_far (items_lengths unbound l.binds l.turns l.inside (items (drop l.item-index l.list))) ≡ agree l.fn.so_far (items_lengths unbound l.binds l.turns l.inside (items l.list))
+    agree l.so_far (items_lengths unbound l.context.binds.now l.turns l.inside (items (drop l.item-index l.list))) ≡ agree l.fn.so_far (items_lengths unbound l.context.binds.now l.turns l.inside (items l.list))
 
 abbrev pub decreases-agreed : goal.decreases-agreed
 decreases-agreed l = template_size l.template.now

@@ -15,12 +15,12 @@ pub items_cost-returns-in_err-cost-clause-cost : goal.items_cost-returns-in_err-
 items_cost-returns-in_err-cost-clause-cost t c =
     let p = err_from_is_err_and c.from_residual.result c.from_residual.ensures.1 in
     rw (p.1, p.2)
-    (items_stop c.args.list.now c.loop-part.part-index c.part-item.result c.loop-part-test.true c.part-item.is c.args.binds.now c.loop-part.turns.items c.loop-part.total _ c.loop-part.invariant.so_far c.in_err-cost.field-0.0 c.in_err-cost.ensures.cost)
+    (items_stop c.args.list.now c.loop-part.part-index c.part-item.result c.loop-part-test.true c.part-item.is c.args.context.now.binds.now c.loop-part.turns.items c.loop-part.total _ c.loop-part.invariant.so_far c.in_err-cost.field-0.0 c.in_err-cost.ensures.cost)
 
 pub items_cost-loop-part-preserved : goal.items_cost-loop-part-preserved
 items_cost-loop-part-preserved t c = record {
   so_far = rw c.in_ok-cost.ensures.turns
-      (items_on c.args.list.now c.loop-part.part-index c.part-item.result c.loop-part-test.true c.part-item.is c.args.binds.now c.loop-part.turns.items c.loop-part.total _ c.loop-part.invariant.so_far c.in_ok-cost.cost c.sum-total.result c.sum-total.ensures c.in_ok-cost.ensures.cost);
+      (items_on c.args.list.now c.loop-part.part-index c.part-item.result c.loop-part-test.true c.part-item.is c.args.context.now.binds.now c.loop-part.turns.items c.loop-part.total _ c.loop-part.invariant.so_far c.in_ok-cost.cost c.sum-total.result c.sum-total.ensures c.in_ok-cost.ensures.cost);
   turns = c.in_ok-cost.ensures.turns ∙ c.loop-part.invariant.turns;
 }
 
@@ -28,7 +28,7 @@ pub each_turn-returns-in_err-cost-clause-cost : goal.each_turn-returns-in_err-co
 each_turn-returns-in_err-cost-clause-cost t c =
     let p = err_from_is_err_and c.from_residual-in_err-cost.result c.from_residual-in_err-cost.ensures.1 in
     rw (p.1, p.2)
-    (turns_stop (item_cost (measure unbound c.args.binds.now c.args.template.now) (counts unbound c.args.binds.now c.args.template.now) c.args.inside) c.args.count c.loop-turn.turn c.loop-turn.turns.items c.loop-turn-test.true c.loop-turn.total _ c.loop-turn.invariant.so_far c.in_err-cost.field-0.0
+    (turns_stop (item_cost (measure unbound c.args.context.now.binds.now c.args.template.now) (counts unbound c.args.context.now.binds.now c.args.template.now) c.args.inside) c.args.count c.loop-turn.turn c.loop-turn.turns.items c.loop-turn-test.true c.loop-turn.total _ c.loop-turn.invariant.so_far c.in_err-cost.field-0.0
     (rw c.in_ok-push.ensures.items at c.in_err-cost.ensures.cost))
 
 pub each_turn-loop-turn-preserved : goal.each_turn-loop-turn-preserved
@@ -36,12 +36,12 @@ each_turn-loop-turn-preserved t c =
     let e = c.drop_last.ensures c.loop-turn.turns.items c.loop-turn.turn (c.in_ok-cost.ensures.turns ∙ c.in_ok-push.ensures.items) in
     record {
       so_far = rw e
-          (turns_on (item_cost (measure unbound c.args.binds.now c.args.template.now) (counts unbound c.args.binds.now c.args.template.now) c.args.inside) c.args.count c.loop-turn.turn c.loop-turn.turns.items c.loop-turn-test.true c.loop-turn.total _ c.loop-turn.invariant.so_far c.in_ok-cost.cost c.sum-total.result c.sum-total.ensures
+          (turns_on (item_cost (measure unbound c.args.context.now.binds.now c.args.template.now) (counts unbound c.args.context.now.binds.now c.args.template.now) c.args.inside) c.args.count c.loop-turn.turn c.loop-turn.turns.items c.loop-turn-test.true c.loop-turn.total _ c.loop-turn.invariant.so_far c.in_ok-cost.cost c.sum-total.result c.sum-total.ensures
           (rw c.in_ok-push.ensures.items at c.in_ok-cost.ensures.cost));
       turns = e ∙ c.loop-turn.invariant.turns;
     }
 
 pub like_turns-returns-clause-cost : goal.like_turns-returns-clause-cost
 like_turns-returns-clause-cost t c =
-    all_turns (item_cost (measure unbound c.args.binds.now c.args.template.now) (counts unbound c.args.binds.now c.args.template.now) c.args.inside) c.args.turns.now.items
-    (costs_same unbound c.args.binds.now c.args.template.now c.args.inside c.requires) c.args.count c.in_ok-cost.cost c.times.result (omega (arith, c.if-count-eq0.false)) c.times.ensures c.push.new.self.items c.in_ok-cost.ensures.cost
+    all_turns (item_cost (measure unbound c.args.context.now.binds.now c.args.template.now) (counts unbound c.args.context.now.binds.now c.args.template.now) c.args.inside) c.args.turns.now.items
+    (costs_same unbound c.args.context.now.binds.now c.args.template.now c.args.inside c.requires) c.args.count c.in_ok-cost.cost c.times.result (omega (arith, c.if-count-eq0.false)) c.times.ensures c.push.new.self.items c.in_ok-cost.ensures.cost

@@ -9,14 +9,14 @@ use Rattle.sx_template.proofs.measure.+template_cost.Given as goal
 
 abbrev pub invariant-items_cost-loop-part : goal.invariant-items_cost-loop-part
 invariant-items_cost-loop-part l = record {
-  so_far : SoFar l.total (items_cost unbound l.binds (items (drop l.part-index l.list)) l.turns.items) (items_cost unbound l.binds (items l.list) l.initial.turns.items);
+  so_far : SoFar l.total (items_cost unbound l.context.binds.now (items (drop l.part-index l.list)) l.turns.items) (items_cost unbound l.context.binds.now (items l.list) l.initial.turns.items);
   turns : l.turns.items ≡ l.initial.turns.items;
 }
 
 abbrev pub invariant-each_turn-loop-turn : goal.invariant-each_turn-loop-turn
 invariant-each_turn-loop-turn l = record {
-  so_far : SoFar l.total (turns_cost (item_cost (measure unbound l.binds l.template) (counts unbound l.binds l.template) l.inside) (l.count - l.turn) l.turn l.turns.items)
-      (turns_cost (item_cost (measure unbound l.binds l.template) (counts unbound l.binds l.template) l.inside) l.count 0 l.initial.turns.items);
+  so_far : SoFar l.total (turns_cost (item_cost (measure unbound l.context.binds.now l.template) (counts unbound l.context.binds.now l.template) l.inside) (l.count - l.turn) l.turn l.turns.items)
+      (turns_cost (item_cost (measure unbound l.context.binds.now l.template) (counts unbound l.context.binds.now l.template) l.inside) l.count 0 l.initial.turns.items);
   turns : l.turns.items ≡ l.initial.turns.items;
 }
 

@@ -12,4 +12,4 @@ returns-in-Ok-clause-row c =
     ap is_some (sym c.find.ensures) ∙ sym (is_some-copied c.find.result) ∙ sym c.if-is_some.ensures in
     let there = ap (λ rs. is_some (label_in rs k.symbol k.marks)) c.self.view_is ∙ none in
     put_new c.args.self.now r none
-    ∙ ap Ok (sym (ap rows_of c.in-Ok.ensures.entries ∙ rows_of-insert c.self.inside.rows k c.args.label there ∙ ap (λ rs. rs ++ r ∷ []) c.self.view_is))
+    ∙ ap Ok (sym (c.tighten.ensures ∙ ap rows_of c.in-Ok.ensures.entries ∙ rows_of-insert c.self.inside.rows k c.args.label there ∙ ap (λ rs. rs ++ r ∷ []) c.self.view_is))

@@ -11,11 +11,11 @@ loop-variable-init c = rw (map-id c.args.variables.now) refl
 pub returns-in_err-bind_pattern_variable : goal.returns-in_err-bind_pattern_variable
 returns-in_err-bind_pattern_variable c =
     let p = err_from_is_err_and c.from_residual.result c.from_residual.ensures.1 in
-    rw (p.1, p.2) (gather_stops (λ v. v) (bind_next c.args.frame.now c.args.place.now c.args.level) c.args.variables.now c.loop-variable.variable-index c.variable-item.result tt c.loop-variable.self _ c.in_err-bind_pattern_variable.field-0.0 c.loop-variable-test.true c.variable-item.is c.in_err-bind_pattern_variable.ensures c.loop-variable.invariant)
+    rw (p.1, p.2) (gather_stops (λ v. v) (bind_next c.args.context.now.frame.now c.args.context.now.place.now c.args.context.now.level) c.args.variables.now c.loop-variable.variable-index c.variable-item.result tt c.loop-variable.self _ c.in_err-bind_pattern_variable.field-0.0 c.loop-variable-test.true c.variable-item.is c.in_err-bind_pattern_variable.ensures c.loop-variable.invariant)
 
 pub loop-variable-preserved : goal.loop-variable-preserved
 loop-variable-preserved c =
-    gather_on (λ v. v) (bind_next c.args.frame.now c.args.place.now c.args.level) c.args.variables.now c.loop-variable.variable-index c.variable-item.result tt c.loop-variable.self _ tt c.bind_pattern_variable.new.self c.loop-variable-test.true c.variable-item.is c.in_ok-bind_pattern_variable.ensures c.loop-variable.invariant
+    gather_on (λ v. v) (bind_next c.args.context.now.frame.now c.args.context.now.place.now c.args.context.now.level) c.args.variables.now c.loop-variable.variable-index c.variable-item.result tt c.loop-variable.self _ tt c.bind_pattern_variable.new.self c.loop-variable-test.true c.variable-item.is c.in_ok-bind_pattern_variable.ensures c.loop-variable.invariant
 
 pub returns : goal.returns
-returns c = gather_done (λ v. v) (bind_next c.args.frame.now c.args.place.now c.args.level) c.args.variables.now c.loop-variable.variable-index tt c.loop-variable.self _ c.loop-variable-test.false c.loop-variable.invariant
+returns c = gather_done (λ v. v) (bind_next c.args.context.now.frame.now c.args.context.now.place.now c.args.context.now.level) c.args.variables.now c.loop-variable.variable-index tt c.loop-variable.self _ c.loop-variable-test.false c.loop-variable.invariant

@@ -4,14 +4,14 @@ use Rattle.sx_lexer.specs.Tokens.{next_lexeme}
 use Rattle.sx_reader.specs.Read.{data_of}
 use Rattle.sx_reader.proofs.Taken.{Taken}
 use Rattle.sx_reader.proofs.Turns.{Comes}
-use Rattle.sx_reader.proofs.read.read_lexemes.Given as goal
+use Rattle.sx_reader.proofs.read.read_sharing.Given as goal
 
 abbrev pub invariant-loop-state : goal.invariant-loop-state
 invariant-loop-state l = record {
   inside : l.at ≤ length l.bytes;
-  begins : start_of l.file l.bytes ≡ Ok l.initial.at;
-  taken : Taken l.file l.nesting (next_lexeme l.file l.bytes) l.initial.at l.state l.at;
-  comes : Comes l.file l.nesting (next_lexeme l.file l.bytes) (length l.bytes) l.state l.at (data_of l.file l.bytes l.nesting);
+  begins : start_of l.context.file.now l.bytes ≡ Ok l.initial.at;
+  taken : Taken l.context.file.now l.context.nesting (next_lexeme l.context.file.now l.bytes) l.initial.at l.state l.at;
+  comes : Comes l.context.file.now l.context.nesting (next_lexeme l.context.file.now l.bytes) (length l.bytes) l.state l.at (data_of l.context.file.now l.bytes l.context.nesting);
 }
 
 abbrev pub decreases-loop-state : goal.decreases-loop-state

@@ -1,0 +1,16 @@
+use Rattle.std.proofs.lemmas.Result.{err_from_is_err_and}
+use Rattle.sx_stage.specs.Libraries.{earlier_in}
+use Rattle.sx_expand.specs.Expression.{inside, full_room}
+use Rattle.sx_expand.proofs.Taking.{gather_taken, gather_stopped}
+use Rattle.sx_expand.proofs.top.splice_each.Goals as goal
+
+pub returns-in_err-item : goal.returns-in_err-item
+returns-in_err-item g c =
+    let p = err_from_is_err_and c.from_residual.result c.from_residual.ensures.1 in
+    rw (p.1, p.2) (gather_stopped ((inside (earlier_in c.args.means.now.earlier) full_room).item c.args.at.now 0) c.loop-form.taken c.loop-form.left.rest.items c.next.new.self.rest.items c.in-Some.form
+    c.in-Some.ensures.cases.0 c.loop-form.state _ c.loop-form.invariant c.in_err-item.field-0.0 c.in_err-item.ensures)
+
+pub loop-form-preserved : goal.loop-form-preserved
+loop-form-preserved g c =
+    gather_taken ((inside (earlier_in c.args.means.now.earlier) full_room).item c.args.at.now 0) c.loop-form.taken c.loop-form.left.rest.items c.next.new.self.rest.items c.in-Some.form
+    c.in-Some.ensures.cases.0 c.loop-form.state _ c.loop-form.invariant c.item.new.taken c.item.new.state c.in_ok-item.ensures
