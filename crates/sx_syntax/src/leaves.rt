@@ -25,7 +25,7 @@ use sx_base::symbol::Symbol;
 /// The empty list without a span, made once for all lists of a datum to end in.
 #[derive(Drop)]
 pub(crate) struct End {
-    nil: Kept,
+    list: Kept,
 }
 
 impl Model for End {
@@ -36,20 +36,20 @@ impl Model for End {
 
     ghost view = { λ e. tt };
 
-    ghost invariant = { λ e. e.nil ≡ nil };
+    ghost invariant = { λ e. e.list ≡ nil };
 }
 
 impl End {
     fn new(alloc: Global) -> Result<End, Memory> {
-        let nil = empty_list(alloc)?;
-        Ok(End { nil })
+        let list = empty_list(alloc)?;
+        Ok(End { list })
     }
 
     /// Another owner of it.
     fn share(&self) -> Result<Kept, Memory>
         ensures { IfOk result (λ k. k ≡ nil) }
     {
-        self.nil.share()
+        self.list.share()
     }
 }
 
