@@ -31,7 +31,7 @@ kept::Kept::strip-strip_elements-requires t c =
 
 pub kept::Kept::strip-returns-in_ok-items-in-Vector : goal.kept::Kept::strip-returns-in_ok-items-in-Vector
 kept::Kept::strip-returns-in_ok-items-in-Vector t c =
-    ap (datum.vector c.in_ok-span.span) c.in_ok-items-in-Vector.ensures ∙ ap (λ s. datum.vector s (strip c.in-Vector.elements)) c.in_ok-span.ensures
+    ap (λ xs. datum.vector c.in_ok-span.span (datum.chain xs datum.nil)) c.shrink_to_fit.ensures.items ∙ ap (datum.vector c.in_ok-span.span) c.in_ok-items-in-Vector.ensures ∙ ap (λ s. datum.vector s (strip c.in-Vector.elements)) c.in_ok-span.ensures
     ∙ strip_node (whole_of c.self.inside.wrap c.deref-node.result.now) c.args.self.now (ap (λ (x : Node). view_of (whole_of c.self.inside.wrap x)) c.deref-node.ensures ∙ c.self.view_is) (shape.Vector c.in-Vector.field-0 c.in-Vector.elements) c.in-Vector.is
 
 pub strip::strip_along-loop-left-preserved : goal.strip::strip_along-loop-left-preserved
