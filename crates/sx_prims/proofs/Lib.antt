@@ -4,7 +4,7 @@ pub mod Links
 pub mod Indices
 pub mod Opened
 pub mod Walks
-pub mod Rows
+pub mod SmallRows
 pub mod Names
 pub mod Placed
 pub mod Called
