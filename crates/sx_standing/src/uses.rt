@@ -221,6 +221,6 @@ impl Expansion {
             place: keyword.place,
         };
         self.stage
-            .finish_keyword(&context, label, code, counts.steps)
+            .finish_keyword(&context, keyword.label, code, counts.steps)
     }
 }
