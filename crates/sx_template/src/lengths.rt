@@ -76,11 +76,16 @@ pub(crate) fn agreed(
     match &template.node {
         TemplateNode::Variable(label, depth) => {
             let depth = u64::from(*depth);
-            if depth <= inside {
-                return Ok(so_far);
+            if inside < depth {
+                let outer = depth - inside - 1;
+                agree_with(
+                    context.alloc,
+                    so_far,
+                    count_at(context.binds, label, outer, turns),
+                )
+            } else {
+                Ok(so_far)
             }
-            let count = count_at(context.binds, label, depth - inside - 1, turns);
-            agree_with(context.alloc, so_far, count)
         }
         TemplateNode::Constant(_) => Ok(so_far),
         TemplateNode::List(list, tail) => {
