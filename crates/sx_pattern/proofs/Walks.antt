@@ -9,7 +9,7 @@ use Rattle.sx_base.specs.declared.fault.Stop.TheVariants as stops
 use Rattle.sx_tree.specs.Tree.{Tree}
 use Rattle.sx_core.specs.Pattern.{PlainPattern}
 use Rattle.sx_pattern.specs.Keywords.{first_ellipsis}
-use Rattle.sx_pattern.specs.Compile.{Context, Taken, next_ellipsis, with_part, with_repeated, repeated_part, inner_depth, behind_ellipsis, added, pattern, with_pattern, step, walked}
+use Rattle.sx_pattern.specs.Compile.{Context, Taken, next_ellipsis, with_part, with_repeated, repeated_part, inner_depth, behind_ellipsis, added, pattern, with_pattern, step, walked, Walked}
 use Rattle.sx_pattern.specs.declared.compile.PatternParts.{PatternParts}
 
 next_is_first : (c : Context) (ts : List Tree) → next_ellipsis c.frames (map (with_pattern c) ts) ≡ first_ellipsis c.frames ts
@@ -26,19 +26,19 @@ module _ (c : Context) (depth : ℕ) (parts : PatternParts) (t : Tree) where
   stepped None ts s h = go (pattern c t depth s)
     where
       go : (r : Result (PlainPattern × Taken) Fault)
-          → after (after r (λ p u. Ok ((false, with_part parts.repeated parts p), u))) (λ w. walked c depth w.0 w.1 (map (with_pattern c) ts)) ≡ after r (on_pattern None ts)
+          → after {A = Walked} (after {B = Walked} r (λ p u. Ok ((false, with_part parts.repeated parts p), u))) (λ w. walked c depth w.0 w.1 (map (with_pattern c) ts)) ≡ after r (on_pattern None ts)
       go (Ok q) = refl
       go (Err f) = refl
   stepped (Some e) [] s h = absurd (cc)
   stepped (Some e) (x ∷ xs) s h = go (pattern c t (depth + 1) s)
     where
       also : (r : Result PatternParts Fault) (u : Taken)
-          → after (r >>= λ more. Ok ((true, more), u)) (λ w. walked c depth w.0 w.1 (map (with_pattern c) (x ∷ xs))) ≡ (r >>= λ more. walked c depth false more (map (with_pattern c) xs) u)
+          → after {A = Walked} (r >>= λ more. Ok ((true, more), u)) (λ w. walked c depth w.0 w.1 (map (with_pattern c) (x ∷ xs))) ≡ (r >>= λ more. walked c depth false more (map (with_pattern c) xs) u)
       also (Ok more) u = refl
       also (Err f) u = refl
 
       go : (r : Result (PlainPattern × Taken) Fault)
-          → after (after r (repeated_part c.place e parts)) (λ w. walked c depth w.0 w.1 (map (with_pattern c) (x ∷ xs))) ≡ after r (on_pattern (Some e) (x ∷ xs))
+          → after {A = Walked} (after {B = Walked} r (repeated_part c.place e parts)) (λ w. walked c depth w.0 w.1 (map (with_pattern c) (x ∷ xs))) ≡ after r (on_pattern (Some e) (x ∷ xs))
       go (Ok q) = also (with_repeated c.place e parts.repeated parts q.0) q.1
       go (Err f) = refl
 
