@@ -1,5 +1,5 @@
 -- The stack of open files takes the steps of the definition.
-use Rattle.std.proofs.Common.{◌≡◌, ℕ, zero, suc, ◌+◌, Bool, List, [], ◌∷◌, drop, reverse, Result, Ok, Err, Option, Some, None, refl, sym, ap, ◌∙◌}
+use Rattle.std.proofs.Common.{◌≡◌, ℕ, zero, suc, ◌+◌, ◌-◌, arith, Bool, List, [], ◌∷◌, drop, reverse, Result, Ok, Err, Option, Some, None, refl, sym, ap, ◌∙◌}
 use Rattle.std.specs.Prelude.{slice_get}
 use Rattle.sx_base.specs.Gives.{◌>>=◌}
 use Rattle.sx_base.specs.declared.fault.Fault.{Fault}
@@ -235,3 +235,13 @@ module _ (files : Paths) (roots : List (List ℕ)) where
   pub unwound_none : (os : List Open) (l : Found × Loading) → os ≡ [] → unwind files roots (reverse os) l ≡ Ok l
   unfolding unwind
   unwound_none os l e = ap (λ ws. unwind files roots (reverse ws) l) e
+
+-- ---- the file of the next import
+
+pub descends : (files : Paths) (roots : List (List ℕ)) (o first : Open) (s new : Loading) (i : Import) (opened : Opened) → Some i ≡ slice_get o.opened.form.imports o.next
+    → (o.room ≡ 0 → ⊥) → open_file files roots i.set s ≡ Ok (opened, new) → first ≡ first_of (o.room - 1) opened → descended files roots o s ≡ Ok (first, new)
+descends files roots o first s new i opened at some found is = ap (descended_by files roots o s) (sym at) ∙ by o.room some is
+  where
+    by : (room : ℕ) → (room ≡ 0 → ⊥) → first ≡ first_of (room - 1) opened → descended_in files roots room i.set s ≡ Ok (first, new)
+    by zero some here = absurd (some refl)
+    by (suc room) some here = ap (λ r. r >>= (λ p. Ok (first_of room p.0, p.1))) found ∙ ap (λ p. Ok (p, new)) (sym (here ∙ ap (λ n. first_of n opened) (omega arith)))

@@ -39,5 +39,5 @@ returns-in-Ok-Some-Loaded-clause-given g c = λ fs h.
     let needs = c.in-Ok-Some-Loaded.needs in
     let seen : known_next c.args.at c.args.loading.now ≡ Ok (Some (known.Loaded c.in-Ok-Some-Loaded.needs)) = cc (c.in-Ok-Some-Loaded.ensures, c.in-Ok-Some-Loaded.field-0-is, c.in-Ok-Some-Loaded.field-0-0-is) in
     turns_on fs c.args.search.now.roots.now c.passed_with.result (next_of c.args.at needs (c.args.at.next + 1)) c.args.stack.now.items c.args.loading.now
-    (meaning fs c.args.search.now.roots.now c.args.at (reverse c.args.stack.now.items) c.args.loading.now) c.passed_with.ensures.given c.passed_with.ensures.err
+    (meaning fs c.args.search.now.roots.now c.args.at (reverse c.args.stack.now.items) c.args.loading.now) (rw c.in-Ok-Some-Loaded.field-0-0-is at c.passed_with.ensures.given) c.passed_with.ensures.err
     (turn_loaded fs c.args.search.now.roots.now c.args.at (reverse c.args.stack.now.items) c.args.loading.now needs seen)
