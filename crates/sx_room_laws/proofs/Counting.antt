@@ -15,12 +15,12 @@ use Rattle.sx_shapes.specs.Forms.{if_shape, shaped, shape_of, shape}
 use Rattle.sx_shapes.specs.Lists.{is_leaf, is_nil_atom}
 use Rattle.sx_standing.specs.Standing.{standing_of, role_of}
 use Rattle.sx_standing.specs.State.{State}
-use Rattle.sx_heads.specs.Depth.{deeper}
+use Rattle.sx_heads.specs.Depth.{deeper, most_round}
 use Rattle.sx_heads.specs.Plan.{application, by_head, keyword_plan, list_plan, plan_of, shape_plan}
 use Rattle.sx_heads.specs.declared.plan.Plan.{Plan}
 use Rattle.sx_heads.specs.declared.plan.Plan.TheVariants as plans
 use Rattle.sx_expand.specs.Body.{sequence_of}
-use Rattle.sx_expand.specs.Expression.{alternate, application as call_form, conditional, in_order, in_sequence, perform, inside}
+use Rattle.sx_expand.specs.Expression.{alternate, application as call_form, conditional, in_order, in_sequence, perform, inside, full_room}
 use Rattle.sx_expand.specs.Inside.{Inside}
 use Rattle.sx_expand.specs.Settle.{step_of}
 use Rattle.sx_expand.specs.declared.settle.Step.TheVariants as steps
@@ -55,7 +55,7 @@ module _ (place : Span) (level : ℕ) (form : Tree) (s : State) (no : is_leaf fo
   plan-settles operator rs = refl
   plan-settles (test word) rs = refl
 
-  in-round : (records : List LibRecord) (room depth : ℕ) (r : Round) → IsRound s r → depth ≤ 600 → (inside records (suc room)).form place level depth (put r form) s ≡ perform (inside records room) place level depth (put r form) (plan r form) s
+  in-round : (records : List LibRecord) (room depth : ℕ) (r : Round) → IsRound s r → depth ≤ most_round → (inside records (suc room)).form place level depth (put r form) s ≡ perform (inside records room) place level depth (put r form) (plan r form) s
   in-round records room depth r is few =
       form-is records room place level depth (put r form) s ∙ done-at (inside records room) place level depth (put r form) s (plan r form) few (plan-is r is) (plan-settles r)
 
@@ -78,10 +78,10 @@ module _ (records : List LibRecord) (place : Span) (level : ℕ) (s : State) whe
   at-room : (a b depth : ℕ) (u : Tree) → a ≡ b → (inside records a).form place level depth u s ≡ (inside records b).form place level depth u s
   at-room a b depth u e = ap (λ n. (inside records n).form place level depth u s) e
 
-  at-depth : (room depth : ℕ) (u : Tree) → depth ≤ 600 → (inside records room).form place level (deeper depth) u s ≡ (inside records room).form place level (suc depth) u s
+  at-depth : (room depth : ℕ) (u : Tree) → depth ≤ most_round → (inside records room).form place level (deeper depth) u s ≡ (inside records room).form place level (suc depth) u s
   at-depth room depth u few = ap (λ n. (inside records room).form place level n u s) (one-deeper depth few)
 
-  all-refused : (t : Tree) → is_leaf t ≡ false → (rs : List Round) (room depth : ℕ) → AreRound s rs → depth + length rs ≡ 601
+  all-refused : (t : Tree) → is_leaf t ≡ false → (rs : List Round) (room depth : ℕ) → AreRound s rs → depth + length rs ≡ most_round + 1
       → (inside records (length rs + room)).form place level depth (put_in rs t) s ≡ Err (fault_at kind.TooDeep t place [])
   all-refused t inner [] room depth is h = too-deep-form records (length {A = Round} [] + room) place level depth t s (over depth (omega (arith, h)))
   all-refused t inner (r ∷ rs) room depth is h =
@@ -90,10 +90,10 @@ module _ (records : List LibRecord) (place : Span) (level : ℕ) (s : State) whe
       ∙ faulted place level (put_in rs t) s (not-leaf rs t inner) (inside records (length rs + room)) depth (put_in (r ∷ rs) t) r (fault_at kind.TooDeep t place [])
       (at-depth (length rs + room) depth (put_in rs t) (omega (arith, h)) ∙ all-refused t inner rs room (suc depth) is.1 (omega (arith, h)))
 
-  atom-is : (room depth : ℕ) (o : Option Span) (a : Atom) → depth ≤ 600 → is_nil_atom a ≡ false → (inside records (suc room)).form place level depth (atom o a) s ≡ Ok (quoted (strip (atom o a)), s)
+  atom-is : (room depth : ℕ) (o : Option Span) (a : Atom) → depth ≤ most_round → is_nil_atom a ≡ false → (inside records (suc room)).form place level depth (atom o a) s ≡ Ok (quoted (strip (atom o a)), s)
   atom-is room depth o a few some = form-is records room place level depth (atom o a) s ∙ constant-is (inside records room) place level depth o a s few some
 
-  all-taken : (o : Option Span) (a : Atom) → is_nil_atom a ≡ false → (rs : List Round) (room depth : ℕ) → AreRound s rs → depth + length rs ≤ 600
+  all-taken : (o : Option Span) (a : Atom) → is_nil_atom a ≡ false → (rs : List Round) (room depth : ℕ) → AreRound s rs → depth + length rs ≤ most_round
       → (inside records (length rs + suc room)).form place level depth (put_in rs (atom o a)) s ≡ Ok (code_in rs (quoted (strip (atom o a))), s)
   all-taken o a some [] room depth is h = at-room (length {A = Round} [] + suc room) (suc room) depth (atom o a) (omega arith) ∙ atom-is room depth o a (omega (arith, h)) some
   all-taken o a some (r ∷ rs) room depth is h =
@@ -106,7 +106,7 @@ module _ (records : List LibRecord) (place : Span) (level : ℕ) (s : State) whe
 pub forms-count-once : FormsCountOnce
 forms-count-once = record {
   taken = λ records place level rs o a s is few some.
-      forms-need-no-more records 602 (length rs + suc 601) place level 0 (put_in rs (atom o a)) s (omega arith) (omega arith) ∙ all-taken records place level s o a some rs 601 0 is (omega (arith, few));
+      forms-need-no-more records full_room (length rs + suc (most_round + 1)) place level 0 (put_in rs (atom o a)) s (omega arith) (omega arith) ∙ all-taken records place level s o a some rs (most_round + 1) 0 is (omega (arith, few));
   refused = λ records place level rs t s is all inner.
-      forms-need-no-more records 602 (length rs + 602) place level 0 (put_in rs t) s (omega arith) (omega arith) ∙ all-refused records place level s t inner rs 602 0 is (omega (arith, all));
+      forms-need-no-more records full_room (length rs + full_room) place level 0 (put_in rs t) s (omega arith) (omega arith) ∙ all-refused records place level s t inner rs full_room 0 is (omega (arith, all));
 }

@@ -1,5 +1,5 @@
 -- Sequences, applications and forms of `if` count alike: each makes what lies in it one deeper, and no more.
-use Rattle.std.specs.Prelude.{◌≡◌, ℕ, ◌≤◌, true, false, List, [], ◌∷◌, length, Option, None, Ok}
+use Rattle.std.specs.Prelude.{◌≡◌, ℕ, ◌≤◌, ◌+◌, true, false, List, [], ◌∷◌, length, Option, None, Ok}
 use Rattle.sx_base.specs.declared.atom.Atom.{Atom}
 use Rattle.sx_base.specs.declared.atom.Atom.TheVariants as atoms
 use Rattle.sx_base.specs.declared.fault.FaultKind.TheVariants as kind
@@ -14,6 +14,7 @@ use Rattle.sx_shapes.specs.Lists.{is_leaf, is_nil_atom}
 use Rattle.sx_standing.specs.Standing.{standing_of}
 use Rattle.sx_standing.specs.State.{State, fault_form}
 use Rattle.sx_standing.specs.declared.standing.Standing.TheVariants as standing
+use Rattle.sx_heads.specs.Depth.{most_round}
 use Rattle.sx_expand.specs.Expanding.{expression}
 
 -- What stands right round a form: `(begin form)`, `(form)` or `(if form #t)`. A keyword is an identifier that stands for it.
@@ -60,8 +61,8 @@ code_in (r ∷ rs) c = code r (code_in rs c)
 
 pub record FormsCountOnce : Type 0 where
   -- A constant in 600 of them is taken,
-  pub taken : (records : List LibRecord) (place : Span) (level : ℕ) (rs : List Round) (o : Option Span) (a : Atom) (s : State) → AreRound s rs → length rs ≤ 600 → is_nil_atom a ≡ false
+  pub taken : (records : List LibRecord) (place : Span) (level : ℕ) (rs : List Round) (o : Option Span) (a : Atom) (s : State) → AreRound s rs → length rs ≤ most_round → is_nil_atom a ≡ false
       → expression records place level (put_in rs (atom o a)) s ≡ Ok (code_in rs (quoted (strip (atom o a))), s)
   -- and any form in 601 of them is TooDeep, unless it is an identifier, which might be a keyword where it is an operator.
-  pub refused : (records : List LibRecord) (place : Span) (level : ℕ) (rs : List Round) (t : Tree) (s : State) → AreRound s rs → length rs ≡ 601 → is_leaf t ≡ false
+  pub refused : (records : List LibRecord) (place : Span) (level : ℕ) (rs : List Round) (t : Tree) (s : State) → AreRound s rs → length rs ≡ most_round + 1 → is_leaf t ≡ false
       → expression records place level (put_in rs t) s ≡ fault_form kind.TooDeep t place s
