@@ -52,7 +52,8 @@ use Rattle.sx_expand_laws.proofs.Records.{Runs, record-runs, records-good}
 use Rattle.sx_expand_laws.proofs.Serving.{bindings-hold, keyword-kept}
 use Rattle.sx_expand_laws.proofs.Started.{started-foreign, started-sound}
 use Rattle.sx_expand_laws.proofs.Top.{SameScope, AreShown, same-exports, kinds-defined}
-use Rattle.sx_expand_laws.proofs.Spent.{Known, Has, IsSpent, Unspent, AreUnspent, unspent-all, KeptGood, kept-less, GoodExpression, Begins, Onward}
+use Rattle.sx_expand_laws.specs.Kept.{IsKeptWith, MakesName, KeptAreGood, IsKeptExpression, IsGoodState}
+use Rattle.sx_expand_laws.proofs.Spent.{IsSpent, Unspent, AreUnspent, unspent-all, kept-less, Onward}
 use Rattle.sx_expand_laws.proofs.SpentBinding.{begins-by}
 use Rattle.sx_expand_laws.proofs.Spares.{taken_labels, Spares, Gives}
 use Rattle.sx_expand_laws.proofs.SparesBodies.{T, LinesAway, Lines, spares-splice, spares-lines}
@@ -60,7 +61,7 @@ use Rattle.sx_expand_laws.proofs.SparesAll.{inside-spares}
 
 -- the state in which the expansion of a record ended: neither its lines nor its keywords share a name with another keyword
 pub record Ends (own : LibName) (given : List Label) (r : LibRecord) (v : State) : Type 0 where
-  pub kept : KeptGood own given v
+  pub kept : KeptAreGood own given v
   pub bindings : r.bindings ≡ own_bindings v
   pub next : v.names.library ≡ own
   pub labels : AreUnspent own v (flat_map line_labels r.run)
@@ -68,10 +69,10 @@ pub record Ends (own : LibName) (given : List Label) (r : LibRecord) (v : State)
 
 module _ (own : LibName) (given : List Label) (go : Inside) (spares : Spares own given go) where
   -- the exports leave it so
-  pub exports-same : (s t : State) → SameScope s t → Begins own given s → Onward own given s t
+  pub exports-same : (s t : State) → SameScope s t → IsGoodState own given s → Onward own given s t
   exports-same s t h b =
       let up : s.names.number ≤ t.names.number = let e = ap (λ (n : Named). n.number) h.names in omega (arith, e) in
-      let less = kept-less own given s t up (λ k c o e. subst (λ (ks : List (Label × Keyword)). Known ks k c) h.keywords e) b.kept in (
+      let less = kept-less own given s t up (λ k c o e. subst (λ (ks : List (Label × Keyword)). IsKeptWith ks k c) h.keywords e) b.kept in (
         begins-by own given s t h.library (ap (λ (n : Named). n.library) h.names ∙ b.sound.next) (grows-same own s t h.frames h.bindings h.index up) bound (λ l v o x. inl (ap (λ bs. bound_to bs l) (sym h.bindings) ∙ x.0, x.1)) less.0 b,
         less.1,
       )
@@ -79,7 +80,7 @@ module _ (own : LibName) (given : List Label) (go : Inside) (spares : Spares own
       bound : Each (IsBound s) s.scope → Each (IsBound t) t.scope
       bound e = subst (Each (IsBound t)) (sym h.scope) (each-map (IsBound s) (IsBound t) s.scope e (λ l x. (x.0, ap (λ bs. bound_to bs l) h.bindings ∙ x.1)))
 
-  ends-finished : (at : TopAt) (es : List (List ℕ × Tree)) (d : Taken) (s : State) → Begins own given s → AreUnspent own s (taken_labels d) → Gave (Ends own given) (finished go at es d s)
+  ends-finished : (at : TopAt) (es : List (List ℕ × Tree)) (d : Taken) (s : State) → IsGoodState own given s → AreUnspent own s (taken_labels d) → Gave (Ends own given) (finished go at es d s)
   unfolding finished
   ends-finished at es d s b k =
       gave-after (λ ls t. SameScope s t × AreShown s.frames ls) (Ends own given) (exports at es s) (λ ls t. after (finish_all go 0 d.waiting t) (λ lines. give_record at ls lines)) (same-exports at es s)
@@ -93,14 +94,14 @@ module _ (own : LibName) (given : List Label) (go : Inside) (spares : Spares own
         lines = g.1.0;
       }))
 
-  ends-top : (at : TopAt) (es : List (List ℕ × Tree)) (forms : List Tree) (start : State) → Begins own given start → Gave (Ends own given) (top go at es forms start)
+  ends-top : (at : TopAt) (es : List (List ℕ × Tree)) (forms : List Tree) (start : State) → IsGoodState own given start → Gave (Ends own given) (top go at es forms start)
   unfolding top first_pass
   ends-top at es forms start b =
       gave-after (Gives own given (T own given go spares) start) (Ends own given) (splice go (body_at at start.library) 0 begun (map (stamp at.frame) forms) start) (finished go at es)
       (spares-splice own given go spares (body_at at start.library) 0 begun (map (stamp at.frame) forms) start (λ e. refl) b tt)
       (λ d t g. ends-finished at es d t g.0.0 g.1)
 
-pub started-begins : (own : LibName) (records : List LibRecord) (imports : List (List ℕ × Label)) (codes : Codes) → IsReady own records → Begins own (flat_map defined records) (started own records imports codes)
+pub started-begins : (own : LibName) (records : List LibRecord) (imports : List (List ℕ × Label)) (codes : Codes) → IsReady own records → IsGoodState own (flat_map defined records) (started own records imports codes)
 unfolding started
 started-begins own records imports codes h = record {
   sound = started-sound own records imports codes h;
@@ -129,9 +130,9 @@ record-ends own path records imports version place exports forms codes r h e =
     by (Err f) g is = absurd (cc)
 
 -- Of the state in which it ended: the expressions of its keywords.
-module _ (own : LibName) (given : List Label) (v : State) (next : v.names.library ≡ own) (kept : KeptGood own given v) where
+module _ (own : LibName) (given : List Label) (v : State) (next : v.names.library ≡ own) (kept : KeptAreGood own given v) where
   abbrev Of : ℕ → PlainCore → Type 0
-  Of n c = Known v.keywords (own_label v n) c
+  Of n c = IsKeptWith v.keywords (own_label v n) c
 
   of-keyword : (n level : ℕ) (o : Option PlainCore) (c : PlainCore) → expression_of (own_label v n) (stage_of v) ≡ o → Among (keyword_of (own_label v n, binding.Macro level o)) c → Of n c
   of-keyword n level None c e a = elim a [ ]
@@ -163,19 +164,19 @@ module _ (own : LibName) (given : List Label) (v : State) (next : v.names.librar
       by before (inl x) = let k = before x in let lt = k.1.0 in (k.0, (omega (arith, lt), k.1.1))
       by before (inr x) = (n, (omega arith, of-row n (bound_to v.bindings (own_label v n)) c x))
 
-  expression-good : (n : ℕ) (c : PlainCore) → Of n c → GoodExpression own given c
+  expression-good : (n : ℕ) (c : PlainCore) → Of n c → IsKeptExpression own given c
   expression-good n c e = kept.good (own_label v n) c next e
 
-  pub keywords-each : (P : PlainCore → Type 0) → ((c : PlainCore) → GoodExpression own given c → P c) → Each P (flat_map keyword_of (own_bindings v))
+  pub keywords-each : (P : PlainCore → Type 0) → ((c : PlainCore) → IsKeptExpression own given c → P c) → Each P (flat_map keyword_of (own_bindings v))
   unfolding own_bindings
   keywords-each P h = each-of P (flat_map keyword_of (own_below v v.names.number)) (λ c a. let k = of-below v.names.number c a in h c (expression-good k.0 c k.1.1))
 
-  pub keywords-spent : (c : PlainCore) (n : Named) → Among (flat_map keyword_of (own_bindings v)) c → Has c n → IsSpent own v n
+  pub keywords-spent : (c : PlainCore) (n : Named) → Among (flat_map keyword_of (own_bindings v)) c → MakesName c n → IsSpent own v n
   unfolding own_bindings
   keywords-spent c n a x = let k = of-below v.names.number c a in (own_label v k.0, (c, (next, (k.1.1, x))))
 
   -- what core code has of a kind
-  module _ {A : Type 0} (g : PlainCore → List A) (name : A → Named) (has : (c : PlainCore) (x : A) → Among (g c) x → Has c (name x)) (once : (c : PlainCore) → IsWellMade [] c → Once (g c)) where
+  module _ {A : Type 0} (g : PlainCore → List A) (name : A → Named) (has : (c : PlainCore) (x : A) → Among (g c) x → MakesName c (name x)) (once : (c : PlainCore) → IsWellMade [] c → Once (g c)) where
     pub in-flat : (cs : List PlainCore) (x : A) → Among (flat_map g cs) x → (c : PlainCore) × (Among cs c × Among (g c) x)
     in-flat [] x a = elim a [ ]
     in-flat (c ∷ cs) x a = by (in-flat cs x) (among-parts (g c) (flat_map g cs) x a)
@@ -282,14 +283,14 @@ keywords-good own path records imports version place exports forms codes r h e =
           (λ m a b. label-apart given v ends is m a b);
       bound_here = each-append (λ (m : Label). m.0.library ≡ r.name) (run_binders r) (flat_map binders (keywords r)) good.0.bound_here
           (each-flat (λ (m : Label). m.0.library ≡ r.name) binders (keywords r) (subst (Each (λ (c : PlainCore). Each (λ (m : Label). m.0.library ≡ r.name) (binders c))) is
-          (each (λ (c : PlainCore). Each (λ (m : Label). m.0.library ≡ r.name) (binders c)) (λ c x. each-of (λ (m : Label). m.0.library ≡ r.name) (binders c) (λ m a. x.here m.0 (inl a) ∙ sym runs.name)))));
+          (each (λ (c : PlainCore). Each (λ (m : Label). m.0.library ≡ r.name) (binders c)) (λ c x. each-of (λ (m : Label). m.0.library ≡ r.name) (binders c) (λ m a. x.names_here m.0 (inl a) ∙ sym runs.name)))));
       numbered_once = subst (λ (ns : List CodeNo). Once ns) (sym (flat_map-append code_numbers (line_cores r) (keywords r)))
           (once-append (flat_map code_numbers (line_cores r)) (flat_map code_numbers (keywords r)) good.0.numbered_once (subst (λ (cs : List PlainCore). Once (flat_map code_numbers cs)) is numbers)
           (λ n a b. number-apart given v ends is n a b));
       numbered_here = subst (Each (λ (n : CodeNo). n.0.library ≡ r.name)) (sym (flat_map-append code_numbers (line_cores r) (keywords r)))
           (each-append (λ (n : CodeNo). n.0.library ≡ r.name) (flat_map code_numbers (line_cores r)) (flat_map code_numbers (keywords r)) good.0.numbered_here
           (each-flat (λ (n : CodeNo). n.0.library ≡ r.name) code_numbers (keywords r) (subst (Each (λ (c : PlainCore). Each (λ (n : CodeNo). n.0.library ≡ r.name) (code_numbers c))) is
-          (each (λ (c : PlainCore). Each (λ (n : CodeNo). n.0.library ≡ r.name) (code_numbers c)) (λ c x. each-of (λ (n : CodeNo). n.0.library ≡ r.name) (code_numbers c) (λ n a. x.here n.0 (inr a) ∙ sym runs.name))))));
+          (each (λ (c : PlainCore). Each (λ (n : CodeNo). n.0.library ≡ r.name) (code_numbers c)) (λ c x. each-of (λ (n : CodeNo). n.0.library ≡ r.name) (code_numbers c) (λ n a. x.names_here n.0 (inr a) ∙ sym runs.name))))));
     }
   where
     label-apart : (given : List Label) (v : State) → Ends own given r v → flat_map keyword_of (own_bindings v) ≡ keywords r → (m : Label) → Among (run_binders r) m → Among (flat_map binders (keywords r)) m → ⊥

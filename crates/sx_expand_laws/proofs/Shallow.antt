@@ -25,4 +25,4 @@ records-shallow own path records imports version place exports forms codes r h e
     let v = ended.state in
     let is : flat_map keyword_of (own_bindings v) ≡ keywords r = ap (flat_map keyword_of) (sym ended.ends.bindings) in
     each-append IsShallow (line_cores r) (keywords r) (lines-shallow runs.ended.bindings r.run runs.nests)
-    (subst (Each IsShallow) is (keywords-each own given v ended.ends.next ended.ends.kept IsShallow (λ c x. x.low)))
+    (subst (Each IsShallow) is (keywords-each own given v ended.ends.next ended.ends.kept IsShallow (λ c x. x.shallow)))

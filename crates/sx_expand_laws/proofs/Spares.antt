@@ -42,7 +42,8 @@ use Rattle.sx_expand_laws.proofs.Naming.{as_frame, as_label, counted}
 use Rattle.sx_expand_laws.proofs.Nesting.{Within}
 use Rattle.sx_expand_laws.proofs.Uses.{later-apart, finish-later}
 use Rattle.sx_expand_laws.proofs.WellMade.{good-well-made, good-primitives}
-use Rattle.sx_expand_laws.proofs.Spent.{Known, Has, as_code, IsSpent, Tracks, AreUnspent, AwayCore, away-append, away-round, away-later, AwayCase, all-away, away-has, GoodExpression, KeptGood, kept-less, Begins, Onward}
+use Rattle.sx_expand_laws.specs.Kept.{IsKeptWith, MakesName, code_named, IsKeptExpression, KeptAreGood, IsGoodState}
+use Rattle.sx_expand_laws.proofs.Spent.{IsSpent, Tracks, AreUnspent, AwayCore, away-append, away-round, away-later, AwayCase, all-away, away-has, kept-less, Onward}
 use Rattle.sx_expand_laws.proofs.SpentOnStage.{Tells, TellsBut, finish-told}
 use Rattle.sx_expand_laws.proofs.SpentBinding.{keywords-told, begins-later, onward-self, onward-then, onward-but, onward-counted, onward-cut}
 
@@ -53,14 +54,14 @@ taken_labels d = kind_labels (wait_kinds d.waiting)
 -- what is done inside forms spares the names of keywords
 pub record Spares (own : LibName) (given : List Label) (go : Inside) : Type 0 where
   pub safe : Safe own given go
-  pub form : (place : Span) (level depth : ℕ) (t : Tree) (s : State) → Begins own given s → Gave (λ c u. Onward own given s u × AwayCore own u c) (go.form place level depth t s)
-  pub procedure : (place : Span) (level depth : ℕ) (t : Tree) (ids : FormalIds) (forms : List Tree) (s : State) → Begins own given s → Gave (λ c u. Onward own given s u × AwayCase own u c) (go.procedure place level depth t ids forms s)
-  pub item : (at : BodyAt) (depth : ℕ) (d : Taken) (t : Tree) (s : State) → (is_top at.kind ≡ true → at.level ≡ 0) → Begins own given s → AreUnspent own s (taken_labels d)
+  pub form : (place : Span) (level depth : ℕ) (t : Tree) (s : State) → IsGoodState own given s → Gave (λ c u. Onward own given s u × AwayCore own u c) (go.form place level depth t s)
+  pub procedure : (place : Span) (level depth : ℕ) (t : Tree) (ids : FormalIds) (forms : List Tree) (s : State) → IsGoodState own given s → Gave (λ c u. Onward own given s u × AwayCase own u c) (go.procedure place level depth t ids forms s)
+  pub item : (at : BodyAt) (depth : ℕ) (d : Taken) (t : Tree) (s : State) → (is_top at.kind ≡ true → at.level ≡ 0) → IsGoodState own given s → AreUnspent own s (taken_labels d)
       → Gave (λ e u. Onward own given s u × AreUnspent own u (taken_labels e)) (go.item at depth d t s)
 
 module _ (own : LibName) (given : List Label) where
   abbrev B : State → Type 0
-  B = Begins own given
+  B = IsGoodState own given
 
   abbrev O : State → State → Type 0
   O = Onward own given
@@ -142,9 +143,9 @@ module _ (own : LibName) (given : List Label) where
     abbrev pub Expressed : State → PlainCore → State → Type 0
     Expressed s c w = O s w × ((C w c × IsShallow c) × Good own w.bindings [] given s.names.number w.names.number c)
 
-    pub has-made : (w : State) (a b : ℕ) (c : PlainCore) (n : Named) → Good own w.bindings [] given a b c → Has c n → Made own a b n
+    pub has-made : (w : State) (a b : ℕ) (c : PlainCore) (n : Named) → Good own w.bindings [] given a b c → MakesName c n → Made own a b n
     has-made w a b c n h (inl x) = each-at (λ (l : Label). Made own a b l.0) (binders c) (as_label n) h.binders.made x
-    has-made w a b c n h (inr x) = each-at (λ (m : CodeNo). Made own a b m.0) (code_numbers c) (as_code n) h.inner.codes.made x
+    has-made w a b c n h (inr x) = each-at (λ (m : CodeNo). Made own a b m.0) (code_numbers c) (code_named n) h.inner.codes.made x
 
     -- with nothing in scope
     pub nothing-begins : (s : State) → B s → B (record s { scope = [] })
@@ -184,34 +185,34 @@ module _ (own : LibName) (given : List Label) where
         below : (n : Named) → IsSpent own v n → n.number < v.names.number
         below n (k, (d, (o, (e, y)))) = by (tells k d e)
           where
-            by : Known w.keywords k d ⊎ ((k ≡ l) × (d ≡ c)) → n.number < v.names.number
+            by : IsKeptWith w.keywords k d ⊎ ((k ≡ l) × (d ≡ c)) → n.number < v.names.number
             by (inl f) = let lt = x.0.0.kept.below n (k, (d, (o, (f, y)))) in omega (arith, lt, later.up)
-            by (inr i) = let m = has-made w s.names.number w.names.number c n x.1.1 (subst (λ (z : PlainCore). Has z n) i.1 y) in omega (arith, m.high, later.up)
+            by (inr i) = let m = has-made w s.names.number w.names.number c n x.1.1 (subst (λ (z : PlainCore). MakesName z n) i.1 y) in omega (arith, m.high, later.up)
 
-        new-good : GoodExpression own given c
+        new-good : IsKeptExpression own given c
         new-good = record {
           closed = x.1.1.closed;
           well_made = good-well-made own w.bindings [] given s.names.number w.names.number c tt x.1.1;
           primitives = good-primitives own w.bindings [] given s.names.number w.names.number c x.1.1;
-          here = λ n y. (has-made w s.names.number w.names.number c n x.1.1 y).library;
-          low = x.1.0.1;
+          names_here = λ n y. (has-made w s.names.number w.names.number c n x.1.1 y).library;
+          shallow = x.1.0.1;
         }
 
-        good : (k : Label) (d : PlainCore) → IsOwn own k.0 → Known w.keywords k d ⊎ ((k ≡ l) × (d ≡ c)) → GoodExpression own given d
+        good : (k : Label) (d : PlainCore) → IsOwn own k.0 → IsKeptWith w.keywords k d ⊎ ((k ≡ l) × (d ≡ c)) → IsKeptExpression own given d
         good k d o (inl e) = x.0.0.kept.good k d o e
-        good k d o (inr i) = subst (GoodExpression own given) (sym i.1) new-good
+        good k d o (inr i) = subst (IsKeptExpression own given) (sym i.1) new-good
 
         -- the new expression shares no name with an old one
-        never : (k : Label) (d : PlainCore) (n : Named) → IsOwn own k.0 → Known w.keywords k d → Has d n → Has c n → ⊥
+        never : (k : Label) (d : PlainCore) (n : Named) → IsOwn own k.0 → IsKeptWith w.keywords k d → MakesName d n → MakesName c n → ⊥
         never k d n o e y z = (away-has own w c n x.1.0.0 z).1 (k, (d, (o, (e, y))))
 
-        apart-so : (k m : Label) (d e : PlainCore) (n : Named) → IsOwn own k.0 → IsOwn own m.0 → Known w.keywords k d ⊎ ((k ≡ l) × (d ≡ c)) → Known w.keywords m e ⊎ ((m ≡ l) × (e ≡ c)) → Has d n → Has e n → k ≡ m
+        apart-so : (k m : Label) (d e : PlainCore) (n : Named) → IsOwn own k.0 → IsOwn own m.0 → IsKeptWith w.keywords k d ⊎ ((k ≡ l) × (d ≡ c)) → IsKeptWith w.keywords m e ⊎ ((m ≡ l) × (e ≡ c)) → MakesName d n → MakesName e n → k ≡ m
         apart-so k m d e n o p (inl f) (inl g) y z = x.0.0.kept.apart k m d e n o p f g y z
-        apart-so k m d e n o p (inl f) (inr i) y z = absurd (never k d n o f y (subst (λ (q : PlainCore). Has q n) i.1 z))
-        apart-so k m d e n o p (inr i) (inl g) y z = absurd (never m e n p g z (subst (λ (q : PlainCore). Has q n) i.1 y))
+        apart-so k m d e n o p (inl f) (inr i) y z = absurd (never k d n o f y (subst (λ (q : PlainCore). MakesName q n) i.1 z))
+        apart-so k m d e n o p (inr i) (inl g) y z = absurd (never m e n p g z (subst (λ (q : PlainCore). MakesName q n) i.1 y))
         apart-so k m d e n o p (inr i) (inr j) y z = i.0 ∙ sym j.0
 
-        kept : KeptGood own given v
+        kept : KeptAreGood own given v
         kept = record {
           below = below;
           good = λ k d o e. good k d o (tells k d e);
@@ -221,9 +222,9 @@ module _ (own : LibName) (given : List Label) where
         spent : (n : Named) → IsSpent own v n → IsSpent own s n ⊎ (s.names.number ≤ n.number)
         spent n (k, (d, (o, (e, y)))) = by (tells k d e)
           where
-            by : Known w.keywords k d ⊎ ((k ≡ l) × (d ≡ c)) → IsSpent own s n ⊎ (s.names.number ≤ n.number)
+            by : IsKeptWith w.keywords k d ⊎ ((k ≡ l) × (d ≡ c)) → IsSpent own s n ⊎ (s.names.number ≤ n.number)
             by (inl f) = x.0.1.spent n (k, (d, (o, (f, y))))
-            by (inr i) = inr (has-made w s.names.number w.names.number c n x.1.1 (subst (λ (z : PlainCore). Has z n) i.1 y)).low
+            by (inr i) = inr (has-made w s.names.number w.names.number c n x.1.1 (subst (λ (z : PlainCore). MakesName z n) i.1 y)).low
 
     -- nothing is said of what is given
     abbrev pub N : {A : Type 0} → State → A → Type 0

@@ -31,7 +31,8 @@ use Rattle.sx_expand_laws.proofs.Forms.{inside-safe}
 use Rattle.sx_expand_laws.proofs.Plans.{IsOfForms, IsTemplate, template-is, plan-later, plan-cases}
 use Rattle.sx_expand_laws.proofs.References.{RefersBy, AssignsBy, Refers, reference-is, assign-is}
 use Rattle.sx_expand_laws.proofs.Uses.{asks-later, next-later}
-use Rattle.sx_expand_laws.proofs.Spent.{Begins, Onward}
+use Rattle.sx_expand_laws.specs.Kept.{IsGoodState}
+use Rattle.sx_expand_laws.proofs.Spent.{Onward}
 use Rattle.sx_expand_laws.proofs.SpentOnStage.{Tells, next-told, variable-told}
 use Rattle.sx_expand_laws.proofs.SpentBinding.{onward-self, onward-then, onward-later}
 use Rattle.sx_expand_laws.proofs.Spares.{Spares, Gives, goes, C}
@@ -40,7 +41,7 @@ use Rattle.sx_expand_laws.proofs.SparesForms.{PlanAway, spares-case, spares-perf
 
 module _ (own : LibName) (given : List Label) (go : Inside) (spares : Spares own given go) where
   abbrev B : State → Type 0
-  B = Begins own given
+  B = IsGoodState own given
 
   abbrev O : State → State → Type 0
   O = Onward own given

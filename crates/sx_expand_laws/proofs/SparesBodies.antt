@@ -32,13 +32,14 @@ use Rattle.sx_expand_laws.proofs.Items.{wait_kind, wait_kinds}
 use Rattle.sx_expand_laws.proofs.LineLabels.{kind_labels}
 use Rattle.sx_expand_laws.proofs.Lines.{line_kind, kinds}
 use Rattle.sx_expand_laws.proofs.Naming.{as_frame, counted}
-use Rattle.sx_expand_laws.proofs.Spent.{Unspent, Tracks, AreUnspent, away-append, away-round, AwayCase, AwayInit, cases-away, inits-away, unspent-later, unspent-all, Begins, Onward, counted-unspent}
+use Rattle.sx_expand_laws.specs.Kept.{IsGoodState}
+use Rattle.sx_expand_laws.proofs.Spent.{Unspent, Tracks, AreUnspent, away-append, away-round, AwayCase, AwayInit, cases-away, inits-away, unspent-later, unspent-all, Onward, counted-unspent}
 use Rattle.sx_expand_laws.proofs.SpentBinding.{onward-self, onward-then, onward-counted}
 use Rattle.sx_expand_laws.proofs.Spares.{taken_labels, Spares, Gives, goes, goes-within, C, core-lift, sequence-away}
 
 module _ (own : LibName) (given : List Label) where
   abbrev B : State → Type 0
-  B = Begins own given
+  B = IsGoodState own given
 
   abbrev O : State → State → Type 0
   O = Onward own given

@@ -44,7 +44,8 @@ use Rattle.sx_expand_laws.proofs.Fresh.{FreshLabels}
 use Rattle.sx_expand_laws.proofs.Good.{label_of}
 use Rattle.sx_expand_laws.proofs.Naming.{as_frame, counted}
 use Rattle.sx_expand_laws.proofs.Uses.{Patterned, pattern-later, literals-later}
-use Rattle.sx_expand_laws.proofs.Spent.{Known, Tracks, AreUnspent, Away, away-append, away-round, away-later, AwayCase, AwayInit, AwayFender, AwayClause, inits-away, clauses-away, unspent-later, unspent-all, labels-away, Begins, Onward, counted-unspent, bound-unspent}
+use Rattle.sx_expand_laws.specs.Kept.{IsKeptWith, IsGoodState}
+use Rattle.sx_expand_laws.proofs.Spent.{Tracks, AreUnspent, Away, away-append, away-round, away-later, AwayCase, AwayInit, AwayFender, AwayClause, inits-away, clauses-away, unspent-later, unspent-all, labels-away, Onward, counted-unspent, bound-unspent}
 use Rattle.sx_expand_laws.proofs.SpentOnStage.{Tells}
 use Rattle.sx_expand_laws.proofs.SpentBinding.{Same, formals-same, specs-same, pattern-same, literals-same, bind-pattern-same, onward-self, onward-then, onward-later, onward-but, onward-counted}
 use Rattle.sx_expand_laws.proofs.Spares.{Spares, Gives, goes, goes-each, goes-within, C, core-lift, N, spares-application, spares-conditional, spares-set, spares-sequence, spares-keywords}
@@ -53,13 +54,13 @@ use Rattle.sx_expand_laws.proofs.SparesQuasi.{spares-quasi}
 
 module _ (own : LibName) (given : List Label) where
   abbrev B : State → Type 0
-  B = Begins own given
+  B = IsGoodState own given
 
   abbrev O : State → State → Type 0
   O = Onward own given
 
   pub same-told : (s u : State) → u.keywords ≡ s.keywords → Tells s.keywords u.keywords
-  same-told s u same k c e = subst (λ (ks : List (Label × Keyword)). Known ks k c) same e
+  same-told s u same k c e = subst (λ (ks : List (Label × Keyword)). IsKeptWith ks k c) same e
 
   -- labels that were bound
   all-bound : (f : FrameNo) (s u : State) (ls : List Label) → BindsAll own f s ls u → u.keywords ≡ s.keywords → B s → O s u × AreUnspent own u ls

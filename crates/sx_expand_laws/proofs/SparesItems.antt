@@ -41,7 +41,8 @@ use Rattle.sx_expand_laws.proofs.Items.{waiting_kind, wait_kinds, wait_kind, wit
 use Rattle.sx_expand_laws.proofs.LineLabels.{kind_labels}
 use Rattle.sx_expand_laws.proofs.Naming.{as_label, Binds, binds}
 use Rattle.sx_expand_laws.proofs.Uses.{asks-later, next-later}
-use Rattle.sx_expand_laws.proofs.Spent.{Known, SpentIn, Unspent, AreUnspent, KeptGood, unspent-all, Begins, Onward}
+use Rattle.sx_expand_laws.specs.Kept.{IsKeptWith, IsNameOfKept, KeptAreGood, IsGoodState}
+use Rattle.sx_expand_laws.proofs.Spent.{Unspent, AreUnspent, unspent-all, Onward}
 use Rattle.sx_expand_laws.proofs.SpentOnStage.{Tells, next-told, variable-told}
 use Rattle.sx_expand_laws.proofs.SpentBinding.{Same, variable-same, keyword-told, onward-self, onward-then, onward-later, onward-but}
 use Rattle.sx_expand_laws.proofs.Spares.{taken_labels, Spares, Gives, goes, N, spares-keyword, spares-keywords}
@@ -49,7 +50,7 @@ use Rattle.sx_expand_laws.proofs.SparesBodies.{spares-splice}
 
 module _ (own : LibName) (given : List Label) where
   abbrev B : State → Type 0
-  B = Begins own given
+  B = IsGoodState own given
 
   abbrev O : State → State → Type 0
   O = Onward own given
@@ -67,10 +68,10 @@ module _ (own : LibName) (given : List Label) where
       by (Some l) j rest = (j.0, rest j.1)
 
   -- the label of a binder
-  bound-one : (s u : State) (l : Label) → l ≡ as_label s.names → u.names.number ≡ s.names.number + 1 → u.keywords ≡ s.keywords → KeptGood own given s → Unspent own u l.0
+  bound-one : (s u : State) (l : Label) → l ≡ as_label s.names → u.names.number ≡ s.names.number + 1 → u.keywords ≡ s.keywords → KeptAreGood own given s → Unspent own u l.0
   bound-one s u l is up same h =
       let e : l.0.number ≡ s.names.number = ap (λ (m : Label). m.0.number) is in
-      (omega (arith, e, up), (λ x. let lt = h.below l.0 (subst (λ (ks : List (Label × Keyword)). SpentIn own ks l.0) same x) in omega (arith, e, lt)))
+      (omega (arith, e, up), (λ x. let lt = h.below l.0 (subst (λ (ks : List (Label × Keyword)). IsNameOfKept own ks l.0) same x) in omega (arith, e, lt)))
 
   module _ (at : BodyAt) (low : is_top at.kind ≡ true → at.level ≡ 0) where
     -- a definition, with what was taken before it
@@ -94,7 +95,7 @@ module _ (own : LibName) (given : List Label) where
         (λ e. gave-after (λ l u. Binds own at.frame (is_top at.kind) s l u × Same s l u) (Defines s done) (bind_variable at.frame at.place at.level (is_top at.kind) id s) (λ l s'. after (in_time at done id s') (λ taken. give (taken, l)))
         (gave-both (Binds own at.frame (is_top at.kind) s) (Same s) (bind_variable at.frame at.place at.level (is_top at.kind) id s) (binds own at.frame at.place at.level (is_top at.kind) id s low b.sound.next) (variable-same at.frame at.place at.level (is_top at.kind) id s))
         (λ l u k. in-time s done id l u
-        (onward-but own given at.frame (is_top at.kind) (l ∷ []) [] s u k.0.later k.0.adds (λ x c e. subst (λ (ks : List (Label × Keyword)). Known ks x c) k.1 e) b)
+        (onward-but own given at.frame (is_top at.kind) (l ∷ []) [] s u k.0.later k.0.adds (λ x c e. subst (λ (ks : List (Label × Keyword)). IsKeptWith ks x c) k.1 e) b)
         (bound-one s u l k.0.label k.0.up k.1 b.kept)))
 
     defined : (depth : ℕ) (d : Taken) (what : Waits) (x : Taken × Label) (s u : State) → wait_kind what ≡ Some x.1 → W s d → Defines s d x u → Gives own given W s (with_waiting at depth x.0 what) u

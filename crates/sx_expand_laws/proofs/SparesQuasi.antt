@@ -43,7 +43,8 @@ use Rattle.sx_expand_laws.proofs.Naming.{as_frame, counted}
 use Rattle.sx_expand_laws.proofs.Plans.{IsTemplate, template-is}
 use Rattle.sx_expand_laws.proofs.QuasiLater.{form-same}
 use Rattle.sx_expand_laws.proofs.Spares.{Spares, Gives, goes, goes-each, goes-within, C, core-lift}
-use Rattle.sx_expand_laws.proofs.Spent.{Known, Tracks, AreUnspent, AwayClause, away-append, away-round, all-away, clauses-away, Begins, bound-unspent}
+use Rattle.sx_expand_laws.specs.Kept.{IsKeptWith, IsGoodState}
+use Rattle.sx_expand_laws.proofs.Spent.{Tracks, AreUnspent, AwayClause, away-append, away-round, all-away, clauses-away, bound-unspent}
 use Rattle.sx_expand_laws.proofs.SpentBinding.{Same, bind-pattern-same, onward-self, onward-then, onward-but, onward-counted}
 use Rattle.sx_expand_laws.proofs.SpentOnStage.{Tells}
 
@@ -53,11 +54,11 @@ inserts-same f place level vs s =
     (λ x u e. gave-less (λ y v. (v ≡ with_dots f u) × IsNewThere f u) (Same s) (put_row dots place f ellipsis u) (dots-put f place u) (λ y v k. ap (λ (z : State). z.keywords) k.0 ∙ e))
 
 same-told : (s u : State) → u.keywords ≡ s.keywords → Tells s.keywords u.keywords
-same-told s u same k c e = subst (λ (ks : List (Label × Keyword)). Known ks k c) same e
+same-told s u same k c e = subst (λ (ks : List (Label × Keyword)). IsKeptWith ks k c) same e
 
 module _ (own : LibName) (given : List Label) where
   abbrev B : State → Type 0
-  B = Begins own given
+  B = IsGoodState own given
 
   abbrev D : State → PlainCore → Type 0
   D = C own given

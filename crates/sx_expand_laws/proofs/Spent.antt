@@ -1,49 +1,29 @@
 -- Names of the expressions of keywords that are kept, and core code that has none of them.
-use Rattle.std.proofs.Common.{◌≡◌, ◌≤◌, ◌<◌, false, List, [], ◌∷◌, ◌++◌, Option, None, Some, refl, sym, subst, arith, inl, inr, append_assoc}
+use Rattle.std.proofs.Common.{◌≡◌, ◌≤◌, ◌<◌, List, [], ◌∷◌, ◌++◌, Option, None, Some, refl, sym, subst, arith, inl, inr, append_assoc}
 use Rattle.std.specs.Prelude.{◌⊎◌}
 use Rattle.std.specs.List.{flat_map}
 use Rattle.sx_base.specs.Named.{Named}
-use Rattle.sx_base.specs.Op.{is_keyword}
 use Rattle.sx_base.specs.declared.library.LibName.{LibName}
 use Rattle.sx_base.specs.declared.name.CodeNo.{CodeNo}
 use Rattle.sx_base.specs.declared.name.Label.{Label}
 use Rattle.sx_core.specs.Core.{PlainCore, cores}
 use Rattle.sx_core.specs.CoreView.{inits, cases, clauses}
 use Rattle.sx_core.specs.References.{variables, formals_labels, binders, all_binders, init_binders, case_binders, clause_binders}
-use Rattle.sx_core.specs.declared.binding.VarInfo.{VarInfo}
 use Rattle.sx_core.specs.declared.code.Clause.{Clause}
 use Rattle.sx_core.specs.declared.code.Init.{Init}
 use Rattle.sx_core.specs.declared.code.Lambda.{Lambda}
-use Rattle.sx_core_laws.specs.Parts.{parts, all_parts, init_parts, case_parts, clause_parts, ops, own_number, code_numbers}
-use Rattle.sx_core_laws.specs.Scope.{Closed}
-use Rattle.sx_core_laws.specs.WellMade.{IsWellMade}
+use Rattle.sx_core_laws.specs.Parts.{parts, all_parts, init_parts, case_parts, clause_parts, own_number}
 use Rattle.sx_core_laws.specs.Words.{Each, Among}
-use Rattle.sx_stage.specs.Stage.{keyword_at, expression_in}
 use Rattle.sx_stage.specs.declared.keyword.Keyword.{Keyword}
 use Rattle.sx_standing.specs.State.{State}
-use Rattle.sx_expand_laws.specs.Shallow.{IsShallow}
-use Rattle.sx_expand_laws.specs.States.{IsOwn, IsTop, Sound}
+use Rattle.sx_expand_laws.specs.Kept.{code_named, MakesName, IsKeptWith, IsNameOfKept, KeptAreGood, IsGoodState}
+use Rattle.sx_expand_laws.specs.States.{IsOwn}
 use Rattle.sx_expand_laws.proofs.Fresh.{Made, FreshLabels, each-at, each-map, each-append, among-parts}
 use Rattle.sx_expand_laws.proofs.Naming.{as_label, counted}
 
-abbrev pub as_code : Named → CodeNo
-as_code n = record { 0 = n }
-
--- the expression that is kept with a keyword
-abbrev pub Known : List (Label × Keyword) → Label → PlainCore → Type 0
-Known ks k c = expression_in (keyword_at ks k) ≡ Some c
-
--- core code binds the name, or numbers one of its codes by it
-abbrev pub Has : PlainCore → Named → Type 0
-Has c n = Among (binders c) (as_label n) ⊎ Among (code_numbers c) (as_code n)
-
--- the expression of a keyword of the library has the name
-abbrev pub SpentIn : LibName → List (Label × Keyword) → Named → Type 0
-SpentIn own ks n = (k : Label) × ((c : PlainCore) × (IsOwn own k.0 × (Known ks k c × Has c n)))
-
 module _ (own : LibName) where
   abbrev pub IsSpent : State → Named → Type 0
-  IsSpent s n = SpentIn own s.keywords n
+  IsSpent s n = IsNameOfKept own s.keywords n
 
   -- a name that was made, and that no keyword has
   abbrev pub Unspent : State → Named → Type 0
@@ -167,29 +147,15 @@ module _ (own : LibName) where
       by (inl b) rest = each-at (λ (m : CodeNo). Unspent s m.0) (own_number p) n h.0 b
       by (inr b) rest = rest b
 
-  pub away-has : (s : State) (c : PlainCore) (n : Named) → AwayCore s c → Has c n → Unspent s n
+  pub away-has : (s : State) (c : PlainCore) (n : Named) → AwayCore s c → MakesName c n → Unspent s n
   away-has s c n h (inl a) = each-at (λ (l : Label). Unspent s l.0) (binders c) (as_label n) h.labels a
-  away-has s c n h (inr a) = has-unspent s (parts c) (as_code n) h.codes a
+  away-has s c n h (inr a) = has-unspent s (parts c) (code_named n) h.codes a
 
   -- The keywords of the library that are kept.
 
   module _ (given : List Label) where
-    -- their expressions are well made, closed under what others define, and not too deep
-    pub record GoodExpression (c : PlainCore) : Type 0 where
-      pub closed : Closed given c
-      pub well_made : IsWellMade [] c
-      pub primitives : Each (λ o. is_keyword o ≡ false) (ops c)
-      pub here : (n : Named) → Has c n → IsOwn own n
-      pub low : IsShallow c
-
-    -- so are all that are kept; their names were made, and no two keywords share one
-    pub record KeptGood (s : State) : Type 0 where
-      pub below : (n : Named) → IsSpent s n → n.number < s.names.number
-      pub good : (k : Label) (c : PlainCore) → IsOwn own k.0 → Known s.keywords k c → GoodExpression c
-      pub apart : (k m : Label) (c d : PlainCore) (n : Named) → IsOwn own k.0 → IsOwn own m.0 → Known s.keywords k c → Known s.keywords m d → Has c n → Has d n → k ≡ m
-
     -- where no keyword comes
-    pub kept-less : (s t : State) → s.names.number ≤ t.names.number → ((k : Label) (c : PlainCore) → IsOwn own k.0 → Known t.keywords k c → Known s.keywords k c) → KeptGood s → KeptGood t × Tracks s t
+    pub kept-less : (s t : State) → s.names.number ≤ t.names.number → ((k : Label) (c : PlainCore) → IsOwn own k.0 → IsKeptWith t.keywords k c → IsKeptWith s.keywords k c) → KeptAreGood own given s → KeptAreGood own given t × Tracks s t
     kept-less s t up less h = (
       record {
         below = λ n x. let lt = h.below n (before n x) in omega (arith, lt, up);
@@ -202,21 +168,15 @@ module _ (own : LibName) where
         before : (n : Named) → IsSpent t n → IsSpent s n
         before n (k, (c, (o, (e, x)))) = (k, (c, (o, (less k c o e, x))))
 
-    -- What forms are expanded in: the variables of the top are of level 0, and keywords are good.
-    pub record Begins (s : State) : Type 0 where
-      pub sound : Sound own given s
-      pub level : (l : Label) (v : VarInfo) → IsOwn own l.0 → IsTop s l v → v.level ≡ 0
-      pub kept : KeptGood s
-
     abbrev pub Onward : State → State → Type 0
-    Onward s t = Begins t × Tracks s t
+    Onward s t = IsGoodState own given t × Tracks s t
 
     -- a new name
-    pub counted-unspent : (s : State) → KeptGood s → Unspent (counted s) s.names
+    pub counted-unspent : (s : State) → KeptAreGood own given s → Unspent (counted s) s.names
     counted-unspent s h = (omega arith, (λ x. let lt = h.below s.names x in omega (arith, lt)))
 
     -- new labels
-    pub bound-unspent : (s u : State) (ls : List Label) → u.keywords ≡ s.keywords → KeptGood s → FreshLabels own s.names.number u.names.number ls → AreUnspent u ls
+    pub bound-unspent : (s u : State) (ls : List Label) → u.keywords ≡ s.keywords → KeptAreGood own given s → FreshLabels own s.names.number u.names.number ls → AreUnspent u ls
     bound-unspent s u ls same h fresh =
         each-map (λ (l : Label). Made own s.names.number u.names.number l.0) (λ (l : Label). Unspent u l.0) ls fresh.made
-        (λ l m. (m.high, (λ x. let lt = h.below l.0 (subst (λ (ks : List (Label × Keyword)). SpentIn own ks l.0) same x) in omega (arith, lt, m.low))))
+        (λ l m. (m.high, (λ x. let lt = h.below l.0 (subst (λ (ks : List (Label × Keyword)). IsNameOfKept own ks l.0) same x) in omega (arith, lt, m.low))))

@@ -40,7 +40,8 @@ use Rattle.sx_expand_laws.proofs.Grows.{grows-same}
 use Rattle.sx_expand_laws.proofs.Later.{sound-grown}
 use Rattle.sx_expand_laws.proofs.Naming.{as_label, counted, counted-later}
 use Rattle.sx_expand_laws.proofs.Scope.{adds-later}
-use Rattle.sx_expand_laws.proofs.Spent.{Known, tracks-self, tracks-then, KeptGood, kept-less, Begins, Onward}
+use Rattle.sx_expand_laws.specs.Kept.{IsKeptWith, KeptAreGood, IsGoodState}
+use Rattle.sx_expand_laws.proofs.Spent.{tracks-self, tracks-then, kept-less, Onward}
 use Rattle.sx_expand_laws.proofs.SpentOnStage.{Tells, put-told}
 
 abbrev pub Same : {A : Type 0} → State → A → State → Type 0
@@ -116,7 +117,7 @@ keyword-told f place level b s =
     gave-if (λ x u. Tells s.keywords u.keywords) (is_leaf b.id) (after (fresh s) (bind_keyword_as f place level b)) (fault_form kind.BadForm b.id place s)
     (λ e. by_row (is_some (label_at s.frames f (row_for b.id (as_label s.names)).symbol (row_for b.id (as_label s.names)).marks))) (λ e. tt)
   where
-    waits : (k : Label) (c : PlainCore) → Known s.keywords k c ⊎ ((k ≡ as_label s.names) × (None ≡ Some c)) → Known s.keywords k c
+    waits : (k : Label) (c : PlainCore) → IsKeptWith s.keywords k c ⊎ ((k ≡ as_label s.names) × (None ≡ Some c)) → IsKeptWith s.keywords k c
     waits k c (inl x) = x
     waits k c (inr x) = let bad = x.1 in absurd (cc)
 
@@ -135,20 +136,20 @@ keywords-told f place level bs s =
 
 module _ (own : LibName) (given : List Label) where
   abbrev B : State → Type 0
-  B = Begins own given
+  B = IsGoodState own given
 
   abbrev O : State → State → Type 0
   O = Onward own given
 
   pub begins-by : (s t : State) → t.library ≡ s.library → t.names.library ≡ own → Grows own s t → (Each (IsBound s) s.scope → Each (IsBound t) t.scope)
-      → ((l : Label) (v : VarInfo) → IsOwn own l.0 → IsTop t l v → IsTop s l v ⊎ (v.level ≡ 0)) → KeptGood own given t → B s → B t
+      → ((l : Label) (v : VarInfo) → IsOwn own l.0 → IsTop t l v → IsTop s l v ⊎ (v.level ≡ 0)) → KeptAreGood own given t → B s → B t
   begins-by s t here next grows bound tops kept h = record { sound = sound-grown own given s t here next grows bound h.sound; level = λ l v o b. by l v o (tops l v o b); kept = kept }
     where
       by : (l : Label) (v : VarInfo) → IsOwn own l.0 → IsTop s l v ⊎ (v.level ≡ 0) → v.level ≡ 0
       by l v o (inl b) = h.level l v o b
       by l v o (inr e) = e
 
-  pub begins-later : (s t : State) → Later own s t → KeptGood own given t → B s → B t
+  pub begins-later : (s t : State) → Later own s t → KeptAreGood own given t → B s → B t
   begins-later s t k kept h = begins-by s t k.here k.next k.grows (adds-later own false s t k).bound (λ l v o b. inl (k.tops l v o b)) kept h
 
   pub onward-self : (s : State) → B s → O s s

@@ -41,15 +41,15 @@ use Rattle.sx_expand.specs.Settle.{used_form, next_form}
 use Rattle.sx_shapes.specs.At.{place_of}
 use Rattle.sx_expand_laws.proofs.Acts.{Gave, gave-after}
 use Rattle.sx_expand_laws.proofs.Kept.{found-same, found-other}
-use Rattle.sx_expand_laws.proofs.Spent.{Known}
+use Rattle.sx_expand_laws.specs.Kept.{IsKeptWith}
 
 -- all that is kept now was kept before
 abbrev pub Tells : List (Label × Keyword) → List (Label × Keyword) → Type 0
-Tells ks js = (k : Label) (c : PlainCore) → Known js k c → Known ks k c
+Tells ks js = (k : Label) (c : PlainCore) → IsKeptWith js k c → IsKeptWith ks k c
 
 -- or it is the expression of this keyword
 abbrev pub TellsBut : Label → PlainCore → List (Label × Keyword) → List (Label × Keyword) → Type 0
-TellsBut l d ks js = (k : Label) (c : PlainCore) → Known js k c → Known ks k c ⊎ ((k ≡ l) × (c ≡ d))
+TellsBut l d ks js = (k : Label) (c : PlainCore) → IsKeptWith js k c → IsKeptWith ks k c ⊎ ((k ≡ l) × (c ≡ d))
 
 abbrev EndsTold : {A : Type 0} → PlainStage → Result (A × PlainStage) Fault → Type 0
 EndsTold s (Ok p) = Tells s.keywords p.1.keywords
@@ -117,10 +117,10 @@ transformer-told place rs c s =
 -- Keywords.
 
 -- what is put down of one
-pub put-told : (ks : List (Label × Keyword)) (l : Label) (k : Keyword) (m : Label) (c : PlainCore) → Known (insert_entry same_label ks l k) m c → Known ks m c ⊎ ((m ≡ l) × (expression_in (Some k) ≡ Some c))
+pub put-told : (ks : List (Label × Keyword)) (l : Label) (k : Keyword) (m : Label) (c : PlainCore) → IsKeptWith (insert_entry same_label ks l k) m c → IsKeptWith ks m c ⊎ ((m ≡ l) × (expression_in (Some k) ≡ Some c))
 put-told ks l k m c e = by (same_label m l) refl
   where
-    by : (b : Bool) → same_label m l ≡ b → Known ks m c ⊎ ((m ≡ l) × (expression_in (Some k) ≡ Some c))
+    by : (b : Bool) → same_label m l ≡ b → IsKeptWith ks m c ⊎ ((m ≡ l) × (expression_in (Some k) ≡ Some c))
     by true is =
         let same = (label_decides m l).0 is in
         inr (same, sym (ap expression_in (found-same ks l k)) ∙ ap (λ (x : Label). expression_in (keyword_at (insert_entry same_label ks l k) x)) (sym same) ∙ e)
@@ -129,7 +129,7 @@ put-told ks l k m c e = by (same_label m l) refl
 kept-told : (l : Label) (s : PlainStage) (r : Result (Value × PlainStage) Fault) → EndsTold s r → EndsTold s (after r (λ v t. give v (with_keyword l (keyword.Kept None v) t)))
 kept-told l s (Ok p) h = λ k c e. by k c (put-told p.1.keywords l (keyword.Kept None p.0) k c e)
   where
-    by : (k : Label) (c : PlainCore) → Known p.1.keywords k c ⊎ ((k ≡ l) × (None ≡ Some c)) → Known s.keywords k c
+    by : (k : Label) (c : PlainCore) → IsKeptWith p.1.keywords k c ⊎ ((k ≡ l) × (None ≡ Some c)) → IsKeptWith s.keywords k c
     by k c (inl x) = h k c x
     by k c (inr x) = let bad = x.1 in absurd (cc)
 kept-told l s (Err f) h = tt
@@ -240,6 +240,6 @@ finish-told rs place l c s = by (transformer place rs c (stage_of s)) (transform
     by (Err f) h = tt
     by (Ok p) h = λ k d e. one k d (put-told p.1.keywords l (keyword.Kept (Some c) p.0) k d e)
       where
-        one : (k : Label) (d : PlainCore) → Known p.1.keywords k d ⊎ ((k ≡ l) × (Some c ≡ Some d)) → Known s.keywords k d ⊎ ((k ≡ l) × (d ≡ c))
+        one : (k : Label) (d : PlainCore) → IsKeptWith p.1.keywords k d ⊎ ((k ≡ l) × (Some c ≡ Some d)) → IsKeptWith s.keywords k d ⊎ ((k ≡ l) × (d ≡ c))
         one k d (inl x) = inl (h k d x)
         one k d (inr x) = let is = x.1 in inr (x.0, cc)

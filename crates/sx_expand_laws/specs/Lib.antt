@@ -13,3 +13,4 @@ pub mod Serving
 pub mod Named
 pub mod InScope
 pub mod Uses
+pub mod Kept
