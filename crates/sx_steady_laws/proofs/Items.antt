@@ -42,7 +42,8 @@ use Rattle.sx_steady_laws.proofs.Keywords.{Placed, Holds, keyword-go, keywords-g
 use Rattle.sx_steady_laws.proofs.OnStage.{Pending, keyword-pends, asks-go, next-go, FreshBut}
 use Rattle.sx_steady_laws.proofs.Plans.{item-light}
 use Rattle.sx_steady_laws.proofs.Sure.{Sure, sure-after, sure-less, sure-with, sure-if}
-use Rattle.sx_steady_laws.proofs.Safe.{KeptAt, Safe, Fresh, fresh-same, Light, B, given, Goes, goes-self, goes-then, G}
+use Rattle.sx_steady_laws.specs.States.{KeptAt}
+use Rattle.sx_steady_laws.proofs.Safe.{Safe, Fresh, fresh-same, Light, B, given, Goes, goes-self, goes-then, G}
 
 module _ (own : LibName) (texts : List CodeNo) (rs : List LibRecord) (x : Around own texts rs) where
   abbrev S : State → Type 0

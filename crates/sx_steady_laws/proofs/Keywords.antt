@@ -51,7 +51,8 @@ use Rattle.sx_stuck_laws.specs.Uses.{Around}
 use Rattle.sx_stuck_laws.proofs.Behind.{defined_in, stands, name_of, defined_here}
 use Rattle.sx_steady_laws.proofs.OnStage.{Pending, keywords-pend, still-free, FreshBut, finish-safe}
 use Rattle.sx_steady_laws.proofs.Sure.{Sure, sure-after, sure-less, sure-with}
-use Rattle.sx_steady_laws.proofs.Safe.{KeptAt, Safe, safe-rest, Fresh, B, given, Goes, goes-self, goes-then, goes-counted, G, go}
+use Rattle.sx_steady_laws.specs.States.{KeptAt}
+use Rattle.sx_steady_laws.proofs.Safe.{Safe, safe-rest, Fresh, B, given, Goes, goes-self, goes-then, goes-counted, G, go}
 
 -- Where the forms of a body stand: in a frame of the library, and at level 0 where the body is its top.
 abbrev pub Placed : LibName → BodyAt → Type 0

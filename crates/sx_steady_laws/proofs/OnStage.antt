@@ -63,7 +63,8 @@ use Rattle.sx_stuck_laws.proofs.Steps.{begins, finishes, asks, uses}
 use Rattle.sx_steady_laws.proofs.RecordFormsSay.{says-records}
 use Rattle.sx_steady_laws.proofs.Says.{Says}
 use Rattle.sx_steady_laws.proofs.Sure.{Sure, sure-after, sure-less, sure-with, sure-if}
-use Rattle.sx_steady_laws.proofs.Safe.{KeptAt, Safe, safe-frames, safe-counted, safe-bound, safe-rest, Fresh, fresh-same, Light, light-self, B, Goes, goes-then, G, goes-light, given}
+use Rattle.sx_steady_laws.specs.States.{KeptAt}
+use Rattle.sx_steady_laws.proofs.Safe.{Safe, safe-frames, safe-counted, safe-bound, safe-rest, Fresh, fresh-same, Light, light-self, B, Goes, goes-then, G, goes-light, given}
 use Rattle.sx_steady_laws.proofs.Binders.{light}
 
 ends-both : {A : Type 0} (P Q : PlainStage → Type 0) (s : PlainStage) (R : PlainStage → PlainStage → Type 0) (r : Result (A × PlainStage) Fault) → Ends (λ a t. P t) r → By R s r → Ends (λ a t. P t × R s t) r

@@ -20,9 +20,8 @@ use Rattle.sx_whole_laws.specs.Extends.{Extends}
 use Rattle.sx_whole_laws.proofs.Evaluations.{with_codes_whole}
 use Rattle.sx_whole_laws.proofs.Growth.{grows_refl}
 use Rattle.sx_whole_laws.proofs.Steady.{value_later}
-use Rattle.sx_stage.specs.Stage.{PlainStage, keyword_at}
+use Rattle.sx_stage.specs.Stage.{PlainStage}
 use Rattle.sx_stage.specs.declared.keyword.Keyword.{Keyword}
-use Rattle.sx_stage.specs.declared.keyword.Keyword.TheVariants as keyword
 use Rattle.sx_standing.specs.InScope.{cut}
 use Rattle.sx_standing.specs.State.{State, stage_of, staged}
 use Rattle.sx_expand_laws.specs.States.{IsOwn, Adds, Later, LaterBut}
@@ -31,27 +30,18 @@ use Rattle.sx_base.specs.declared.name.FrameNo.{FrameNo}
 use Rattle.sx_expand_laws.proofs.Acts.{Gave}
 use Rattle.sx_expand_laws.proofs.Later.{bound-more}
 use Rattle.sx_expand_laws.proofs.Naming.{counted}
-use Rattle.sx_expand_laws.proofs.Spent.{Known, Begins, Onward}
+use Rattle.sx_expand_laws.specs.Kept.{IsKeptWith, IsGoodState}
+use Rattle.sx_expand_laws.proofs.Spent.{Onward}
 use Rattle.sx_expand_laws.proofs.SpentBinding.{onward-self, onward-then, onward-later, onward-but, onward-counted, onward-cut}
 use Rattle.sx_expand_laws.proofs.SpentOnStage.{Tells}
 use Rattle.sx_stuck_laws.specs.Behind.{IsKeywordOf}
 use Rattle.sx_stuck_laws.specs.Steady.{world_of, Steady, Ends}
+use Rattle.sx_steady_laws.specs.States.{KeptAt, OwnMade, IsSteadyState}
 use Rattle.sx_steady_laws.proofs.Sure.{Sure, sure-after, sure-less, sure-with}
 
--- the transformer of the keyword is kept
-abbrev pub KeptAt : List (Label × Keyword) → Label → Option PlainCore → Value → Type 0
-KeptAt ks l e v = keyword_at ks l ≡ Some (keyword.Kept e v)
-
--- of the library: those that are kept have labels that were made
-abbrev pub OwnMade : LibName → PlainStage → Type 0
-OwnMade own g = (l : Label) (e : Option PlainCore) (v : Value) → KeptAt g.keywords l e v → IsOwn own l.0 → l.0.number < g.names.number
-
 module _ (own : LibName) (texts : List CodeNo) (rs : List LibRecord) where
-  -- Its stage is steady, each keyword that has its expression in its binding is one of a record, and own ones that are kept have labels that were made.
-  pub record Safe (s : State) : Type 0 where
-    pub stage : Steady own texts rs (stage_of s)
-    pub imported : (l : Label) (level : ℕ) (c : PlainCore) → bound_to s.bindings l ≡ Some (binding.Macro level (Some c)) → IsKeywordOf rs l c
-    pub made : OwnMade own (stage_of s)
+  abbrev pub Safe : State → Type 0
+  Safe = IsSteadyState own texts rs
 
   -- Frames and names may change, and bindings without expressions come.
 
@@ -119,7 +109,7 @@ module _ (own : LibName) (texts : List CodeNo) (rs : List LibRecord) where
   given = flat_map defined rs
 
   abbrev pub B : State → Type 0
-  B = Begins own given
+  B = IsGoodState own given
 
   -- from a state to one that comes behind it
   pub record Goes (s u : State) : Type 0 where
@@ -148,7 +138,7 @@ module _ (own : LibName) (texts : List CodeNo) (rs : List LibRecord) where
   go s r k h next = sure-after (G s) (G s) r k h (λ a t g. sure-less (G t) (G s) (k a t) (next a t g) (λ c u j. goes-then s t u g j))
 
   pub tells-same : (s u : State) → u.keywords ≡ s.keywords → Tells s.keywords u.keywords
-  tells-same s u same k c e = subst (λ (ks : List (Label × Keyword)). Known ks k c) same e
+  tells-same s u same k c e = subst (λ (ks : List (Label × Keyword)). IsKeptWith ks k c) same e
 
   -- what changes no keyword, and leads to a later state
   pub goes-light : {A : Type 0} (s : State) (r : Result (A × State) Fault) → B s → Sure (λ a u. Light s u) r → Gave (λ a u. Later own s u) r → Sure (G s) r
