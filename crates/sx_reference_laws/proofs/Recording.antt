@@ -40,7 +40,7 @@ use Rattle.sx_expand.specs.Inside.{Inside}
 use Rattle.sx_expand.specs.Top.{stands_for, export, all_exports, give_record, record_in, body_at, exports, first_pass, finished, top}
 use Rattle.sx_expand.specs.declared.top.TopAt.{TopAt}
 use Rattle.sx_expand_laws.proofs.Acts.{Gave, gave-both, gave-after, gave-each, told, each-nil, each-cons}
-use Rattle.sx_expand_laws.proofs.Spent.{Known}
+use Rattle.sx_expand_laws.specs.Kept.{IsKeptWith}
 use Rattle.sx_expand_laws.proofs.SpentOnStage.{Tells}
 use Rattle.sx_fresh_laws.specs.Leaves.{TreeHolds}
 use Rattle.sx_fresh_laws.proofs.Eachs.{each_both, each_mapped}
@@ -100,10 +100,10 @@ line-mentioned (line.Expr c) refs e = mentions-named c refs e
 
 -- no expression of a keyword is kept
 abbrev KeepsNone : State → Type 0
-KeepsNone s = (l : Label) (c : PlainCore) → Known s.keywords l c → ⊥
+KeepsNone s = (l : Label) (c : PlainCore) → IsKeptWith s.keywords l c → ⊥
 
 -- what was kept before an action that keeps no more
-before : (v w : State) (es : List Expression) → Tells v.keywords w.keywords → (l : Label) (c : PlainCore) → Known w.keywords l c ⊎ IsExpression es l c → Known v.keywords l c ⊎ IsExpression es l c
+before : (v w : State) (es : List Expression) → Tells v.keywords w.keywords → (l : Label) (c : PlainCore) → IsKeptWith w.keywords l c ⊎ IsExpression es l c → IsKeptWith v.keywords l c ⊎ IsExpression es l c
 before v w es h l c (inl k) = inl (h l c k)
 before v w es h l c (inr a) = inr a
 
@@ -112,7 +112,7 @@ module _ (es : List Expression) (s u : State) (none : KeepsNone s) (kept : Keeps
   abbrev Has : Label × Binding → Type 0
   Has b = IsBoundTo es b.0 b.1
 
-  only-new : (l : Label) (c : PlainCore) → Known s.keywords l c ⊎ IsExpression es l c → IsExpression es l c
+  only-new : (l : Label) (c : PlainCore) → IsKeptWith s.keywords l c ⊎ IsExpression es l c → IsExpression es l c
   only-new l c (inl k) = absurd (none l c k)
   only-new l c (inr a) = a
 

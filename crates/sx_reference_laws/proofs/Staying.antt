@@ -25,7 +25,7 @@ use Rattle.sx_expand_laws.specs.Trees.{StampsAre, LeavesAre}
 use Rattle.sx_expand_laws.proofs.Acts.{Gave}
 use Rattle.sx_expand_laws.proofs.Later.{later-self, later-then}
 use Rattle.sx_expand_laws.proofs.Named.{leaf-stays}
-use Rattle.sx_expand_laws.proofs.Spent.{Known}
+use Rattle.sx_expand_laws.specs.Kept.{IsKeptWith}
 use Rattle.sx_expand_laws.proofs.SpentOnStage.{Tells}
 use Rattle.sx_fresh_laws.specs.Leaves.{TreeHolds}
 use Rattle.sx_fresh_laws.proofs.Eachs.{each_both, each_mapped}
@@ -152,7 +152,7 @@ module _ (libs : List LibName) (own : LibName) (core : Among libs library.Core) 
     told = λ l c x. by l c (h.told l c x);
   }
     where
-      by : (l : Label) (c : PlainCore) → Known v.keywords l c ⊎ IsExpression h.noted.expressions l c → Known s.keywords l c ⊎ IsExpression h.noted.expressions l c
+      by : (l : Label) (c : PlainCore) → IsKeptWith v.keywords l c ⊎ IsExpression h.noted.expressions l c → IsKeptWith s.keywords l c ⊎ IsExpression h.noted.expressions l c
       by l c (inl x) = inl (k l c x)
       by l c (inr x) = inr x
 
@@ -172,11 +172,11 @@ module _ (libs : List LibName) (own : LibName) (core : Among libs library.Core) 
       last [] l c a = a
       last (y ∷ xs) l c a = inr (last xs l c a)
 
-      before : (l : Label) (c : PlainCore) → Known s.keywords l c ⊎ IsExpression es l c → Known s.keywords l c ⊎ IsExpression (es ++ others) l c
+      before : (l : Label) (c : PlainCore) → IsKeptWith s.keywords l c ⊎ IsExpression es l c → IsKeptWith s.keywords l c ⊎ IsExpression (es ++ others) l c
       before l c (inl e) = inl e
       before l c (inr a) = inr (first es l c a)
 
-      by : (l : Label) (c : PlainCore) → Known v.keywords l c ⊎ IsExpression others l c → Known s.keywords l c ⊎ IsExpression (es ++ others) l c
+      by : (l : Label) (c : PlainCore) → IsKeptWith v.keywords l c ⊎ IsExpression others l c → IsKeptWith s.keywords l c ⊎ IsExpression (es ++ others) l c
       by l c (inl e) = before l c (h l c e)
       by l c (inr a) = inr (last es l c a)
 
@@ -207,7 +207,7 @@ module _ (libs : List LibName) (own : LibName) (core : Among libs library.Core) 
   pub bound-from : (R V : List Expression → Type 0) (s v u : State) → Tells s.keywords v.keywords → Bound R v u → ((es : List Expression) → R es → V es) → Bound V s u
   bound-from R V s v u k h f = record { expressions = h.expressions; is = f h.expressions h.is; kept = h.kept; told = λ l c x. by l c (h.told l c x) }
     where
-      by : (l : Label) (c : PlainCore) → Known v.keywords l c ⊎ IsExpression h.expressions l c → Known s.keywords l c ⊎ IsExpression h.expressions l c
+      by : (l : Label) (c : PlainCore) → IsKeptWith v.keywords l c ⊎ IsExpression h.expressions l c → IsKeptWith s.keywords l c ⊎ IsExpression h.expressions l c
       by l c (inl x) = inl (k l c x)
       by l c (inr x) = inr x
 

@@ -53,7 +53,7 @@ use Rattle.sx_expand_laws.proofs.Inserts.{with_dots, IsNewThere, dots-put}
 use Rattle.sx_expand_laws.proofs.Items.{item-cases}
 use Rattle.sx_expand_laws.proofs.Plans.{plan-cases}
 use Rattle.sx_expand_laws.proofs.References.{Refers, AssignsBy, reference-is, assign-is}
-use Rattle.sx_expand_laws.proofs.Spent.{Known}
+use Rattle.sx_expand_laws.specs.Kept.{IsKeptWith}
 use Rattle.sx_expand_laws.proofs.SpentBinding.{Same, variable-same, bind-pattern-same, keyword-told}
 use Rattle.sx_expand_laws.proofs.SpentOnStage.{Tells, next-told, variable-told}
 use Rattle.sx_reference_laws.proofs.Templating.{TemplateNames, template-of-names}
@@ -66,7 +66,7 @@ pub told-self : (s : State) → Tells s.keywords s.keywords
 told-self s l c e = e
 
 pub told-same : (s u : State) → u.keywords ≡ s.keywords → Tells s.keywords u.keywords
-told-same s u same l c e = subst (λ ks. Known ks l c) same e
+told-same s u same l c e = subst (λ ks. IsKeptWith ks l c) same e
 
 pub told-then : (s v u : State) → Tells s.keywords v.keywords → Tells v.keywords u.keywords → Tells s.keywords u.keywords
 told-then s v u h k l c e = h l c (k l c e)

@@ -51,7 +51,7 @@ use Rattle.sx_expand.specs.Keywords.{seen_in, keyword_in, all_keywords, with_key
 use Rattle.sx_expand_laws.specs.States.{Later}
 use Rattle.sx_expand_laws.proofs.Acts.{Gave, gave-both, gave-after, gave-less, gave-if, gave-within, told, each-nil, each-cons}
 use Rattle.sx_expand_laws.proofs.Changes.{Moves, inside-moves, moved-body, moved-case, moved-clause, moved-line}
-use Rattle.sx_expand_laws.proofs.Spent.{Known}
+use Rattle.sx_expand_laws.specs.Kept.{IsKeptWith}
 use Rattle.sx_expand_laws.proofs.SpentBinding.{Same, formals-same, specs-same, pattern-same, bind-pattern-same, keywords-told}
 use Rattle.sx_expand_laws.proofs.SpentOnStage.{Tells, TellsBut, finish-told}
 use Rattle.sx_fresh_laws.specs.Leaves.{OptionHolds, TreeHolds, CoreHolds, LineHolds}
@@ -336,7 +336,7 @@ module _ (libs : List LibName) (own : LibName) (core : Among libs library.Core) 
               told = staying.only-joined libs own core new h.noted.expressions (e ∷ []) s w u (λ l d k. h.told l d k) (λ l d k. last w.keywords h.noted.references l d (q.0 l d k));
             })
           where
-            last : (ks : List (Label × Keyword)) (refs : List Reference) (l : Label) (d : PlainCore) → Known ks l d ⊎ ((l ≡ b.label) × (d ≡ c)) → Known ks l d ⊎ IsExpression (record { keyword = b.label; code = c; references = refs; state = v } ∷ []) l d
+            last : (ks : List (Label × Keyword)) (refs : List Reference) (l : Label) (d : PlainCore) → IsKeptWith ks l d ⊎ ((l ≡ b.label) × (d ≡ c)) → IsKeptWith ks l d ⊎ IsExpression (record { keyword = b.label; code = c; references = refs; state = v } ∷ []) l d
             last ks refs l d (inl k) = inl k
             last ks refs l d (inr k) = inr (inl k)
 
