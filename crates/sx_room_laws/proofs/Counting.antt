@@ -1,112 +1,476 @@
--- Sequences, applications and forms of `if` make what lies in them one deeper.
-use Rattle.std.proofs.Common.{◌≡◌, ◌≤◌, ℕ, suc, ◌+◌, true, false, List, [], ◌∷◌, length, Option, None, Ok, Err, refl, ◌∙◌, ap, if◌then◌else◌, arith}
-use Rattle.sx_base.specs.Act.{after, give, each}
+-- Sequences, applications, assignments, procedures and forms of `if`, `syntax-case`, `let-syntax` and `letrec-syntax` make what lies in them one deeper.
+use Rattle.std.proofs.Common.{◌≡◌, ◌<◌, ◌≤◌, ℕ, zero, suc, ◌+◌, Bool, true, false, List, [], ◌∷◌, length, Option, None, Some, Result, Ok, Err, refl, sym, ◌∙◌, ap, subst, map, if◌then◌else◌, arith}
+use Rattle.std.specs.Prelude.{nat_eq}
+use Rattle.std.specs.Cmp.{unsigned_Decides}
+use Rattle.sx_base.specs.Act.{after, give, each, gather}
 use Rattle.sx_base.specs.declared.atom.Atom.{Atom}
 use Rattle.sx_base.specs.declared.atom.Atom.TheVariants as atoms
 use Rattle.sx_base.specs.declared.fault.Fault.{Fault}
 use Rattle.sx_base.specs.declared.fault.FaultKind.TheVariants as kind
+use Rattle.sx_base.specs.declared.name.FrameNo.{FrameNo}
 use Rattle.sx_base.specs.declared.span.Span.{Span}
-use Rattle.sx_tree.specs.Tree.{Tree, atom, pair, nil}
+use Rattle.sx_tree.specs.Changes.{stamp}
+use Rattle.sx_tree.specs.Tree.{Tree, atom, leaf, pair, vector, nil}
 use Rattle.sx_tree.specs.Leaves.{strip}
-use Rattle.sx_core.specs.Core.{PlainCore, quoted, call, cores}
+use Rattle.sx_core.specs.Core.{PlainCore, quoted, assignment, call, cores, matching}
+use Rattle.sx_core.specs.CoreView.{clauses}
+use Rattle.sx_core.specs.Labels.{has_label}
+use Rattle.sx_core.specs.declared.core_form.CoreForm.{CoreForm}
+use Rattle.sx_core.specs.declared.core_form.CoreForm.TheVariants as core_forms
 use Rattle.sx_core.specs.declared.record.LibRecord.{LibRecord}
 use Rattle.sx_shapes.specs.At.{fault_at}
-use Rattle.sx_shapes.specs.Forms.{if_shape, shaped, shape_of, shape}
-use Rattle.sx_shapes.specs.Lists.{is_leaf, is_nil_atom}
+use Rattle.sx_shapes.specs.Forms.{bindings, formals, formals_before, if_shape, lambda_shape, let_syntax_shape, set_shape, syntax_case_shape, shaped, or_bad, shape_of, shape}
+use Rattle.sx_shapes.specs.Lists.{is_leaf, is_nil_atom, all_of}
+use Rattle.sx_shapes.specs.declared.shape.Shape.TheVariants as shapes
+use Rattle.sx_stage.specs.Patterns.{check_literals as literals_on_stage}
+use Rattle.sx_standing.specs.InScope.{cut, is_in_scope}
+use Rattle.sx_standing.specs.Patterns.{check_literals}
 use Rattle.sx_standing.specs.Standing.{standing_of, role_of}
-use Rattle.sx_standing.specs.State.{State}
+use Rattle.sx_standing.specs.State.{State, fresh_frame}
+use Rattle.sx_standing.specs.declared.standing.Standing.TheVariants as standing
+use Rattle.sx_standing.specs.declared.standing.Variable.{Variable}
 use Rattle.sx_heads.specs.Depth.{deeper, most_round}
-use Rattle.sx_heads.specs.Plan.{application, by_head, keyword_plan, list_plan, plan_of, shape_plan}
+use Rattle.sx_heads.specs.Items.{alone, begun, core_item, headed_item, keep, kept_head, list_item, set_item, target_item, wait}
+use Rattle.sx_heads.specs.Kept.{with_head}
+use Rattle.sx_heads.specs.Plan.{application, assign, assign_by, assign_to, by_head, keyword_plan, list_plan, plan_of, shape_plan, target_variable, with_shape}
 use Rattle.sx_heads.specs.declared.plan.Plan.{Plan}
 use Rattle.sx_heads.specs.declared.plan.Plan.TheVariants as plans
-use Rattle.sx_expand.specs.Body.{sequence_of}
-use Rattle.sx_expand.specs.Expression.{alternate, application as call_form, conditional, in_order, in_sequence, perform, inside, full_room}
+use Rattle.sx_heads.specs.declared.taken.BodyAt.{BodyAt}
+use Rattle.sx_heads.specs.declared.taken.Taken.{Taken}
+use Rattle.sx_expand.specs.Body.{lambda_at, sequence_of}
+use Rattle.sx_expand.specs.Expression.{all_clauses, alternate, application as call_form, conditional, in_order, in_sequence, keywords_form, perform, set as set_form, syntax_case, inside, full_room}
 use Rattle.sx_expand.specs.Inside.{Inside}
+use Rattle.sx_expand.specs.Keywords.{keywords as bound_keywords}
 use Rattle.sx_expand.specs.Settle.{step_of}
 use Rattle.sx_expand.specs.declared.settle.Step.TheVariants as steps
-use Rattle.sx_room_laws.specs.Counted.{Round, sequence, operator, test, IsRound, AreRound, truth, put, put_in, code, code_in, FormsCountOnce}
+use Rattle.sx_room_laws.specs.Counted.{Round, sequence, operator, test, subject, value, keywords, body, IsWord, IsTarget, IsAlone, IsRound, stamp_round, counted, next_frame, within, rounds_within, next, left, all_left, AreRound, round, truth, put, put_in, code, code_in, FormsCountOnce}
+use Rattle.sx_room_laws.proofs.Items.{shallow-inside}
+use Rattle.sx_room_laws.proofs.Procedures.{IsPlanned, IsTaken, body-faulted, body-made, body-too-deep, headed, is-taken, lambda-faulted, lambda-made, no_ids}
 use Rattle.sx_room_laws.proofs.Limits.{over, done-at, one-deeper, constant-is}
 use Rattle.sx_room_laws.proofs.Rooms.{form-is, too-deep-form, forms-need-no-more}
 
-abbrev plan : Round → Tree → Plan
-plan (sequence word) form = plans.Sequence (form ∷ [])
-plan operator form = plans.Call form []
-plan (test word) form = plans.Conditional form truth None
+abbrev plan : Span → Round → Tree → Plan
+plan place (sequence word) form = plans.Sequence (form ∷ [])
+plan place operator form = plans.Call form []
+plan place (test word) form = plans.Conditional form truth None
+plan place (subject word) form = plans.Matching form [] [] place
+plan place (value word id v) form = plans.Assignment v.label form
+plan place (keywords recursive word) form = plans.Keywords recursive [] (form ∷ [])
+plan place (body word) form = plans.Lambda no_ids (form ∷ [])
+
+-- the state that the plan leaves
+abbrev planned : Round → State → State
+planned (sequence word) s = s
+planned operator s = s
+planned (test word) s = s
+planned (subject word) s = s
+planned (value word id v) s = next (value word id v) s
+planned (keywords recursive word) s = s
+planned (body word) s = s
 
 not-leaf : (rs : List Round) (t : Tree) → is_leaf t ≡ false → is_leaf (put_in rs t) ≡ false
 not-leaf [] t h = h
 not-leaf (sequence word ∷ rs) t h = refl
 not-leaf (operator ∷ rs) t h = refl
 not-leaf (test word ∷ rs) t h = refl
+not-leaf (subject word ∷ rs) t h = refl
+not-leaf (value word id v ∷ rs) t h = refl
+not-leaf (keywords recursive word ∷ rs) t h = refl
+not-leaf (body word ∷ rs) t h = refl
+
+-- Stamps change neither how many stand round a form, nor what comes of it.
+
+stamp-put : (f : FrameNo) (r : Round) (t : Tree) → stamp f (put r t) ≡ put (stamp_round f r) (stamp f t)
+stamp-put f (sequence word) t = refl
+stamp-put f operator t = refl
+stamp-put f (test word) t = refl
+stamp-put f (subject word) t = refl
+stamp-put f (value word id v) t = refl
+stamp-put f (keywords recursive word) t = refl
+stamp-put f (body word) t = refl
+
+stamp-put-in : (f : FrameNo) (rs : List Round) (t : Tree) → stamp f (put_in rs t) ≡ put_in (map (stamp_round f) rs) (stamp f t)
+stamp-put-in f [] t = refl
+stamp-put-in f (r ∷ rs) t = stamp-put f r (put_in rs t) ∙ ap (put (stamp_round f r)) (stamp-put-in f rs t)
+
+stamp-length : (f : FrameNo) (rs : List Round) → length (map (stamp_round f) rs) ≡ length rs
+stamp-length f [] = refl
+stamp-length f (r ∷ rs) = ap suc (stamp-length f rs)
+
+stamp-next : (f : FrameNo) (r : Round) (s : State) → next (stamp_round f r) s ≡ next r s
+stamp-next f (sequence word) s = refl
+stamp-next f operator s = refl
+stamp-next f (test word) s = refl
+stamp-next f (subject word) s = refl
+stamp-next f (value word id v) s = refl
+stamp-next f (keywords recursive word) s = refl
+stamp-next f (body word) s = refl
+
+stamp-code : (f : FrameNo) (place : Span) (r : Round) (s : State) (c : PlainCore) → code place (stamp_round f r) s c ≡ code place r s c
+stamp-code f place (sequence word) s c = refl
+stamp-code f place operator s c = refl
+stamp-code f place (test word) s c = refl
+stamp-code f place (subject word) s c = refl
+stamp-code f place (value word id v) s c = refl
+stamp-code f place (keywords recursive word) s c = refl
+stamp-code f place (body word) s c = refl
+
+stamp-code-in : (f : FrameNo) (place : Span) (rs : List Round) (s : State) (c : PlainCore) → code_in place (map (stamp_round f) rs) s c ≡ code_in place rs s c
+stamp-code-in f place [] s c = refl
+stamp-code-in f place (r ∷ rs) s c =
+    stamp-code f place r s (code_in place (map (stamp_round f) rs) (next (stamp_round f r) s) c) ∙ ap (λ u. code place r s (code_in place (map (stamp_round f) rs) u c)) (stamp-next f r s)
+    ∙ ap (code place r s) (stamp-code-in f place rs (next r s) c)
+
+stamp-left : (f : FrameNo) (r : Round) (s u : State) → left (stamp_round f r) s u ≡ left r s u
+stamp-left f (sequence word) s u = refl
+stamp-left f operator s u = refl
+stamp-left f (test word) s u = refl
+stamp-left f (subject word) s u = refl
+stamp-left f (value word id v) s u = refl
+stamp-left f (keywords recursive word) s u = refl
+stamp-left f (body word) s u = refl
+
+stamp-all-left : (f : FrameNo) (rs : List Round) (s : State) → all_left (map (stamp_round f) rs) s ≡ all_left rs s
+stamp-all-left f [] s = refl
+stamp-all-left f (r ∷ rs) s =
+    stamp-left f r s (all_left (map (stamp_round f) rs) (next (stamp_round f r) s)) ∙ ap (λ u. left r s (all_left (map (stamp_round f) rs) u)) (stamp-next f r s)
+    ∙ ap (left r s) (stamp-all-left f rs (next r s))
+
+stamp-alone : (f : FrameNo) (rs : List Round) → IsAlone rs → IsAlone (map (stamp_round f) rs)
+stamp-alone f [] h = h
+stamp-alone f (sequence word ∷ rs) h = h
+stamp-alone f (operator ∷ rs) h = h
+stamp-alone f (test word ∷ rs) h = h
+stamp-alone f (subject word ∷ rs) h = h
+stamp-alone f (value word id v ∷ rs) h = h
+stamp-alone f (keywords recursive word ∷ rs) h = h
+stamp-alone f (body word ∷ rs) h = h
+
+stamp-leaf : (f : FrameNo) (t : Tree) → is_leaf (stamp f t) ≡ is_leaf t
+stamp-leaf f (atom o a) = refl
+stamp-leaf f (leaf o x k) = refl
+stamp-leaf f (pair o a d) = refl
+stamp-leaf f (vector o d) = refl
+
+stamp-fault : (f : FrameNo) (t : Tree) (place : Span) → fault_at kind.TooDeep (stamp f t) place [] ≡ fault_at kind.TooDeep t place []
+stamp-fault f (atom o a) place = refl
+stamp-fault f (leaf o x k) place = refl
+stamp-fault f (pair o a d) place = refl
+stamp-fault f (vector o d) place = refl
+
+-- one of five outcomes, by four tests
+chosen : {A : Type 0} (a b c d : Bool) (v w x y z : A) → a ≡ true → b ≡ true → c ≡ true → d ≡ false → (if a then (if b then (if c then (if d then v else w) else x) else y) else z) ≡ w
+chosen true true true false v w x y z h i j k = refl
+chosen true true true true v w x y z h i j k = absurd (cc)
+chosen true true false d v w x y z h i j k = absurd (cc)
+chosen true false c d v w x y z h i j k = absurd (cc)
+chosen false b c d v w x y z h i j k = absurd (cc)
+
+target-is : (place : Span) (level : ℕ) (t id : Tree) (s : State) (v : Variable) (word : Tree) → IsTarget level s id v → target_variable place level t id v s ≡ Ok (v.label, next (value word id v) s)
+unfolding target_variable
+target-is place level t id s v word is =
+    chosen v.own (nat_eq v.level level) (is_in_scope s v) (has_label s.exports v.label) _ _ _ _ _ is.own ((unsigned_Decides v.level level).1 is.level) is.in_scope is.inside
 
 module _ (place : Span) (level : ℕ) (form : Tree) (s : State) (no : is_leaf form ≡ false) where
-  plan-is : (r : Round) → IsRound s r → plan_of place level (put r form) s ≡ Ok (plan r form, s)
-  unfolding list_plan application keyword_plan shape_plan role_of shape shape_of shaped if_shape
-  plan-is (sequence word) is =
-      ap (λ b. if b then by_head place level (put (sequence word) form) word (pair None form nil) (standing_of s word) s else application place (put (sequence word) form) word (pair None form nil) s) is.leaf
-      ∙ ap (λ x. by_head place level (put (sequence word) form) word (pair None form nil) x s) is.stands
-  plan-is operator is = ap (λ b. if b then by_head place level (put operator form) form nil (standing_of s form) s else application place (put operator form) form nil s) no
-  plan-is (test word) is =
-      ap (λ b. if b then by_head place level (put (test word) form) word (pair None form (pair None truth nil)) (standing_of s word) s else application place (put (test word) form) word (pair None form (pair None truth nil)) s) is.leaf
-      ∙ ap (λ x. by_head place level (put (test word) form) word (pair None form (pair None truth nil)) x s) is.stands
+  by-word : (f : CoreForm) (word rest : Tree) → IsWord s f word → plan_of place level (pair None word rest) s ≡ keyword_plan place level (pair None word rest) word f s
+  unfolding list_plan
+  by-word f word rest is =
+      ap (λ b. if b then by_head place level (pair None word rest) word rest (standing_of s word) s else application place (pair None word rest) word rest s) is.leaf
+      ∙ ap (λ x. by_head place level (pair None word rest) word rest x s) is.stands
 
-  plan-settles : (r : Round) (rs : List LibRecord) → step_of rs place (put r form) (plan r form) s ≡ Ok (steps.Plan (plan r form), s)
-  plan-settles (sequence word) rs = refl
-  plan-settles operator rs = refl
-  plan-settles (test word) rs = refl
+  shape-set : (word id : Tree) (v : Variable) → is_leaf id ≡ true → shape core_forms.Set (put (value word id v) form) place ≡ Ok (shapes.Set id form)
+  unfolding shape shape_of shaped set_shape
+  shape-set word id v is = ap (λ b. or_bad (put (value word id v) form) place (if b then Some (shapes.Set id form) else None)) is
 
-  in-round : (records : List LibRecord) (room depth : ℕ) (r : Round) → IsRound s r → depth ≤ most_round → (inside records (suc room)).form place level depth (put r form) s ≡ perform (inside records room) place level depth (put r form) (plan r form) s
-  in-round records room depth r is few =
-      form-is records room place level depth (put r form) s ∙ done-at (inside records room) place level depth (put r form) s (plan r form) few (plan-is r is) (plan-settles r)
+  plan-is : (r : Round) (rs : List Round) → IsRound level s r rs → plan_of place level (put r form) s ≡ Ok (plan place r form, planned r s)
+  unfolding list_plan application keyword_plan shape_plan role_of shape shape_of shaped if_shape syntax_case_shape let_syntax_shape lambda_shape formals formals_before bindings all_of assign
+  plan-is (sequence word) rs is = by-word core_forms.Begin word (pair None form nil) is
+  plan-is operator rs is = ap (λ b. if b then by_head place level (put operator form) form nil (standing_of s form) s else application place (put operator form) form nil s) no
+  plan-is (test word) rs is = by-word core_forms.If word (pair None form (pair None truth nil)) is
+  plan-is (subject word) rs is = by-word core_forms.SyntaxCase word (pair None form (pair None nil nil)) is
+  plan-is (value word id v) rs is =
+      by-word core_forms.Set word (pair None id (pair None form nil)) is.0
+      ∙ ap (λ x. with_shape place level (put (value word id v) form) core_forms.Set x s) (shape-set word id v is.1.leaf)
+      ∙ ap (λ x. assign_by place level (put (value word id v) form) id form x s) is.1.stands
+      ∙ ap (λ x. after x (assign_to form)) (target-is place level (put (value word id v) form) id s v word is.1)
+  plan-is (keywords false word) rs is = by-word core_forms.LetSyntax word (pair None nil (pair None form nil)) is
+  plan-is (keywords true word) rs is = by-word core_forms.LetrecSyntax word (pair None nil (pair None form nil)) is
+  plan-is (body word) rs is = by-word core_forms.Lambda word (pair None nil (pair None form nil)) is.0
 
-  faulted : (go : Inside) (depth : ℕ) (t : Tree) (r : Round) (f : Fault) → go.form place level (deeper depth) form s ≡ Err f → perform go place level depth t (plan r form) s ≡ Err f
-  unfolding perform in_sequence call_form conditional each
-  faulted go depth t (sequence word) f e = ap (λ x. after (after x (λ c s. Ok (c ∷ [], s))) (λ cs. give (sequence_of cs))) e
-  faulted go depth t operator f e = ap (λ x. after x (λ c s'. after (in_order go place level (deeper depth) [] s') (λ cs. give (call c (cores cs))))) e
-  faulted go depth t (test word) f e = ap (λ x. after x (λ c s'. after (go.form place level (deeper depth) truth s') (λ d. alternate go place level (deeper depth) c d None))) e
+  plan-settles : (r : Round) (rs : List LibRecord) (u : State) → step_of rs place (put r form) (plan place r form) u ≡ Ok (steps.Plan (plan place r form), u)
+  plan-settles (sequence word) rs u = refl
+  plan-settles operator rs u = refl
+  plan-settles (test word) rs u = refl
+  plan-settles (subject word) rs u = refl
+  plan-settles (value word id v) rs u = refl
+  plan-settles (keywords recursive word) rs u = refl
+  plan-settles (body word) rs u = refl
 
-  made : (go : Inside) (depth : ℕ) (t : Tree) (r : Round) (c : PlainCore) → go.form place level (deeper depth) form s ≡ Ok (c, s) → go.form place level (deeper depth) truth s ≡ Ok (quoted (strip truth), s)
-      → perform go place level depth t (plan r form) s ≡ Ok (code r c, s)
-  unfolding perform in_sequence call_form conditional each
-  made go depth t (sequence word) c e k = ap (λ x. after (after x (λ c s. Ok (c ∷ [], s))) (λ cs. give (sequence_of cs))) e
-  made go depth t operator c e k = ap (λ x. after x (λ c s'. after (in_order go place level (deeper depth) [] s') (λ cs. give (call c (cores cs))))) e
-  made go depth t (test word) c e k =
-      ap (λ x. after x (λ c s'. after (go.form place level (deeper depth) truth s') (λ d. alternate go place level (deeper depth) c d None))) e
+  in-round : (records : List LibRecord) (room depth : ℕ) (r : Round) (rs : List Round) → IsRound level s r rs → depth ≤ most_round
+      → (inside records (suc room)).form place level depth (put r form) s ≡ perform (inside records room) place level depth (put r form) (plan place r form) (planned r s)
+  in-round records room depth r rs is few =
+      form-is records room place level depth (put r form) s
+      ∙ done-at (inside records room) place level depth (put r form) s (planned r s) (plan place r form) few (plan-is r rs is) (λ records. plan-settles r records (planned r s))
+
+-- Right in a procedure each of these is an expression that waits.
+
+module _ (at : BodyAt) (depth : ℕ) (form : Tree) (s : State) (no : is_leaf form ≡ false) where
+  target-taken : (word id : Tree) (v : Variable) (d : Taken) → is_leaf id ≡ true → standing_of s id ≡ standing.Variable v
+      → set_item at depth d (put (value word id v) form) (shape core_forms.Set (put (value word id v) form) at.place) s
+      ≡ alone (wait at depth (record d { kept = with_head d.kept (kept_head s id) }) (put (value word id v) form)) s
+  unfolding keep
+  target-taken word id v d is stood =
+      ap (λ x. set_item at depth d (put (value word id v) form) x s) (shape-set at.place 0 form s no word id v is)
+      ∙ ap (λ x. target_item at depth (record d { kept = with_head d.kept (kept_head s id) }) (put (value word id v) form) x s) stood
+
+  item-is : (level : ℕ) (q : Round) (rs : List Round) → IsRound level s q rs → IsAlone (q ∷ rs) → IsPlanned at depth (put q form) s
+  unfolding list_item core_item role_of
+  item-is level (sequence word) rs is h = elim h [ ]
+  item-is level operator rs is h = record {
+    kept = begun.kept;
+    planned = ap (λ b. if b then after (keep begun form s) (λ kept s'. headed_item at depth kept (put operator form) (standing_of s' form) s') else alone (wait at depth begun (put operator form)) s) no;
+  }
+  item-is level (test word) rs is h = record { kept = with_head begun.kept (kept_head s word); planned = headed at depth core_forms.If word (pair None form (pair None truth nil)) s is }
+  item-is level (subject word) rs is h = record { kept = with_head begun.kept (kept_head s word); planned = headed at depth core_forms.SyntaxCase word (pair None form (pair None nil nil)) s is }
+  item-is level (value word id v) rs is h = record {
+    kept = with_head (with_head begun.kept (kept_head s word)) (kept_head s id);
+    planned = headed at depth core_forms.Set word (pair None id (pair None form nil)) s is.0
+        ∙ target-taken word id v (record begun { kept = with_head begun.kept (kept_head s word) }) is.1.leaf is.1.stands;
+  }
+  item-is level (keywords recursive word) rs is h = elim h [ ]
+  item-is level (body word) rs is h = record { kept = with_head begun.kept (kept_head s word); planned = headed at depth core_forms.Lambda word (pair None nil (pair None form nil)) s is.0 }
+
+-- For a procedure, that the first pass takes its form so.
+abbrev Taking : Inside → Span → ℕ → ℕ → Round → State → Tree → Type 0
+Taking go place level depth (body word) s form = IsTaken go (lambda_at (next_frame (counted (counted s))) place level) depth (within (body word) s form) (next (body word) s)
+Taking go place level depth r s form = Unit {0}
+
+module _ (place : Span) (level : ℕ) (form : Tree) (s : State) where
+  abbrev tried : (go : Inside) (depth : ℕ) → PlainCore → State → Result (PlainCore × State) Fault
+  tried go depth c u = after (check_literals place [] u) (λ _ w. after (all_clauses go place level (deeper depth) [] [] w) (λ xs. give (matching c (clauses xs) place)))
+
+  faulted : (go : Inside) (depth : ℕ) (t : Tree) (r : Round) (f : Fault) → go.form place level (deeper depth) (within r s form) (next r s) ≡ Err f → Taking go place level (deeper depth) r s form → perform go place level depth t (plan place r form) (planned r s) ≡ Err f
+  unfolding perform in_sequence call_form conditional each gather syntax_case set_form keywords_form bound_keywords fresh_frame
+  faulted go depth t (sequence word) f e w = ap (λ x. after (after x (λ c u. Ok (c ∷ [], u))) (λ cs. give (sequence_of cs))) e
+  faulted go depth t operator f e w = ap (λ x. after x (λ c u. after (in_order go place level (deeper depth) [] u) (λ cs. give (call c (cores cs))))) e
+  faulted go depth t (test word) f e w = ap (λ x. after x (λ c u. after (go.form place level (deeper depth) truth u) (λ d. alternate go place level (deeper depth) c d None))) e
+  faulted go depth t (subject word) f e w = ap (λ x. after x (tried go depth)) e
+  faulted go depth t (value word id v) f e w = ap (λ x. after x (λ c. give (assignment v.label c))) e
+  faulted go depth t (keywords recursive word) f e w = ap (λ x. after (after x (λ c u. Ok (c ∷ [], u))) (λ cs. give (sequence_of cs))) e
+  faulted go depth t (body word) f e w =
+      lambda-faulted go place level (deeper depth) t form s f (body-faulted go place level (deeper depth) t (stamp (next_frame (counted s)) form) (counted (counted s)) f w e)
+
+  made : (go : Inside) (depth : ℕ) (t : Tree) (r : Round) (c : PlainCore) (u : State) → go.form place level (deeper depth) (within r s form) (next r s) ≡ Ok (c, u) → go.form place level (deeper depth) truth u ≡ Ok (quoted (strip truth), u) → Taking go place level (deeper depth) r s form
+      → perform go place level depth t (plan place r form) (planned r s) ≡ Ok (code place r s c, left r s u)
+  unfolding perform in_sequence call_form conditional each gather syntax_case set_form literals_on_stage keywords_form bound_keywords fresh_frame
+  made go depth t (sequence word) c u e k w = ap (λ x. after (after x (λ c u. Ok (c ∷ [], u))) (λ cs. give (sequence_of cs))) e
+  made go depth t operator c u e k w = ap (λ x. after x (λ c u. after (in_order go place level (deeper depth) [] u) (λ cs. give (call c (cores cs))))) e
+  made go depth t (test word) c u e k w =
+      ap (λ x. after x (λ c u. after (go.form place level (deeper depth) truth u) (λ d. alternate go place level (deeper depth) c d None))) e
       ∙ ap (λ x. after x (λ d. alternate go place level (deeper depth) c d None)) k
+  made go depth t (subject word) c u e k w = ap (λ x. after x (tried go depth)) e
+  made go depth t (value word id v) c u e k w = ap (λ x. after x (λ c. give (assignment v.label c))) e
+  made go depth t (keywords recursive word) c u e k w = ap (λ x. after (after x (λ c u. Ok (c ∷ [], u))) (λ cs. give (sequence_of cs))) e
+  made go depth t (body word) c u e k w =
+      lambda-made go place level (deeper depth) t form s c (cut (length s.scope) u) (body-made go place level (deeper depth) t (stamp (next_frame (counted s)) form) (counted (counted s)) c u w e)
 
-module _ (records : List LibRecord) (place : Span) (level : ℕ) (s : State) where
-  at-room : (a b depth : ℕ) (u : Tree) → a ≡ b → (inside records a).form place level depth u s ≡ (inside records b).form place level depth u s
-  at-room a b depth u e = ap (λ n. (inside records n).form place level depth u s) e
+  -- where the form in a procedure is too deep for the first pass
+  too-deep-in : (go : Inside) (depth : ℕ) (t word : Tree) (f : Fault) → go.item (lambda_at (next_frame (counted (counted s))) place level) (deeper depth) begun (within (body word) s form) (next (body word) s) ≡ Err f
+      → perform go place level depth t (plan place (body word) form) s ≡ Err f
+  unfolding perform
+  too-deep-in go depth t word f e =
+      lambda-faulted go place level (deeper depth) t form s f (body-too-deep go place level (deeper depth) t (stamp (next_frame (counted s)) form) (counted (counted s)) f e)
 
-  at-depth : (room depth : ℕ) (u : Tree) → depth ≤ most_round → (inside records room).form place level (deeper depth) u s ≡ (inside records room).form place level (suc depth) u s
-  at-depth room depth u few = ap (λ n. (inside records room).form place level n u s) (one-deeper depth few)
+module _ (records : List LibRecord) (place : Span) (level : ℕ) where
+  at-room : (a b depth : ℕ) (u : Tree) (s : State) → a ≡ b → (inside records a).form place level depth u s ≡ (inside records b).form place level depth u s
+  at-room a b depth u s e = ap (λ n. (inside records n).form place level depth u s) e
 
-  all-refused : (t : Tree) → is_leaf t ≡ false → (rs : List Round) (room depth : ℕ) → AreRound s rs → depth + length rs ≡ most_round + 1
-      → (inside records (length rs + room)).form place level depth (put_in rs t) s ≡ Err (fault_at kind.TooDeep t place [])
-  all-refused t inner [] room depth is h = too-deep-form records (length {A = Round} [] + room) place level depth t s (over depth (omega (arith, h)))
-  all-refused t inner (r ∷ rs) room depth is h =
-      at-room (length (r ∷ rs) + room) (suc (length rs + room)) depth (put_in (r ∷ rs) t) (omega arith)
-      ∙ in-round place level (put_in rs t) s (not-leaf rs t inner) records (length rs + room) depth r is.0 (omega (arith, h))
-      ∙ faulted place level (put_in rs t) s (not-leaf rs t inner) (inside records (length rs + room)) depth (put_in (r ∷ rs) t) r (fault_at kind.TooDeep t place [])
-      (at-depth (length rs + room) depth (put_in rs t) (omega (arith, h)) ∙ all-refused t inner rs room (suc depth) is.1 (omega (arith, h)))
+  at-depth : (room depth : ℕ) (u : Tree) (s : State) → depth ≤ most_round → (inside records room).form place level (deeper depth) u s ≡ (inside records room).form place level (suc depth) u s
+  at-depth room depth u s few = ap (λ n. (inside records room).form place level n u s) (one-deeper depth few)
 
-  atom-is : (room depth : ℕ) (o : Option Span) (a : Atom) → depth ≤ most_round → is_nil_atom a ≡ false → (inside records (suc room)).form place level depth (atom o a) s ≡ Ok (quoted (strip (atom o a)), s)
-  atom-is room depth o a few some = form-is records room place level depth (atom o a) s ∙ constant-is (inside records room) place level depth o a s few some
+  atom-is : (room depth : ℕ) (o : Option Span) (a : Atom) (s : State) → depth ≤ most_round → is_nil_atom a ≡ false → (inside records (suc room)).form place level depth (atom o a) s ≡ Ok (quoted (strip (atom o a)), s)
+  atom-is room depth o a s few some = form-is records room place level depth (atom o a) s ∙ constant-is (inside records room) place level depth o a s few some
 
-  all-taken : (o : Option Span) (a : Atom) → is_nil_atom a ≡ false → (rs : List Round) (room depth : ℕ) → AreRound s rs → depth + length rs ≤ most_round
-      → (inside records (length rs + suc room)).form place level depth (put_in rs (atom o a)) s ≡ Ok (code_in rs (quoted (strip (atom o a))), s)
-  all-taken o a some [] room depth is h = at-room (length {A = Round} [] + suc room) (suc room) depth (atom o a) (omega arith) ∙ atom-is room depth o a (omega (arith, h)) some
-  all-taken o a some (r ∷ rs) room depth is h =
-      at-room (length (r ∷ rs) + suc room) (suc (length rs + suc room)) depth (put_in (r ∷ rs) (atom o a)) (omega arith)
-      ∙ in-round place level (put_in rs (atom o a)) s (not-leaf rs (atom o a) refl) records (length rs + suc room) depth r is.0 (omega (arith, h))
-      ∙ made place level (put_in rs (atom o a)) s (not-leaf rs (atom o a) refl) (inside records (length rs + suc room)) depth (put_in (r ∷ rs) (atom o a)) r (code_in rs (quoted (strip (atom o a))))
-      (at-depth (length rs + suc room) depth (put_in rs (atom o a)) (omega (arith, h)) ∙ all-taken o a some rs room (suc depth) is.1 (omega (arith, h)))
-      (at-depth (length rs + suc room) depth truth (omega (arith, h)) ∙ at-room (length rs + suc room) (suc (length rs + room)) (suc depth) truth (omega arith) ∙ atom-is (length rs + room) (suc depth) None (atoms.Bool true) (omega (arith, h)) refl)
+  -- Right in a procedure, twice stamped.
+
+  abbrev twice : State → Tree → Tree
+  twice s t = stamp (next_frame (counted (counted s))) (stamp (next_frame (counted s)) t)
+
+  abbrev rounds_twice : State → List Round → List Round
+  rounds_twice s rs = map (stamp_round (next_frame (counted (counted s)))) (map (stamp_round (next_frame (counted s))) rs)
+
+  twice-is : (s : State) (rs : List Round) (t : Tree) → twice s (put_in rs t) ≡ put_in (rounds_twice s rs) (twice s t)
+  twice-is s rs t =
+      ap (stamp (next_frame (counted (counted s)))) (stamp-put-in (next_frame (counted s)) rs t)
+      ∙ stamp-put-in (next_frame (counted (counted s))) (map (stamp_round (next_frame (counted s))) rs) (stamp (next_frame (counted s)) t)
+
+  twice-leaf : (s : State) (t : Tree) → is_leaf (twice s t) ≡ is_leaf t
+  twice-leaf s t = stamp-leaf (next_frame (counted (counted s))) (stamp (next_frame (counted s)) t) ∙ stamp-leaf (next_frame (counted s)) t
+
+  twice-fault : (s : State) (t : Tree) → fault_at kind.TooDeep (twice s t) place [] ≡ fault_at kind.TooDeep t place []
+  twice-fault s t = stamp-fault (next_frame (counted (counted s))) (stamp (next_frame (counted s)) t) place ∙ stamp-fault (next_frame (counted s)) t place
+
+  twice-length : (s : State) (rs : List Round) → length (rounds_twice s rs) ≡ length rs
+  twice-length s rs = stamp-length (next_frame (counted (counted s))) (map (stamp_round (next_frame (counted s))) rs) ∙ stamp-length (next_frame (counted s)) rs
+
+  twice-alone : (s : State) (rs : List Round) → IsAlone rs → IsAlone (rounds_twice s rs)
+  twice-alone s rs h = stamp-alone (next_frame (counted (counted s))) (map (stamp_round (next_frame (counted s))) rs) (stamp-alone (next_frame (counted s)) rs h)
+
+  first-is : (at : BodyAt) (depth : ℕ) (q : Round) (qs : List Round) (x : Tree) (s : State) → is_leaf x ≡ false → AreRound level s (q ∷ qs) → IsAlone (q ∷ qs) → IsPlanned at depth (put_in (q ∷ qs) x) s
+  first-is at depth q qs x s inner (round is more) h = item-is at depth (put_in qs x) s (not-leaf qs x inner) level q qs is h
+
+  few-deeper : (depth m : ℕ) → depth ≤ most_round → suc depth ≤ m → deeper depth ≤ m
+  few-deeper depth m few h = subst (λ k. k ≤ m) (sym (one-deeper depth few)) h
+
+  taken-in : (word : Tree) (q : Round) (rs : List Round) (t : Tree) (room depth : ℕ) (s : State) → suc depth ≤ most_round → is_leaf t ≡ false → IsAlone (q ∷ rs) → AreRound level (next (body word) s) (rounds_within (body word) s (q ∷ rs))
+      → Taking (inside records (suc room)) place level (deeper depth) (body word) s (put_in (q ∷ rs) t)
+  taken-in word q rs t room depth s few inner h more =
+      subst (λ y. IsTaken (inside records (suc room)) (lambda_at (next_frame (counted (counted s))) place level) (deeper depth) y (next (body word) s)) (sym (twice-is s (q ∷ rs) t))
+      (is-taken records room (lambda_at (next_frame (counted (counted s))) place level) (deeper depth) (put_in (rounds_twice s (q ∷ rs)) (twice s t)) (next (body word) s) (few-deeper depth most_round (omega (arith, few)) few)
+      (first-is (lambda_at (next_frame (counted (counted s))) place level) (deeper depth) (stamp_round (next_frame (counted (counted s))) (stamp_round (next_frame (counted s)) q)) (rounds_twice s rs) (twice s t)
+      (next (body word) s) (twice-leaf s t ∙ inner) more (twice-alone s (q ∷ rs) h)))
+
+  at-taking : (a b depth : ℕ) (word form : Tree) (s : State) → a ≡ b → Taking (inside records a) place level depth (body word) s form → Taking (inside records b) place level depth (body word) s form
+  at-taking a b depth word form s e h = subst (λ n. Taking (inside records n) place level depth (body word) s form) e h
+
+  -- with so many round it
+  abbrev Refuses : ℕ → Type 0
+  Refuses n = (t : Tree) (rs : List Round) (room depth : ℕ) (s : State) → is_leaf t ≡ false → length rs ≡ n → AreRound level s rs → depth + n ≡ most_round + 1
+      → (inside records (n + room)).form place level depth (put_in rs t) s ≡ Err (fault_at kind.TooDeep t place [])
+
+  refused-within : (n : ℕ) → Refuses n → (r : Round) (t : Tree) (rs : List Round) (room depth : ℕ) (s : State) → is_leaf t ≡ false → length rs ≡ n → AreRound level (next r s) (rounds_within r s rs) → depth + n ≡ most_round + 1
+      → (inside records (n + room)).form place level depth (within r s (put_in rs t)) (next r s) ≡ Err (fault_at kind.TooDeep t place [])
+  refused-within n all (sequence word) t rs room depth s inner e is h = all t rs room depth s inner e is h
+  refused-within n all operator t rs room depth s inner e is h = all t rs room depth s inner e is h
+  refused-within n all (test word) t rs room depth s inner e is h = all t rs room depth s inner e is h
+  refused-within n all (subject word) t rs room depth s inner e is h = all t rs room depth s inner e is h
+  refused-within n all (value word id v) t rs room depth s inner e is h = all t rs room depth (next (value word id v) s) inner e is h
+  refused-within n all (keywords recursive word) t rs room depth s inner e is h =
+      ap (λ x. (inside records (n + room)).form place level depth x (counted s)) (stamp-put-in (next_frame s) rs t)
+      ∙ all (stamp (next_frame s) t) (map (stamp_round (next_frame s)) rs) room depth (counted s) (stamp-leaf (next_frame s) t ∙ inner) (stamp-length (next_frame s) rs ∙ e) is h
+      ∙ ap (λ (f : Fault). Err f) (stamp-fault (next_frame s) t place)
+  refused-within n all (body word) t rs room depth s inner e is h =
+      ap (λ x. (inside records (n + room)).form place level depth x (next (body word) s)) (twice-is s rs t)
+      ∙ all (twice s t) (rounds_twice s rs) room depth (next (body word) s) (twice-leaf s t ∙ inner) (twice-length s rs ∙ e) is h
+      ∙ ap (λ (f : Fault). Err f) (twice-fault s t)
+
+  -- one more of them
+  refused-in : (n : ℕ) → Refuses n → (r : Round) (t : Tree) (rs : List Round) (room depth : ℕ) (s : State) → is_leaf t ≡ false → length rs ≡ n → IsRound level s r rs → AreRound level (next r s) (rounds_within r s rs) → depth + suc n ≡ most_round + 1
+      → perform (inside records (n + room)) place level depth (put r (put_in rs t)) (plan place r (put_in rs t)) (planned r s) ≡ Err (fault_at kind.TooDeep t place [])
+  refused-in n all (sequence word) t rs room depth s inner e is more h =
+      faulted place level (put_in rs t) s (inside records (n + room)) depth (put (sequence word) (put_in rs t)) (sequence word) (fault_at kind.TooDeep t place []) (at-depth (n + room) depth (within (sequence word) s (put_in rs t)) (next (sequence word) s) (omega (arith, h)) ∙ refused-within n all (sequence word) t rs room (suc depth) s inner e more (omega (arith, h))) tt
+  refused-in n all operator t rs room depth s inner e is more h =
+      faulted place level (put_in rs t) s (inside records (n + room)) depth (put operator (put_in rs t)) operator (fault_at kind.TooDeep t place []) (at-depth (n + room) depth (within operator s (put_in rs t)) (next operator s) (omega (arith, h)) ∙ refused-within n all operator t rs room (suc depth) s inner e more (omega (arith, h))) tt
+  refused-in n all (test word) t rs room depth s inner e is more h =
+      faulted place level (put_in rs t) s (inside records (n + room)) depth (put (test word) (put_in rs t)) (test word) (fault_at kind.TooDeep t place []) (at-depth (n + room) depth (within (test word) s (put_in rs t)) (next (test word) s) (omega (arith, h)) ∙ refused-within n all (test word) t rs room (suc depth) s inner e more (omega (arith, h))) tt
+  refused-in n all (subject word) t rs room depth s inner e is more h =
+      faulted place level (put_in rs t) s (inside records (n + room)) depth (put (subject word) (put_in rs t)) (subject word) (fault_at kind.TooDeep t place []) (at-depth (n + room) depth (within (subject word) s (put_in rs t)) (next (subject word) s) (omega (arith, h)) ∙ refused-within n all (subject word) t rs room (suc depth) s inner e more (omega (arith, h))) tt
+  refused-in n all (value word id v) t rs room depth s inner e is more h =
+      faulted place level (put_in rs t) s (inside records (n + room)) depth (put (value word id v) (put_in rs t)) (value word id v) (fault_at kind.TooDeep t place []) (at-depth (n + room) depth (within (value word id v) s (put_in rs t)) (next (value word id v) s) (omega (arith, h)) ∙ refused-within n all (value word id v) t rs room (suc depth) s inner e more (omega (arith, h))) tt
+  refused-in n all (keywords recursive word) t rs room depth s inner e is more h =
+      faulted place level (put_in rs t) s (inside records (n + room)) depth (put (keywords recursive word) (put_in rs t)) (keywords recursive word) (fault_at kind.TooDeep t place []) (at-depth (n + room) depth (within (keywords recursive word) s (put_in rs t)) (next (keywords recursive word) s) (omega (arith, h)) ∙ refused-within n all (keywords recursive word) t rs room (suc depth) s inner e more (omega (arith, h))) tt
+  refused-in zero all (body word) t [] room depth s inner e is more h =
+      too-deep-in place level t s (inside records (zero + room)) depth (put (body word) t) word (fault_at kind.TooDeep t place [])
+      (shallow-inside records (zero + room) (lambda_at (next_frame (counted (counted s))) place level) (deeper depth) begun (twice s t) (next (body word) s)
+      (over (deeper depth) (subst (λ k. most_round < k) (sym (one-deeper depth (omega (arith, h)))) (omega (arith, h))))
+      ∙ ap (λ (f : Fault). Err f) (twice-fault s t))
+  refused-in zero all (body word) t (q ∷ rs) room depth s inner e is more h = let n : ⊥ = omega (arith, e) in elim n [ ]
+  refused-in (suc n) all (body word) t [] room depth s inner e is more h = let n : ⊥ = omega (arith, e) in elim n [ ]
+  refused-in (suc n) all (body word) t (q ∷ rs) room depth s inner e is more h =
+      faulted place level (put_in (q ∷ rs) t) s (inside records (suc n + room)) depth (put (body word) (put_in (q ∷ rs) t)) (body word) (fault_at kind.TooDeep t place [])
+      (at-depth (suc n + room) depth (within (body word) s (put_in (q ∷ rs) t)) (next (body word) s) (omega (arith, h)) ∙ refused-within (suc n) all (body word) t (q ∷ rs) room (suc depth) s inner e more (omega (arith, h)))
+      (at-taking (suc (n + room)) (suc n + room) (deeper depth) word (put_in (q ∷ rs) t) s (omega arith) (taken-in word q rs t (n + room) depth s (omega (arith, h)) inner is.1 more))
+
+  refuses : (n : ℕ) → Refuses n
+  refuses zero t [] room depth s inner e is h = too-deep-form records (zero + room) place level depth t s (over depth (omega (arith, h)))
+  refuses zero t (r ∷ rs) room depth s inner e is h = let n : ⊥ = omega (arith, e) in elim n [ ]
+  refuses (suc n) t [] room depth s inner e is h = let n : ⊥ = omega (arith, e) in elim n [ ]
+  refuses (suc n) t (r ∷ rs) room depth s inner e (round is more) h =
+      at-room (suc n + room) (suc (n + room)) depth (put_in (r ∷ rs) t) s (omega arith)
+      ∙ in-round place level (put_in rs t) s (not-leaf rs t inner) records (n + room) depth r rs is (omega (arith, h))
+      ∙ refused-in n (refuses n) r t rs room depth s inner (omega (arith, e)) is more h
+
+  module _ (o : Option Span) (a : Atom) (some : is_nil_atom a ≡ false) where
+    abbrev constant : PlainCore
+    constant = quoted (strip (atom o a))
+
+    abbrev Takes : ℕ → Type 0
+    Takes n = (rs : List Round) (room depth : ℕ) (s : State) → length rs ≡ n → AreRound level s rs → depth + n ≤ most_round
+        → (inside records (n + suc room)).form place level depth (put_in rs (atom o a)) s ≡ Ok (code_in place rs s constant, all_left rs s)
+
+    taken-within : (n : ℕ) → Takes n → (r : Round) (rs : List Round) (room depth : ℕ) (s : State) → length rs ≡ n → AreRound level (next r s) (rounds_within r s rs) → depth + n ≤ most_round
+        → (inside records (n + suc room)).form place level depth (within r s (put_in rs (atom o a))) (next r s) ≡ Ok (code_in place rs (next r s) constant, all_left rs (next r s))
+    taken-within n all (sequence word) rs room depth s e is h = all rs room depth s e is h
+    taken-within n all operator rs room depth s e is h = all rs room depth s e is h
+    taken-within n all (test word) rs room depth s e is h = all rs room depth s e is h
+    taken-within n all (subject word) rs room depth s e is h = all rs room depth s e is h
+    taken-within n all (value word id v) rs room depth s e is h = all rs room depth (next (value word id v) s) e is h
+    taken-within n all (keywords recursive word) rs room depth s e is h =
+        ap (λ x. (inside records (n + suc room)).form place level depth x (counted s)) (stamp-put-in (next_frame s) rs (atom o a))
+        ∙ all (map (stamp_round (next_frame s)) rs) room depth (counted s) (stamp-length (next_frame s) rs ∙ e) is h
+        ∙ (λ i. Ok (stamp-code-in (next_frame s) place rs (counted s) constant i, stamp-all-left (next_frame s) rs (counted s) i))
+    taken-within n all (body word) rs room depth s e is h =
+        let f : FrameNo = next_frame (counted s) in
+        let g : FrameNo = next_frame (counted (counted s)) in
+        let u : State = next (body word) s in
+        ap (λ x. (inside records (n + suc room)).form place level depth x u) (twice-is s rs (atom o a))
+        ∙ all (rounds_twice s rs) room depth u (twice-length s rs ∙ e) is h
+        ∙ (λ i. Ok (stamp-code-in g place (map (stamp_round f) rs) u constant i, stamp-all-left g (map (stamp_round f) rs) u i)) ∙ (λ i. Ok (stamp-code-in f place rs u constant i, stamp-all-left f rs u i))
+
+    waits-in : (word : Tree) (rs : List Round) (room depth : ℕ) (s : State) → suc depth ≤ most_round → IsAlone rs → AreRound level (next (body word) s) (rounds_within (body word) s rs)
+        → Taking (inside records (suc room)) place level (deeper depth) (body word) s (put_in rs (atom o a))
+    waits-in word [] room depth s few h more =
+        is-taken records room (lambda_at (next_frame (counted (counted s))) place level) (deeper depth) (atom o a) (next (body word) s) (few-deeper depth most_round (omega (arith, few)) few) (record { kept = begun.kept; planned = refl })
+    waits-in word (q ∷ rs) room depth s few h more = taken-in word q rs (atom o a) room depth s few refl h more
+
+    truth-is : (n room depth : ℕ) (u : State) → suc depth ≤ most_round → (inside records (n + suc room)).form place level (deeper depth) truth u ≡ Ok (quoted (strip truth), u)
+    truth-is n room depth u few =
+        at-depth (n + suc room) depth truth u (omega (arith, few)) ∙ at-room (n + suc room) (suc (n + room)) (suc depth) truth u (omega arith) ∙ atom-is (n + room) (suc depth) None (atoms.Bool true) u few refl
+
+    made-in : (n : ℕ) → Takes n → (r : Round) (rs : List Round) (room depth : ℕ) (s : State) → length rs ≡ n → IsRound level s r rs → AreRound level (next r s) (rounds_within r s rs) → depth + suc n ≤ most_round
+        → perform (inside records (n + suc room)) place level depth (put r (put_in rs (atom o a))) (plan place r (put_in rs (atom o a))) (planned r s) ≡ Ok (code_in place (r ∷ rs) s constant, all_left (r ∷ rs) s)
+    made-in n all (sequence word) rs room depth s e is more h =
+        made place level (put_in rs (atom o a)) s (inside records (n + suc room)) depth (put (sequence word) (put_in rs (atom o a))) (sequence word) (code_in place rs (next (sequence word) s) constant) (all_left rs (next (sequence word) s))
+        (at-depth (n + suc room) depth (within (sequence word) s (put_in rs (atom o a))) (next (sequence word) s) (omega (arith, h)) ∙ taken-within n all (sequence word) rs room (suc depth) s e more (omega (arith, h)))
+        (truth-is n room depth (all_left rs (next (sequence word) s)) (omega (arith, h))) tt
+    made-in n all operator rs room depth s e is more h =
+        made place level (put_in rs (atom o a)) s (inside records (n + suc room)) depth (put operator (put_in rs (atom o a))) operator (code_in place rs (next operator s) constant) (all_left rs (next operator s))
+        (at-depth (n + suc room) depth (within operator s (put_in rs (atom o a))) (next operator s) (omega (arith, h)) ∙ taken-within n all operator rs room (suc depth) s e more (omega (arith, h)))
+        (truth-is n room depth (all_left rs (next operator s)) (omega (arith, h))) tt
+    made-in n all (test word) rs room depth s e is more h =
+        made place level (put_in rs (atom o a)) s (inside records (n + suc room)) depth (put (test word) (put_in rs (atom o a))) (test word) (code_in place rs (next (test word) s) constant) (all_left rs (next (test word) s))
+        (at-depth (n + suc room) depth (within (test word) s (put_in rs (atom o a))) (next (test word) s) (omega (arith, h)) ∙ taken-within n all (test word) rs room (suc depth) s e more (omega (arith, h)))
+        (truth-is n room depth (all_left rs (next (test word) s)) (omega (arith, h))) tt
+    made-in n all (subject word) rs room depth s e is more h =
+        made place level (put_in rs (atom o a)) s (inside records (n + suc room)) depth (put (subject word) (put_in rs (atom o a))) (subject word) (code_in place rs (next (subject word) s) constant) (all_left rs (next (subject word) s))
+        (at-depth (n + suc room) depth (within (subject word) s (put_in rs (atom o a))) (next (subject word) s) (omega (arith, h)) ∙ taken-within n all (subject word) rs room (suc depth) s e more (omega (arith, h)))
+        (truth-is n room depth (all_left rs (next (subject word) s)) (omega (arith, h))) tt
+    made-in n all (value word id v) rs room depth s e is more h =
+        made place level (put_in rs (atom o a)) s (inside records (n + suc room)) depth (put (value word id v) (put_in rs (atom o a))) (value word id v) (code_in place rs (next (value word id v) s) constant) (all_left rs (next (value word id v) s))
+        (at-depth (n + suc room) depth (within (value word id v) s (put_in rs (atom o a))) (next (value word id v) s) (omega (arith, h)) ∙ taken-within n all (value word id v) rs room (suc depth) s e more (omega (arith, h)))
+        (truth-is n room depth (all_left rs (next (value word id v) s)) (omega (arith, h))) tt
+    made-in n all (keywords recursive word) rs room depth s e is more h =
+        made place level (put_in rs (atom o a)) s (inside records (n + suc room)) depth (put (keywords recursive word) (put_in rs (atom o a))) (keywords recursive word) (code_in place rs (next (keywords recursive word) s) constant) (all_left rs (next (keywords recursive word) s))
+        (at-depth (n + suc room) depth (within (keywords recursive word) s (put_in rs (atom o a))) (next (keywords recursive word) s) (omega (arith, h)) ∙ taken-within n all (keywords recursive word) rs room (suc depth) s e more (omega (arith, h)))
+        (truth-is n room depth (all_left rs (next (keywords recursive word) s)) (omega (arith, h))) tt
+    made-in n all (body word) rs room depth s e is more h =
+        made place level (put_in rs (atom o a)) s (inside records (n + suc room)) depth (put (body word) (put_in rs (atom o a))) (body word) (code_in place rs (next (body word) s) constant) (all_left rs (next (body word) s))
+        (at-depth (n + suc room) depth (within (body word) s (put_in rs (atom o a))) (next (body word) s) (omega (arith, h)) ∙ taken-within n all (body word) rs room (suc depth) s e more (omega (arith, h)))
+        (truth-is n room depth (all_left rs (next (body word) s)) (omega (arith, h))) (at-taking (suc (n + room)) (n + suc room) (deeper depth) word (put_in rs (atom o a)) s (omega arith) (waits-in word rs (n + room) depth s (omega (arith, h)) is.1 more))
+
+    takes : (n : ℕ) → Takes n
+    takes zero [] room depth s e is h = at-room (zero + suc room) (suc room) depth (atom o a) s (omega arith) ∙ atom-is room depth o a s (omega (arith, h)) some
+    takes zero (r ∷ rs) room depth s e is h = let n : ⊥ = omega (arith, e) in elim n [ ]
+    takes (suc n) [] room depth s e is h = let n : ⊥ = omega (arith, e) in elim n [ ]
+    takes (suc n) (r ∷ rs) room depth s e (round is more) h =
+        at-room (suc n + suc room) (suc (n + suc room)) depth (put_in (r ∷ rs) (atom o a)) s (omega arith)
+        ∙ in-round place level (put_in rs (atom o a)) s (not-leaf rs (atom o a) refl) records (n + suc room) depth r rs is (omega (arith, h))
+        ∙ made-in n (takes n) r rs room depth s (omega (arith, e)) is more h
 
 pub forms-count-once : FormsCountOnce
 forms-count-once = record {
   taken = λ records place level rs o a s is few some.
-      forms-need-no-more records full_room (length rs + suc (most_round + 1)) place level 0 (put_in rs (atom o a)) s (omega arith) (omega arith) ∙ all-taken records place level s o a some rs (most_round + 1) 0 is (omega (arith, few));
+      forms-need-no-more records full_room (length rs + suc (most_round + 1)) place level 0 (put_in rs (atom o a)) s (omega arith) (omega arith) ∙ takes records place level o a some (length rs) rs (most_round + 1) 0 s refl is (omega (arith, few));
   refused = λ records place level rs t s is all inner.
-      forms-need-no-more records full_room (length rs + full_room) place level 0 (put_in rs t) s (omega arith) (omega arith) ∙ all-refused records place level s t inner rs full_room 0 is (omega (arith, all));
+      forms-need-no-more records full_room (length rs + full_room) place level 0 (put_in rs t) s (omega arith) (omega arith) ∙ refuses records place level (length rs) t rs full_room 0 s inner refl is (omega (arith, all));
 }

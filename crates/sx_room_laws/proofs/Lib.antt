@@ -4,4 +4,5 @@ mod Items
 mod Agreeing
 mod Rooms
 mod Limits
+mod Procedures
 mod Counting

@@ -33,13 +33,13 @@ use Rattle.sx_room_laws.proofs.Rooms.{form-is, too-deep-form, forms-need-no-more
 pub over : (depth : ℕ) → most_round < depth → nat_lt most_round depth ≡ true
 over depth h = grind (arith, nat_tests)
 
-within-limit : (depth : ℕ) → depth ≤ most_round → nat_lt most_round depth ≡ false
+pub within-limit : (depth : ℕ) → depth ≤ most_round → nat_lt most_round depth ≡ false
 within-limit depth h = grind (arith, nat_tests)
 
 -- A form that is no use is done at once.
 
-module _ (go : Inside) (place : Span) (level depth : ℕ) (t : Tree) (s : State) (p : Plan) (few : depth ≤ most_round) where
-  settled-by : (left : ℕ) → plan_of place level t s ≡ Ok (p, s) → ((rs : List LibRecord) → step_of rs place t p s ≡ Ok (steps.Plan p, s)) → settle_to go.earlier left place level t s ≡ Ok (record { place = place; form = t; plan = p }, s)
+module _ (go : Inside) (place : Span) (level depth : ℕ) (t : Tree) (s v : State) (p : Plan) (few : depth ≤ most_round) where
+  settled-by : (left : ℕ) → plan_of place level t s ≡ Ok (p, v) → ((rs : List LibRecord) → step_of rs place t p v ≡ Ok (steps.Plan p, v)) → settle_to go.earlier left place level t s ≡ Ok (record { place = place; form = t; plan = p }, v)
   unfolding settle_to step
   settled-by zero e k =
       ap (λ r. after (after r (step_of go.earlier place t)) (settled_by (λ k. too_many t place) place t)) e ∙ ap (λ r. after r (settled_by (λ k. too_many t place) place t)) (k go.earlier)
@@ -47,7 +47,7 @@ module _ (go : Inside) (place : Span) (level depth : ℕ) (t : Tree) (s : State)
       ap (λ r. after (after r (step_of go.earlier place t)) (settled_by (λ m s'. after (next_form go.earlier left place t m None s') (settle_to go.earlier left (place_of t place) level)) place t)) e
       ∙ ap (λ r. after r (settled_by (λ m s'. after (next_form go.earlier left place t m None s') (settle_to go.earlier left (place_of t place) level)) place t)) (k go.earlier)
 
-  pub done-at : plan_of place level t s ≡ Ok (p, s) → ((rs : List LibRecord) → step_of rs place t p s ≡ Ok (steps.Plan p, s)) → form_at go place level depth t s ≡ perform go place level depth t p s
+  pub done-at : plan_of place level t s ≡ Ok (p, v) → ((rs : List LibRecord) → step_of rs place t p v ≡ Ok (steps.Plan p, v)) → form_at go place level depth t s ≡ perform go place level depth t p v
   unfolding form_at
   done-at e k =
       ap (λ b. if b then fault_form kind.TooDeep t place s else after (settle go.earlier place level t s) (perform_settled go level depth)) (within-limit depth few)
@@ -79,7 +79,7 @@ module _ (rs : List LibRecord) (place : Span) (level : ℕ) (word t : Tree) (s :
   begin-in : (room depth : ℕ) (o : Option Span) (form : Tree) → depth ≤ most_round → (inside rs (suc room)).form place level depth (pair o word (pair None form nil)) s ≡ (inside rs room).form place level (suc depth) form s
   begin-in room depth o form few =
       form-is rs room place level depth (pair o word (pair None form nil)) s
-      ∙ done-at (inside rs room) place level depth (pair o word (pair None form nil)) s (plans.Sequence (form ∷ [])) few (begin-plan place level o word form s is) (λ rs. refl)
+      ∙ done-at (inside rs room) place level depth (pair o word (pair None form nil)) s s (plans.Sequence (form ∷ [])) few (begin-plan place level o word form s is) (λ rs. refl)
       ∙ begin-performed (inside rs room) place level depth (pair o word (pair None form nil)) form s
       ∙ ap (λ n. (inside rs room).form place level n form s) (one-deeper depth few)
 
@@ -104,7 +104,7 @@ begins-are rs place level ss word t s is few =
 pub constant-is : (go : Inside) (place : Span) (level depth : ℕ) (o : Option Span) (a : Atom) (s : State) → depth ≤ most_round → is_nil_atom a ≡ false → form_at go place level depth (atom o a) s ≡ Ok (quoted (strip (atom o a)), s)
 unfolding perform
 constant-is go place level depth o a s few some =
-    done-at go place level depth (atom o a) s (plans.Done (quoted (strip (atom o a)))) few (ap (λ b. constant place (atom o a) b s) some) (λ rs. refl)
+    done-at go place level depth (atom o a) s s (plans.Done (quoted (strip (atom o a)))) few (ap (λ b. constant place (atom o a) b s) some) (λ rs. refl)
 
 pub limit-of-nesting : LimitOfNesting
 limit-of-nesting = record {

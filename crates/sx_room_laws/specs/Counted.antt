@@ -1,40 +1,139 @@
--- Sequences, applications and forms of `if` count alike: each makes what lies in it one deeper, and no more.
-use Rattle.std.specs.Prelude.{◌≡◌, ℕ, ◌≤◌, ◌+◌, true, false, List, [], ◌∷◌, length, Option, None, Ok}
+-- Sequences, applications, assignments, procedures and forms of `if`, `syntax-case`, `let-syntax` and `letrec-syntax` count alike: each makes what lies in it
+-- one deeper, and no more.
+use Rattle.std.specs.Prelude.{◌≡◌, ℕ, ◌≤◌, ◌+◌, Bool, true, false, List, [], ◌∷◌, map, length, Option, None, Ok}
 use Rattle.sx_base.specs.declared.atom.Atom.{Atom}
 use Rattle.sx_base.specs.declared.atom.Atom.TheVariants as atoms
 use Rattle.sx_base.specs.declared.fault.FaultKind.TheVariants as kind
+use Rattle.sx_base.specs.declared.name.FrameNo.{FrameNo}
 use Rattle.sx_base.specs.declared.span.Span.{Span}
+use Rattle.sx_tree.specs.Changes.{stamp}
 use Rattle.sx_tree.specs.Tree.{Tree, atom, pair, nil}
 use Rattle.sx_tree.specs.Leaves.{strip}
-use Rattle.sx_core.specs.Core.{PlainCore, quoted, one_armed, call, none}
+use Rattle.sx_core.specs.Core.{PlainCore, quoted, one_armed, assignment, procedure, call, matching, none, no_case, case, no_clause}
+use Rattle.sx_core.specs.Labels.{has_label, with_label}
 use Rattle.sx_core.specs.declared.core_form.CoreForm.{CoreForm}
 use Rattle.sx_core.specs.declared.core_form.CoreForm.TheVariants as core_forms
 use Rattle.sx_core.specs.declared.record.LibRecord.{LibRecord}
 use Rattle.sx_shapes.specs.Lists.{is_leaf, is_nil_atom}
+use Rattle.sx_standing.specs.InScope.{cut, is_in_scope}
 use Rattle.sx_standing.specs.Standing.{standing_of}
 use Rattle.sx_standing.specs.State.{State, fault_form}
 use Rattle.sx_standing.specs.declared.standing.Standing.TheVariants as standing
+use Rattle.sx_standing.specs.declared.standing.Variable.{Variable}
 use Rattle.sx_heads.specs.Depth.{most_round}
 use Rattle.sx_expand.specs.Expanding.{expression}
 
--- What stands right round a form: `(begin form)`, `(form)` or `(if form #t)`. A keyword is an identifier that stands for it.
+-- What stands right round a form: `(begin form)`, `(form)`, `(if form #t)`, `(syntax-case form ())`, `(set! id form)`, `(let-syntax () form)`, which is
+-- `(letrec-syntax () form)` where it is recursive, or `(lambda () form)`. A keyword is an identifier that stands for it, and the target of an assignment one that stands for the variable.
 pub data Round : Type 0 where
   sequence : Tree → Round
   operator : Round
   test : Tree → Round
+  subject : Tree → Round
+  value : Tree → Tree → Variable → Round
+  keywords : Bool → Tree → Round
+  body : Tree → Round
 
 pub record IsWord (s : State) (f : CoreForm) (word : Tree) : Type 0 where
   pub leaf : is_leaf word ≡ true
   pub stands : standing_of s word ≡ standing.Core f
 
-abbrev pub IsRound : State → Round → Type 0
-IsRound s (sequence word) = IsWord s core_forms.Begin word
-IsRound s operator = Unit {0}
-IsRound s (test word) = IsWord s core_forms.If word
+-- a variable of the library at its own level, in scope and not exported
+pub record IsTarget (at : ℕ) (s : State) (id : Tree) (v : Variable) : Type 0 where
+  pub leaf : is_leaf id ≡ true
+  pub stands : standing_of s id ≡ standing.Variable v
+  pub own : v.own ≡ true
+  pub level : v.level ≡ at
+  pub in_scope : is_in_scope s v ≡ true
+  pub inside : has_label s.exports v.label ≡ false
 
-abbrev pub AreRound : State → List Round → Type 0
-AreRound s [] = Unit {0}
-AreRound s (r ∷ rs) = IsRound s r × AreRound s rs
+-- Right in a procedure stands no sequence, and no form of `let-syntax` or `letrec-syntax`: the forms of these are forms of the body there.
+abbrev pub IsAlone : List Round → Type 0
+IsAlone [] = Unit {0}
+IsAlone (sequence word ∷ rs) = ⊥
+IsAlone (operator ∷ rs) = Unit {0}
+IsAlone (test word ∷ rs) = Unit {0}
+IsAlone (subject word ∷ rs) = Unit {0}
+IsAlone (value word id v ∷ rs) = Unit {0}
+IsAlone (keywords recursive word ∷ rs) = ⊥
+IsAlone (body word ∷ rs) = Unit {0}
+
+-- what stands right round these
+abbrev pub IsRound : ℕ → State → Round → List Round → Type 0
+IsRound level s (sequence word) rs = IsWord s core_forms.Begin word
+IsRound level s operator rs = Unit {0}
+IsRound level s (test word) rs = IsWord s core_forms.If word
+IsRound level s (subject word) rs = IsWord s core_forms.SyntaxCase word
+IsRound level s (value word id v) rs = IsWord s core_forms.Set word × IsTarget level s id v
+IsRound level s (keywords false word) rs = IsWord s core_forms.LetSyntax word
+IsRound level s (keywords true word) rs = IsWord s core_forms.LetrecSyntax word
+IsRound level s (body word) rs = IsWord s core_forms.Lambda word × IsAlone rs
+
+-- Where a frame is stamped on what stands in a form, it is stamped on the words.
+abbrev pub stamp_round : FrameNo → Round → Round
+stamp_round f (sequence word) = sequence (stamp f word)
+stamp_round f operator = operator
+stamp_round f (test word) = test (stamp f word)
+stamp_round f (subject word) = subject (stamp f word)
+stamp_round f (value word id v) = value (stamp f word) (stamp f id) v
+stamp_round f (keywords recursive word) = keywords recursive (stamp f word)
+stamp_round f (body word) = body (stamp f word)
+
+-- with the next name taken
+abbrev pub counted : State → State
+counted s = record s { names = record { library = s.names.library; number = s.names.number + 1 } }
+
+abbrev pub next_frame : State → FrameNo
+next_frame s = record { 0 = s.names }
+
+-- Forms among keywords have a frame of their own, which takes the next name. The code of a procedure takes a name, its formals have a frame, and so has its body.
+abbrev pub within : Round → State → Tree → Tree
+within (sequence word) s form = form
+within operator s form = form
+within (test word) s form = form
+within (subject word) s form = form
+within (value word id v) s form = form
+within (keywords recursive word) s form = stamp (next_frame s) form
+within (body word) s form = stamp (next_frame (counted (counted s))) (stamp (next_frame (counted s)) form)
+
+abbrev pub rounds_within : Round → State → List Round → List Round
+rounds_within (sequence word) s rs = rs
+rounds_within operator s rs = rs
+rounds_within (test word) s rs = rs
+rounds_within (subject word) s rs = rs
+rounds_within (value word id v) s rs = rs
+rounds_within (keywords recursive word) s rs = map (stamp_round (next_frame s)) rs
+rounds_within (body word) s rs = map (stamp_round (next_frame (counted (counted s)))) (map (stamp_round (next_frame (counted s))) rs)
+
+-- An assignment marks its target before its value is expanded.
+abbrev pub next : Round → State → State
+next (sequence word) s = s
+next operator s = s
+next (test word) s = s
+next (subject word) s = s
+next (value word id v) s = record s { assigned = with_label s.assigned v.label }
+next (keywords recursive word) s = counted s
+next (body word) s = counted (counted (counted s))
+
+-- What came into scope in a procedure or its body is out of scope after it.
+abbrev pub left : Round → State → State → State
+left (sequence word) s u = u
+left operator s u = u
+left (test word) s u = u
+left (subject word) s u = u
+left (value word id v) s u = u
+left (keywords recursive word) s u = u
+left (body word) s u = cut (length s.scope) (cut (length s.scope) u)
+
+-- the state that is left of all of them
+abbrev pub all_left : List Round → State → State
+all_left [] s = s
+all_left (r ∷ rs) s = left r s (all_left rs (next r s))
+
+-- these stand round a form, each in the state in which it is expanded
+pub data AreRound (level : ℕ) : State → List Round → Type 0 where
+  innermost : {s : State} → AreRound level s []
+  round : {s : State} {r : Round} {rs : List Round} → IsRound level s r rs → AreRound level (next r s) (rounds_within r s rs) → AreRound level s (r ∷ rs)
 
 abbrev pub truth : Tree
 truth = atom None (atoms.Bool true)
@@ -43,26 +142,34 @@ abbrev pub put : Round → Tree → Tree
 put (sequence word) form = pair None word (pair None form nil)
 put operator form = pair None form nil
 put (test word) form = pair None word (pair None form (pair None truth nil))
+put (subject word) form = pair None word (pair None form (pair None nil nil))
+put (value word id v) form = pair None word (pair None id (pair None form nil))
+put (keywords recursive word) form = pair None word (pair None nil (pair None form nil))
+put (body word) form = pair None word (pair None nil (pair None form nil))
 
 -- a form in these, the outermost first
 abbrev pub put_in : List Round → Tree → Tree
 put_in [] t = t
 put_in (r ∷ rs) t = put r (put_in rs t)
 
--- and its core code
-abbrev pub code : Round → PlainCore → PlainCore
-code (sequence word) c = c
-code operator c = call c none
-code (test word) c = one_armed c (quoted (strip truth))
+-- and its core code, at a place and in a state
+abbrev pub code : Span → Round → State → PlainCore → PlainCore
+code place (sequence word) s c = c
+code place operator s c = call c none
+code place (test word) s c = one_armed c (quoted (strip truth))
+code place (subject word) s c = matching c no_clause place
+code place (value word id v) s c = assignment v.label c
+code place (keywords recursive word) s c = c
+code place (body word) s c = procedure (record { 0 = s.names }) (case (record { required = []; rest = None }) c no_case) true
 
-abbrev pub code_in : List Round → PlainCore → PlainCore
-code_in [] c = c
-code_in (r ∷ rs) c = code r (code_in rs c)
+abbrev pub code_in : Span → List Round → State → PlainCore → PlainCore
+code_in place [] s c = c
+code_in place (r ∷ rs) s c = code place r s (code_in place rs (next r s) c)
 
 pub record FormsCountOnce : Type 0 where
   -- A constant in 600 of them is taken,
-  pub taken : (records : List LibRecord) (place : Span) (level : ℕ) (rs : List Round) (o : Option Span) (a : Atom) (s : State) → AreRound s rs → length rs ≤ most_round → is_nil_atom a ≡ false
-      → expression records place level (put_in rs (atom o a)) s ≡ Ok (code_in rs (quoted (strip (atom o a))), s)
+  pub taken : (records : List LibRecord) (place : Span) (level : ℕ) (rs : List Round) (o : Option Span) (a : Atom) (s : State) → AreRound level s rs → length rs ≤ most_round → is_nil_atom a ≡ false
+      → expression records place level (put_in rs (atom o a)) s ≡ Ok (code_in place rs s (quoted (strip (atom o a))), all_left rs s)
   -- and any form in 601 of them is TooDeep, unless it is an identifier, which might be a keyword where it is an operator.
-  pub refused : (records : List LibRecord) (place : Span) (level : ℕ) (rs : List Round) (t : Tree) (s : State) → AreRound s rs → length rs ≡ most_round + 1 → is_leaf t ≡ false
+  pub refused : (records : List LibRecord) (place : Span) (level : ℕ) (rs : List Round) (t : Tree) (s : State) → AreRound level s rs → length rs ≡ most_round + 1 → is_leaf t ≡ false
       → expression records place level (put_in rs t) s ≡ fault_form kind.TooDeep t place s

@@ -9,7 +9,7 @@
 //! (begin (begin (begin ... 1)))    600 of them expand to 1; with 601 the innermost form, 1, is TooDeep
 //! ```
 //!
-//! One law is that this is the limit, and one, that sequences, applications and forms of `if` count alike. The
+//! One law is that this is the limit, and one, that sequences, applications, procedures and other core forms count alike. The
 //! third: a form with so many round it that these and the room make 602 has one answer, whatever the room is: core
 //! code and state, or a fault and its place. So no answer of expansion comes from the end of the room, and 602, the
 //! room that expansion begins with, is enough for each expression, body, library and program.

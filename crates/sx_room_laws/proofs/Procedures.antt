@@ -1,0 +1,132 @@
+-- The body of a procedure of one form, which waits for the second pass.
+use Rattle.std.proofs.Common.{◌≡◌, ◌≤◌, ℕ, zero, suc, ◌+◌, true, false, List, [], ◌∷◌, length, None, Some, Result, Ok, Err, refl, ◌∙◌, ap, if◌then◌else◌}
+use Rattle.sx_base.specs.Act.{after, give, each, gather}
+use Rattle.sx_base.specs.declared.fault.Fault.{Fault}
+use Rattle.sx_base.specs.declared.fault.FaultKind.TheVariants as kind
+use Rattle.sx_base.specs.declared.name.FrameNo.{FrameNo}
+use Rattle.sx_base.specs.declared.span.Span.{Span}
+use Rattle.sx_tree.specs.Changes.{stamp}
+use Rattle.sx_tree.specs.Tree.{Tree, pair}
+use Rattle.sx_core.specs.Core.{PlainCore, procedure}
+use Rattle.sx_core.specs.CoreView.{cases}
+use Rattle.sx_core.specs.declared.core_form.CoreForm.{CoreForm}
+use Rattle.sx_core.specs.declared.code.Lambda.{Lambda}
+use Rattle.sx_core.specs.declared.formals.Formals.{Formals}
+use Rattle.sx_core.specs.declared.record.LibRecord.{LibRecord}
+use Rattle.sx_core.specs.declared.record.Line.TheVariants as line
+use Rattle.sx_shapes.specs.declared.shape.FormalIds.{FormalIds}
+use Rattle.sx_standing.specs.Binders.{bind_formals}
+use Rattle.sx_standing.specs.InScope.{leaving, cut}
+use Rattle.sx_standing.specs.Standing.{standing_of}
+use Rattle.sx_standing.specs.State.{State, fresh, fresh_frame, fault_form}
+use Rattle.sx_heads.specs.Items.{alone, begun, core_item, headed_item, item_plan, keep, kept_head, list_item, wait, waiting_at}
+use Rattle.sx_heads.specs.Kept.{Heads, with_head}
+use Rattle.sx_heads.specs.declared.item.Item.{Item}
+use Rattle.sx_heads.specs.declared.item.Item.TheVariants as items
+use Rattle.sx_heads.specs.declared.taken.BodyAt.{BodyAt}
+use Rattle.sx_heads.specs.declared.taken.Taken.{Taken}
+use Rattle.sx_heads.specs.declared.taken.Waits.TheVariants as waits
+use Rattle.sx_expand.specs.Body.{body, body_core, finish, finish_as, finish_one, item, lambda_at, perform_item, perform_settled}
+use Rattle.sx_heads.specs.Depth.{most_round}
+use Rattle.sx_expand.specs.Expression.{lambda, lambda_case, inside}
+use Rattle.sx_expand.specs.Inside.{Inside}
+use Rattle.sx_expand.specs.Settle.{at_use, item_by, item_step, item_step_of, next_form, settle_item, settle_item_to, too_many}
+use Rattle.sx_room_laws.specs.Counted.{IsWord, counted}
+use Rattle.sx_room_laws.proofs.Limits.{within-limit}
+
+-- what was taken where one expression waits, behind these heads
+abbrev pub one_waits : BodyAt → ℕ → Tree → Heads → Taken
+one_waits at depth t kept = record { waiting = waiting_at at depth (waits.Expression t) ∷ []; kept = kept; has_expression = true; moved = false }
+
+-- the first pass takes a form as an expression, and leaves the state
+pub record IsTaken (go : Inside) (at : BodyAt) (depth : ℕ) (t : Tree) (s : State) : Type 0 where
+  pub kept : Heads
+  pub taken : go.item at depth begun t s ≡ Ok (one_waits at depth t kept, s)
+
+pub record IsPlanned (at : BodyAt) (depth : ℕ) (t : Tree) (s : State) : Type 0 where
+  pub kept : Heads
+  pub planned : item_plan at depth begun t s ≡ Ok ((one_waits at depth t kept, items.Nothing), s)
+
+item-is : (rs : List LibRecord) (room : ℕ) (at : BodyAt) (depth : ℕ) (done : Taken) (t : Tree) (s : State) → (inside rs (suc room)).item at depth done t s ≡ item (inside rs room) at depth done t s
+unfolding inside
+item-is rs room at depth done t s = refl
+
+module _ (go : Inside) (at : BodyAt) (depth : ℕ) (t : Tree) (s : State) (done : Taken) where
+  settled : (left : ℕ) → item_plan at depth begun t s ≡ Ok ((done, items.Nothing), s) → settle_item_to go.earlier left at depth begun t s ≡ Ok ((done, record { at = at; form = t; item = items.Nothing }), s)
+  unfolding settle_item_to item_step
+  settled zero e = ap (λ r. after (after r (λ (p : Taken × Item). item_step_of go.earlier at depth t p.0 p.1)) (item_by (λ done k. too_many t at.place) at t)) e
+  settled (suc left) e =
+      ap (λ r. after (after r (λ (p : Taken × Item). item_step_of go.earlier at depth t p.0 p.1))
+      (item_by (λ taken k s'. after (next_form go.earlier left at.place t k (Some at.frame) s') (settle_item_to go.earlier left (at_use at t) depth taken)) at t)) e
+
+  item-taken : depth ≤ most_round → item_plan at depth begun t s ≡ Ok ((done, items.Nothing), s) → item go at depth begun t s ≡ Ok (done, s)
+  unfolding item perform_item
+  item-taken few e =
+      ap (λ b. if b then fault_form kind.TooDeep t at.place s else after (settle_item go.earlier at depth begun t s) (perform_settled go depth)) (within-limit depth few)
+      ∙ ap (λ r. after r (perform_settled go depth)) (settled s.uses_left e)
+
+pub is-taken : (rs : List LibRecord) (room : ℕ) (at : BodyAt) (depth : ℕ) (t : Tree) (s : State) → depth ≤ most_round → IsPlanned at depth t s → IsTaken (inside rs (suc room)) at depth t s
+is-taken rs room at depth t s few p = record {
+  kept = p.kept;
+  taken = item-is rs room at depth begun t s ∙ item-taken (inside rs room) at depth t s (one_waits at depth t p.kept) few p.planned;
+}
+
+-- a form whose head is a keyword, by what the keyword does
+pub headed : (at : BodyAt) (depth : ℕ) (f : CoreForm) (word rest : Tree) (s : State) → IsWord s f word
+    → item_plan at depth begun (pair None word rest) s ≡ core_item at depth (record begun { kept = with_head begun.kept (kept_head s word) }) (pair None word rest) f s
+unfolding list_item keep
+headed at depth f word rest s is =
+    ap (λ b. if b then after (keep begun word s) (λ kept s'. headed_item at depth kept (pair None word rest) (standing_of s' word) s') else alone (wait at depth begun (pair None word rest)) s) is.leaf
+    ∙ ap (λ x. headed_item at depth (record begun { kept = with_head begun.kept (kept_head s word) }) (pair None word rest) x s) is.stands
+
+-- The body, from what comes of its form.
+module _ (go : Inside) (place : Span) (level depth : ℕ) (t form : Tree) (s : State) where
+  abbrev pub f : FrameNo
+  f = record { 0 = s.names }
+
+  abbrev pub u : State
+  u = record s { names = record { library = s.names.library; number = s.names.number + 1 } }
+
+  pub body-too-deep : (e : Fault) → go.item (lambda_at f place level) depth begun (stamp f form) u ≡ Err e → body go place level depth t (form ∷ []) s ≡ Err e
+  unfolding body fresh_frame gather
+  body-too-deep e h =
+      ap (λ r. after (after (after r (λ d. gather (go.item (lambda_at f place level) depth) d [])) (finish go place level t)) (leaving (length s.scope))) h
+
+  started : (done : Taken) → go.item (lambda_at f place level) depth begun (stamp f form) u ≡ Ok (done, u) → body go place level depth t (form ∷ []) s ≡ after (finish go place level t done u) (leaving (length s.scope))
+  unfolding body fresh_frame gather
+  started done h =
+      ap (λ r. after (after (after r (λ d. gather (go.item (lambda_at f place level) depth) d [])) (finish go place level t)) (leaving (length s.scope))) h
+
+  ended : (kept : Heads) (r : Result (PlainCore × State) Fault) → go.form place level depth (stamp f form) u ≡ r
+      → finish go place level t (one_waits (lambda_at f place level) depth (stamp f form) kept) u ≡ after (after (after r (λ c. give (line.Expr c))) (λ x. each (finish_one go level) (x ∷ []) [])) (λ ls. give (body_core ls))
+  unfolding finish finish_as each
+  ended kept r h = ap (λ x. after (after (after x (λ c. give (line.Expr c))) (λ y. each (finish_one go level) (y ∷ []) [])) (λ ls. give (body_core ls))) h
+
+  pub body-faulted : (e : Fault) → IsTaken go (lambda_at f place level) depth (stamp f form) u → go.form place level depth (stamp f form) u ≡ Err e → body go place level depth t (form ∷ []) s ≡ Err e
+  body-faulted e is h = started (one_waits (lambda_at f place level) depth (stamp f form) is.kept) is.taken ∙ ap (λ r. after r (leaving (length s.scope))) (ended is.kept (Err e) h)
+
+  pub body-made : (c : PlainCore) (v : State) → IsTaken go (lambda_at f place level) depth (stamp f form) u → go.form place level depth (stamp f form) u ≡ Ok (c, v) → body go place level depth t (form ∷ []) s ≡ Ok (c, cut (length s.scope) v)
+  unfolding each
+  body-made c v is h = started (one_waits (lambda_at f place level) depth (stamp f form) is.kept) is.taken ∙ ap (λ r. after r (leaving (length s.scope))) (ended is.kept (Ok (c, v)) h)
+
+abbrev pub no_ids : FormalIds
+no_ids = record { required = []; rest = None }
+
+abbrev pub no_formals : Formals
+no_formals = record { required = []; rest = None }
+
+-- A procedure without formals, from what comes of its body.
+module _ (go : Inside) (place : Span) (level depth : ℕ) (t form : Tree) (s : State) where
+  lambda-is : (r : Result (PlainCore × State) Fault) → body go place level depth t (stamp (record { 0 = (counted s).names }) form ∷ []) (counted (counted s)) ≡ r
+      → lambda go place level depth t no_ids (form ∷ []) s
+      ≡ after (after (after r (λ c. give (record { formals = no_formals; body = c }))) (leaving (length s.scope))) (λ (c : Lambda). give (procedure (record { 0 = s.names }) (cases (c ∷ [])) true))
+  unfolding lambda lambda_case fresh fresh_frame bind_formals each
+  lambda-is r h =
+      ap (λ x. after (after (after x (λ c. give (record { formals = no_formals; body = c }))) (leaving (length s.scope))) (λ (c : Lambda). give (procedure (record { 0 = s.names }) (cases (c ∷ [])) true))) h
+
+  pub lambda-faulted : (e : Fault) → body go place level depth t (stamp (record { 0 = (counted s).names }) form ∷ []) (counted (counted s)) ≡ Err e → lambda go place level depth t no_ids (form ∷ []) s ≡ Err e
+  lambda-faulted e h = lambda-is (Err e) h
+
+  pub lambda-made : (c : PlainCore) (v : State) → body go place level depth t (stamp (record { 0 = (counted s).names }) form ∷ []) (counted (counted s)) ≡ Ok (c, v)
+      → lambda go place level depth t no_ids (form ∷ []) s ≡ Ok (procedure (record { 0 = s.names }) (cases (record { formals = no_formals; body = c } ∷ [])) true, cut (length s.scope) v)
+  lambda-made c v h = lambda-is (Ok (c, v)) h
