@@ -24,7 +24,6 @@ use Rattle.sx_expand.specs.Inside.{Inside}
 use Rattle.sx_expand.specs.Top.{exports, give_record, body_at, finished, first_pass, top}
 use Rattle.sx_expand.specs.declared.top.TopAt.{TopAt}
 use Rattle.sx_expand_laws.proofs.GoodKeywords.{exports-same, started-begins}
-use Rattle.sx_expand_laws.proofs.Spent.{Begins}
 use Rattle.sx_expand_laws.proofs.Top.{SameScope, AreShown, same-exports}
 use Rattle.sx_heads.specs.Items.{begun}
 use Rattle.sx_heads.specs.declared.taken.Taken.{Taken}
@@ -44,6 +43,7 @@ use Rattle.sx_standing.specs.Start.{started}
 use Rattle.sx_standing.specs.State.{State, stage_of}
 use Rattle.sx_standing.specs.Uses.{macro_expression}
 use Rattle.sx_steady_laws.specs.Libraries.{AreTexts}
+use Rattle.sx_steady_laws.specs.States.{IsWholeState}
 use Rattle.sx_steady_laws.proofs.All.{inside-holds}
 use Rattle.sx_steady_laws.proofs.Bodies.{Takes, splice-goes, lines-run}
 use Rattle.sx_steady_laws.proofs.Keywords.{Holds}
@@ -59,7 +59,7 @@ use Rattle.sx_value.specs.Cells.{FitsIn, is_found, transformer_in}
 use Rattle.sx_value.specs.declared.cell.Cell.{Cell}
 use Rattle.sx_value.specs.declared.value.Value.{Value}
 use Rattle.sx_value.specs.declared.value.Value.TheVariants as value
-use Rattle.sx_run_laws.specs.Transformers.{HasProcedure, IsWholeState, WholeStatesHaveProcedures, UsesFindProcedures, MissingIsStuck, StaysWhole, FormsStayWhole, BodiesStayWhole}
+use Rattle.sx_run_laws.specs.Transformers.{HasProcedure, WholeStatesHaveProcedures, UsesFindProcedures, MissingIsStuck, StaysWhole, FormsStayWhole, BodiesStayWhole}
 use Rattle.sx_run_laws.specs.Transformers.{numbers_in, StartsAreWhole, StartsWhole, PartsStartWhole, ProgramsStartWhole, DerivedStartsWhole}
 use Rattle.sx_run_laws.proofs.BehindLemmas.{IsNew}
 use Rattle.sx_run_laws.proofs.NamedFiles.{AllUsers, users-all}
@@ -93,47 +93,21 @@ has-procedure cells (value.Syn x) h = (value.Syn x, refl)
 -- ---- whole states, and states that are safe
 
 module _ (own : LibName) (texts : List CodeNo) (rs : List LibRecord) where
-  pub as-begins : (s : State) → IsWholeState own texts rs s → Begins own (flat_map defined rs) s
-  as-begins s h = record {
-    sound = h.sound;
-    level = h.tops;
-    kept = record {
-      below = λ n x. h.below x.0 x.1.0 n x.1.1.0 x.1.1.1.0 x.1.1.1.1;
-      good = λ l c o e. let g = h.expressions l c o e in record { closed = g.closed; well_made = g.well_made; primitives = g.primitives; here = g.names_here; low = g.shallow };
-      apart = h.apart;
-    };
-  }
-
-  pub as-safe : (s : State) → IsWholeState own texts rs s → Safe own texts rs s
-  as-safe s h = record { stage = h.stage.steady; imported = h.imported; made = h.made }
-
-  pub is-whole : (s : State) → Around own texts rs → Begins own (flat_map defined rs) s → Safe own texts rs s → IsWholeState own texts rs s
-  is-whole s x b h = record {
-    stage = record { around = x; steady = h.stage };
-    sound = b.sound;
-    tops = b.level;
-    imported = h.imported;
-    made = h.made;
-    expressions = λ l c o e. let g = b.kept.good l c o e in record { closed = g.closed; well_made = g.well_made; primitives = g.primitives; names_here = g.here; shallow = g.low };
-    below = λ l c n o e y. b.kept.below n (l, (c, (o, (e, y))));
-    apart = b.kept.apart;
-  }
-
   goes-whole : (s u : State) → Around own texts rs → Goes own texts rs s u → IsWholeState own texts rs u
-  goes-whole s u x g = is-whole u x g.onward.0 g.safe
+  goes-whole s u x g = record { around = x; good = g.onward.0; steady = g.safe }
 
   pub stays : {A : Type 0} (s : State) (r : Result (A × State) Fault) → Around own texts rs → Sure (G own texts rs s) r → StaysWhole own texts rs r
   stays s (Ok p) x g = goes-whole s p.1 x g
   stays s (Err f) x g = g
 
 pub whole-have : WholeStatesHaveProcedures
-whole-have own texts rs s h l e v k = has-procedure s.cells v (h.stage.steady.kept l e v k).fits
+whole-have own texts rs s h l e v k = has-procedure s.cells v (h.steady.stage.kept l e v k).fits
 
 pub uses-find : UsesFindProcedures
 uses-find own texts rs place l s v g h e =
     let m : Option PlainCore = macro_expression (bound_to s.bindings l) in
-    let known = imported-by own texts rs h.stage.around s (as-safe own texts rs s h) l in
-    let k : Steady own texts rs g × IsReadyOn g v = subst (EndsReady own texts rs) e (transformers_never_stuck own texts place rs l m (stage_of s) h.stage known) in
+    let known = imported-by own texts rs h.around s h.steady l in
+    let k : Steady own texts rs g × IsReadyOn g v = subst (EndsReady own texts rs) e (transformers_never_stuck own texts place rs l m (stage_of s) (record { around = h.around; steady = h.steady.stage }) known) in
     has-procedure g.cells v k.1.fits
 
 -- ---- a use whose transformer has no procedure is at fault
@@ -157,8 +131,8 @@ missing-is-stuck place rs form l e frame s g v k none =
 
 pub forms-stay-whole : FormsStayWhole
 forms-stay-whole own texts rs room place level depth t s h =
-    stays own texts rs s ((inside rs room).form place level depth t s) h.stage.around
-    ((inside-holds own texts rs h.stage.around room).form place level depth t s (as-begins own texts rs s h) (as-safe own texts rs s h))
+    stays own texts rs s ((inside rs room).form place level depth t s) h.around
+    ((inside-holds own texts rs h.around room).form place level depth t s h.good h.steady)
 
 -- ---- the body of a library or program
 
@@ -187,15 +161,15 @@ module _ (own : LibName) (texts : List CodeNo) (rs : List LibRecord) (x : Around
 
 pub bodies-stay-whole : BodiesStayWhole
 bodies-stay-whole own texts rs room at es forms s mine h =
-    stays own texts rs s (top (inside rs room) at es forms s) h.stage.around
-    (top-goes own texts rs h.stage.around (inside rs room) (inside-holds own texts rs h.stage.around room) at es forms s mine (as-begins own texts rs s h) (as-safe own texts rs s h))
+    stays own texts rs s (top (inside rs room) at es forms s) h.around
+    (top-goes own texts rs h.around (inside rs room) (inside-holds own texts rs h.around room) at es forms s mine h.good h.steady)
 
 -- ---- where an expansion begins
 
 pub starts-are-whole : StartsAreWhole
 starts-are-whole own rs imports codes is_ready behind no_text texts =
     let x : Around own (numbers_in codes) rs = record { new = is_ready.new; no_text = no_text; texts_only = texts_only own rs codes texts; behind = behind } in
-    is-whole own (numbers_in codes) rs (started own rs imports codes) x (started-begins own rs imports codes is_ready) (started-safe own rs codes texts imports)
+    record { around = x; good = started-begins own rs imports codes is_ready; steady = started-safe own rs codes texts imports }
 
 module _ (prelude : Result Codes Fault) (read : AreRead prelude) where
   texts-of : (table : Codes) → prelude ≡ Ok table → AreTexts table

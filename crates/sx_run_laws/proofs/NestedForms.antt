@@ -1,5 +1,5 @@
 -- What is begun inside a form begins in a whole state, also where the form is at fault later.
-use Rattle.std.proofs.Common.{◌≡◌, ℕ, Bool, true, false, List, [], ◌∷◌, map, Option, Err, refl, sym, ap, subst, ◌∙◌}
+use Rattle.std.proofs.Common.{◌≡◌, ℕ, ◌+◌, Bool, true, false, List, [], ◌∷◌, map, Option, Err, refl, sym, ap, subst, ◌∙◌}
 use Rattle.std.specs.Prelude.{◌&&◌}
 use Rattle.std.specs.List.{flat_map}
 use Rattle.sx_base.specs.Same.{same_library, same_library_decides}
@@ -14,6 +14,7 @@ use Rattle.sx_expand.specs.Body.{item}
 use Rattle.sx_expand.specs.Expression.{form_at, lambda_case, inside}
 use Rattle.sx_expand.specs.Inside.{Inside}
 use Rattle.sx_expand.specs.Top.{top}
+use Rattle.sx_expand_laws.specs.Shallow.{deepest}
 use Rattle.sx_expand_laws.specs.States.{Later}
 use Rattle.sx_expand_laws.proofs.Acts.{Gave, gave-if}
 use Rattle.sx_expand_laws.proofs.Changes.{Moves}
@@ -39,16 +40,16 @@ use Rattle.sx_steady_laws.proofs.Keywords.{Placed, Holds}
 use Rattle.sx_steady_laws.proofs.Safe.{Safe, B, Goes, G}
 use Rattle.sx_steady_laws.proofs.Sure.{Sure, sure-less, sure-if}
 use Rattle.sx_stuck_laws.specs.Uses.{Around}
-use Rattle.sx_run_laws.specs.Nested.{tested, checked, PassesWhole, FormsBeginWhole, ProceduresBeginWhole, BodiesBeginWhole, with_waiting, waiting_labels, IsSpared, ItemsBeginWhole}
-use Rattle.sx_run_laws.proofs.KeptTransformers.{as-begins, as-safe, is-whole, stays, top-goes}
+use Rattle.sx_run_laws.specs.Nested.{stuck_unless, with_entry_test, PassesWhole, FormsBeginWhole, ProceduresBeginWhole, BodiesBeginWhole, with_waiting, waiting_labels, IsSpared, ItemsBeginWhole}
+use Rattle.sx_run_laws.proofs.KeptTransformers.{stays, top-goes}
 
 -- ---- with tests the same is known
 
-gave-tested : {A : Type 0} (P : A → State → Type 0) (test : State → Bool) (place : Span) (m : Does A) (s : State) → Gave P (m s) → Gave P (tested test place m s)
-gave-tested P test place m s h = gave-if P (test s) (m s) (Err (stuck place)) (λ e. h) (λ e. tt)
+gave-unless : {A : Type 0} (P : A → State → Type 0) (test : State → Bool) (place : Span) (m : Does A) (s : State) → Gave P (m s) → Gave P (stuck_unless test place m s)
+gave-unless P test place m s h = gave-if P (test s) (m s) (Err (stuck place)) (λ e. h) (λ e. tt)
 
-sure-tested : {A : Type 0} (P : A → State → Type 0) (test : State → Bool) (place : Span) (m : Does A) (s : State) → test s ≡ true → Sure P (m s) → Sure P (tested test place m s)
-sure-tested P test place m s passed h = sure-if P (test s) (m s) (Err (stuck place)) (λ e. h) (λ e. let bad : true ≡ false = sym passed ∙ e in absurd (cc))
+sure-unless : {A : Type 0} (P : A → State → Type 0) (test : State → Bool) (place : Span) (m : Does A) (s : State) → test s ≡ true → Sure P (m s) → Sure P (stuck_unless test place m s)
+sure-unless P test place m s passed h = sure-if P (test s) (m s) (Err (stuck place)) (λ e. h) (λ e. let bad : true ≡ false = sym passed ∙ e in absurd (cc))
 
 both-true : (a b : Bool) → a ≡ true → b ≡ true → (a && b) ≡ true
 both-true true true h k = refl
@@ -56,57 +57,57 @@ both-true true false h k = absurd (cc)
 both-true false b h k = absurd (cc)
 
 module _ (own : LibName) (test : State → Bool) (go : Inside) where
-  abbrev tried : Inside
-  tried = checked own test go
+  abbrev with-test : Inside
+  with-test = with_entry_test own test go
 
   -- of a form of a body
   abbrev test-at : BodyAt → State → Bool
   test-at at s = test s && same_library at.frame.0.library own
 
-  moves-checked : Moves own go → Moves own tried
-  moves-checked k = record {
-    form = λ place level depth t s n. gave-tested (λ c u. Later own s u) test place (go.form place level depth t) s (k.form place level depth t s n);
-    procedure = λ place level depth t ids forms s n. gave-tested (λ c u. Later own s u) test place (go.procedure place level depth t ids forms) s (k.procedure place level depth t ids forms s n);
-    item = λ at depth d t start s n low w. gave-tested (Takes own at.frame (is_top at.kind) start s) (test-at at) at.place (go.item at depth d t) s (k.item at depth d t start s n low w);
+  moves-with-test : Moves own go → Moves own with-test
+  moves-with-test k = record {
+    form = λ place level depth t s n. gave-unless (λ c u. Later own s u) test place (go.form place level depth t) s (k.form place level depth t s n);
+    procedure = λ place level depth t ids forms s n. gave-unless (λ c u. Later own s u) test place (go.procedure place level depth t ids forms) s (k.procedure place level depth t ids forms s n);
+    item = λ at depth d t start s n low w. gave-unless (Takes own at.frame (is_top at.kind) start s) (test-at at) at.place (go.item at depth d t) s (k.item at depth d t start s n low w);
   }
 
-  nests-checked : Nests own go → Nests own tried
-  nests-checked k = record {
-    moves = moves-checked k.moves;
-    form = λ place level depth t s h. gave-tested (λ c u. Within u.bindings level depth 2404 c) test place (go.form place level depth t) s (k.form place level depth t s h);
-    procedure = λ place level depth t ids forms s le h. gave-tested (λ c u. WithinCase u.bindings level depth 2406 c) test place (go.procedure place level depth t ids forms) s (k.procedure place level depth t ids forms s le h);
-    item = λ at base depth d t start s le h low w a. gave-tested (λ e u. AreWaiting at base e u.bindings) (test-at at) at.place (go.item at depth d t) s (k.item at base depth d t start s le h low w a);
+  nests-with-test : Nests own go → Nests own with-test
+  nests-with-test k = record {
+    moves = moves-with-test k.moves;
+    form = λ place level depth t s h. gave-unless (λ c u. Within u.bindings level depth deepest c) test place (go.form place level depth t) s (k.form place level depth t s h);
+    procedure = λ place level depth t ids forms s le h. gave-unless (λ c u. WithinCase u.bindings level depth (deepest + 2) c) test place (go.procedure place level depth t ids forms) s (k.procedure place level depth t ids forms s le h);
+    item = λ at base depth d t start s le h low w a. gave-unless (λ e u. AreWaiting at base e u.bindings) (test-at at) at.place (go.item at depth d t) s (k.item at base depth d t start s le h low w a);
   }
 
   module _ (given : List Label) where
-    sounds-checked : Sounds own given go → Sounds own given tried
-    sounds-checked k = record {
-      moves = moves-checked k.moves;
-      nests = nests-checked k.nests;
-      form = λ place level depth t s vs ls h r. gave-tested (GivesGood own vs ls s) test place (go.form place level depth t) s (k.form place level depth t s vs ls h r);
-      procedure = λ place level depth t ids forms s vs ls h r. gave-tested (GivesCase own vs ls s) test place (go.procedure place level depth t ids forms) s (k.procedure place level depth t ids forms s vs ls h r);
+    sounds-with-test : Sounds own given go → Sounds own given with-test
+    sounds-with-test k = record {
+      moves = moves-with-test k.moves;
+      nests = nests-with-test k.nests;
+      form = λ place level depth t s vs ls h r. gave-unless (GivesGood own vs ls s) test place (go.form place level depth t) s (k.form place level depth t s vs ls h r);
+      procedure = λ place level depth t ids forms s vs ls h r. gave-unless (GivesCase own vs ls s) test place (go.procedure place level depth t ids forms) s (k.procedure place level depth t ids forms s vs ls h r);
     }
 
-    spares-checked : Spares own given go → Spares own given tried
-    spares-checked k = record {
-      safe = sounds-checked k.safe;
-      form = λ place level depth t s b. gave-tested (λ c u. Onward own given s u × AwayCore own u c) test place (go.form place level depth t) s (k.form place level depth t s b);
-      procedure = λ place level depth t ids forms s b. gave-tested (λ c u. Onward own given s u × AwayCase own u c) test place (go.procedure place level depth t ids forms) s (k.procedure place level depth t ids forms s b);
-      item = λ at depth d t s low b a. gave-tested (λ e u. Onward own given s u × AreUnspent own u (taken_labels e)) (test-at at) at.place (go.item at depth d t) s (k.item at depth d t s low b a);
+    spares-with-test : Spares own given go → Spares own given with-test
+    spares-with-test k = record {
+      safe = sounds-with-test k.safe;
+      form = λ place level depth t s b. gave-unless (λ c u. Onward own given s u × AwayCore own u c) test place (go.form place level depth t) s (k.form place level depth t s b);
+      procedure = λ place level depth t ids forms s b. gave-unless (λ c u. Onward own given s u × AwayCase own u c) test place (go.procedure place level depth t ids forms) s (k.procedure place level depth t ids forms s b);
+      item = λ at depth d t s low b a. gave-unless (λ e u. Onward own given s u × AreUnspent own u (taken_labels e)) (test-at at) at.place (go.item at depth d t) s (k.item at depth d t s low b a);
     }
 
   module _ (texts : List CodeNo) (rs : List LibRecord) (passes : (s : State) → B own texts rs s → Safe own texts rs s → test s ≡ true) where
     passes-at : (at : BodyAt) (s : State) → Placed own at → B own texts rs s → Safe own texts rs s → test-at at s ≡ true
     passes-at at s low b h = both-true (test s) (same_library at.frame.0.library own) (passes s b h) ((same_library_decides at.frame.0.library own).1 low.1)
 
-    holds-checked : Holds own texts rs go → Holds own texts rs tried
-    holds-checked k = record {
-      spares = spares-checked (flat_map defined rs) k.spares;
+    holds-with-test : Holds own texts rs go → Holds own texts rs with-test
+    holds-with-test k = record {
+      spares = spares-with-test (flat_map defined rs) k.spares;
       earlier = k.earlier;
-      form = λ place level depth t s b h. sure-tested (G own texts rs s) test place (go.form place level depth t) s (passes s b h) (k.form place level depth t s b h);
-      procedure = λ place level depth t ids forms s b h. sure-tested (G own texts rs s) test place (go.procedure place level depth t ids forms) s (passes s b h) (k.procedure place level depth t ids forms s b h);
+      form = λ place level depth t s b h. sure-unless (G own texts rs s) test place (go.form place level depth t) s (passes s b h) (k.form place level depth t s b h);
+      procedure = λ place level depth t ids forms s b h. sure-unless (G own texts rs s) test place (go.procedure place level depth t ids forms) s (passes s b h) (k.procedure place level depth t ids forms s b h);
       item = λ at depth d t s low b h a.
-          sure-tested (λ e u. Goes own texts rs s u × AreUnspent own u (taken_labels e)) (test-at at) at.place (go.item at depth d t) s (passes-at at s low b h) (k.item at depth d t s low b h a);
+          sure-unless (λ e u. Goes own texts rs s u × AreUnspent own u (taken_labels e)) (test-at at) at.place (go.item at depth d t) s (passes-at at s low b h) (k.item at depth d t s low b h a);
     }
 
 -- ---- what waits
@@ -127,36 +128,36 @@ spared own s (l ∷ ls) h = ((h.0.made, (λ x. h.0.unnamed x.0 x.1.0 x.1.1.0 x.1
 -- ---- the laws
 
 module _ (own : LibName) (texts : List CodeNo) (rs : List LibRecord) (test : State → Bool) (room : ℕ) (passes : PassesWhole own texts rs test) (x : Around own texts rs) where
-  checked-holds : Holds own texts rs (checked own test (inside rs room))
-  checked-holds = holds-checked own test (inside rs room) texts rs (λ s b h. passes s (is-whole own texts rs s x b h)) (inside-holds own texts rs x room)
+  with-test-holds : Holds own texts rs (with_entry_test own test (inside rs room))
+  with-test-holds = holds-with-test own test (inside rs room) texts rs (λ s b h. passes s (record { around = x; good = b; steady = h })) (inside-holds own texts rs x room)
 
 pub forms-begin-whole : FormsBeginWhole
 forms-begin-whole own texts rs place level depth t test room s passes h =
-    let x = h.stage.around in
-    let go = checked own test (inside rs room) in
+    let x = h.around in
+    let go = with_entry_test own test (inside rs room) in
     stays own texts rs s (form_at go place level depth t s) x
-    (form-goes own texts rs x go (checked-holds own texts rs test room passes x) place level depth t s (as-begins own texts rs s h) (as-safe own texts rs s h))
+    (form-goes own texts rs x go (with-test-holds own texts rs test room passes x) place level depth t s h.good h.steady)
 
 pub procedures-begin-whole : ProceduresBeginWhole
 procedures-begin-whole own texts rs place level depth t ids forms test room s passes h =
-    let x = h.stage.around in
-    let go = checked own test (inside rs room) in
+    let x = h.around in
+    let go = with_entry_test own test (inside rs room) in
     stays own texts rs s (lambda_case go place level depth t ids forms s) x
-    (case-runs own texts rs x go (checked-holds own texts rs test room passes x) place level depth t ids forms s (as-begins own texts rs s h) (as-safe own texts rs s h))
+    (case-runs own texts rs x go (with-test-holds own texts rs test room passes x) place level depth t ids forms s h.good h.steady)
 
 pub bodies-begin-whole : BodiesBeginWhole
 bodies-begin-whole own texts rs at es forms mine test room s passes h =
-    let x = h.stage.around in
-    let go = checked own test (inside rs room) in
+    let x = h.around in
+    let go = with_entry_test own test (inside rs room) in
     stays own texts rs s (top go at es forms s) x
-    (top-goes own texts rs x go (checked-holds own texts rs test room passes x) at es forms s mine (as-begins own texts rs s h) (as-safe own texts rs s h))
+    (top-goes own texts rs x go (with-test-holds own texts rs test room passes x) at es forms s mine h.good h.steady)
 
 pub items-begin-whole : ItemsBeginWhole
 items-begin-whole own texts rs at depth d t test room s mine low free passes h =
-    let x = h.stage.around in
-    let go = checked own test (inside rs room) in
+    let x = h.around in
+    let go = with_entry_test own test (inside rs room) in
     stays own texts rs s (item go at depth d t s) x
     (sure-less (λ e u. Goes own texts rs s u × AreUnspent own u (taken_labels e)) (G own texts rs s) (item go at depth d t s)
-    (item-goes own texts rs x go (checked-holds own texts rs test room passes x) at depth d t s (low, mine) (as-begins own texts rs s h) (as-safe own texts rs s h)
+    (item-goes own texts rs x go (with-test-holds own texts rs test room passes x) at depth d t s (low, mine) h.good h.steady
     (subst (AreUnspent own s) (sym (waiting-kinds d.waiting)) (spared own s (waiting_labels d.waiting) free)))
     (λ e u g. g.0))

@@ -14,6 +14,7 @@ use Rattle.sx_expand.specs.Expression.{form_at, lambda_case, inside}
 use Rattle.sx_expand.specs.Inside.{Inside}
 use Rattle.sx_expand.specs.Top.{top}
 use Rattle.sx_expand.specs.declared.top.TopAt.{TopAt}
+use Rattle.sx_expand_laws.specs.Kept.{MakesName, IsKeptWith}
 use Rattle.sx_expand_laws.specs.States.{IsOwn}
 use Rattle.sx_heads.specs.Items.{is_top}
 use Rattle.sx_heads.specs.declared.taken.BodyAt.{BodyAt}
@@ -24,19 +25,20 @@ use Rattle.sx_heads.specs.declared.taken.Waits.TheVariants as waits
 use Rattle.sx_shapes.specs.declared.shape.FormalIds.{FormalIds}
 use Rattle.sx_stage.specs.Stage.{stuck}
 use Rattle.sx_standing.specs.State.{State, Does}
-use Rattle.sx_run_laws.specs.Transformers.{HasName, IsKeptWith, IsWholeState, StaysWhole}
+use Rattle.sx_steady_laws.specs.States.{IsWholeState}
+use Rattle.sx_run_laws.specs.Transformers.{StaysWhole}
 
 -- What is done where the state passes a test. Elsewhere there is the fault of what got stuck: where there is another one, or none, no such state was met.
-abbrev pub tested : {A : Type 0} → (State → Bool) → Span → Does A → Does A
-tested test place m s = if test s then m s else Err (stuck place)
+abbrev pub stuck_unless : {A : Type 0} → (State → Bool) → Span → Does A → Does A
+stuck_unless test place m s = if test s then m s else Err (stuck place)
 
 -- What is done inside forms, where each state is tested in which it begins, and of a form of a body also, whether its frame is of the library.
-abbrev pub checked : LibName → (State → Bool) → Inside → Inside
-checked own test go = record {
+abbrev pub with_entry_test : LibName → (State → Bool) → Inside → Inside
+with_entry_test own test go = record {
   earlier = go.earlier;
-  form = λ place level depth t. tested test place (go.form place level depth t);
-  procedure = λ place level depth t ids forms. tested test place (go.procedure place level depth t ids forms);
-  item = λ at depth done t. tested (λ s. test s && same_library at.frame.0.library own) at.place (go.item at depth done t);
+  form = λ place level depth t. stuck_unless test place (go.form place level depth t);
+  procedure = λ place level depth t ids forms. stuck_unless test place (go.procedure place level depth t ids forms);
+  item = λ at depth done t. stuck_unless (λ s. test s && same_library at.frame.0.library own) at.place (go.item at depth done t);
 }
 
 module _ (own : LibName) (texts : List CodeNo) (records : List LibRecord) where
@@ -45,7 +47,7 @@ module _ (own : LibName) (texts : List CodeNo) (records : List LibRecord) where
 
   -- what is done with such a test of all that is begun inside it, from a whole state on
   abbrev pub TestsWhole : {A : Type 0} → (Inside → Does A) → Type 0
-  TestsWhole m = (test : State → Bool) (room : ℕ) (s : State) → PassesWhole test → IsWholeState own texts records s → StaysWhole own texts records (m (checked own test (inside records room)) s)
+  TestsWhole m = (test : State → Bool) (room : ℕ) (s : State) → PassesWhole test → IsWholeState own texts records s → StaysWhole own texts records (m (with_entry_test own test (inside records room)) s)
 
 -- Whatever form is expanded in a whole state, or procedure that a definition binds: each form, procedure and form of a body that is begun directly
 -- inside it, begins in a state that passes any test that whole states pass, and a form of a body binds in a frame of the library.
@@ -74,10 +76,10 @@ waiting_labels (w ∷ ws) = with_waiting w.what (waiting_labels ws)
 -- a label that was made and is named in no expression of a keyword of the library that is kept
 pub record IsSpared (own : LibName) (s : State) (l : Label) : Type 0 where
   pub made : l.0.number < s.names.number
-  pub unnamed : (k : Label) (c : PlainCore) → IsOwn own k.0 → IsKeptWith s k c → HasName c l.0 → ⊥
+  pub unnamed : (k : Label) (c : PlainCore) → IsOwn own k.0 → IsKeptWith s.keywords k c → MakesName c l.0 → ⊥
 
 -- And so it is inside a form of a body, of which so much was taken before.
 abbrev pub ItemsBeginWhole : Type 0
 ItemsBeginWhole = (own : LibName) (texts : List CodeNo) (records : List LibRecord) (at : BodyAt) (depth : ℕ) (done : Taken) (t : Tree) (test : State → Bool) (room : ℕ) (s : State)
     → at.frame.0.library ≡ own → (is_top at.kind ≡ true → at.level ≡ 0) → Each (IsSpared own s) (waiting_labels done.waiting) → PassesWhole own texts records test → IsWholeState own texts records s
-    → StaysWhole own texts records (item (checked own test (inside records room)) at depth done t s)
+    → StaysWhole own texts records (item (with_entry_test own test (inside records room)) at depth done t s)

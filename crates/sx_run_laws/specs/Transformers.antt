@@ -1,8 +1,5 @@
 -- The transformers that are kept have their procedures: that of a variable transformer lies in its cell.
-use Rattle.std.specs.Prelude.{◌≡◌, ◌⊎◌, ◌<◌, ℕ, false, true, List, [], ◌∷◌, map, Option, None, Some, Result, Ok, Err}
-use Rattle.std.specs.List.{flat_map}
-use Rattle.sx_base.specs.Named.{Named}
-use Rattle.sx_base.specs.Op.{is_keyword}
+use Rattle.std.specs.Prelude.{◌≡◌, ℕ, true, List, [], ◌∷◌, map, Option, None, Some, Result, Ok, Err}
 use Rattle.sx_base.specs.declared.fault.Fault.{Fault}
 use Rattle.sx_base.specs.declared.library.LibName.{LibName}
 use Rattle.sx_base.specs.declared.library.LibName.TheVariants as library
@@ -13,21 +10,12 @@ use Rattle.sx_base.specs.declared.span.Span.{Span}
 use Rattle.sx_tree.specs.Tree.{Tree}
 use Rattle.sx_core.specs.Bindings.{bound_to}
 use Rattle.sx_core.specs.Core.{PlainCore, PlainCode}
-use Rattle.sx_core.specs.References.{binders}
-use Rattle.sx_core.specs.declared.binding.VarInfo.{VarInfo}
 use Rattle.sx_core.specs.declared.record.LibRecord.{LibRecord}
-use Rattle.sx_core_laws.specs.Parts.{ops, code_numbers}
-use Rattle.sx_core_laws.specs.Records.{defined}
-use Rattle.sx_core_laws.specs.Scope.{Closed}
-use Rattle.sx_core_laws.specs.WellMade.{IsWellMade}
-use Rattle.sx_core_laws.specs.Words.{Each, Among}
 use Rattle.sx_eval.specs.Codes.{Codes}
 use Rattle.sx_expand.specs.Expression.{inside}
 use Rattle.sx_expand.specs.Top.{top}
 use Rattle.sx_expand.specs.declared.top.TopAt.{TopAt}
 use Rattle.sx_expand_laws.specs.Ready.{IsReady}
-use Rattle.sx_expand_laws.specs.Shallow.{IsShallow}
-use Rattle.sx_expand_laws.specs.States.{IsOwn, IsTop, IsMacro, Sound}
 use Rattle.sx_import.specs.Names.{Labelled}
 use Rattle.sx_library.specs.Loaded.{all_records}
 use Rattle.sx_library.specs.Records.{needed_records}
@@ -36,7 +24,7 @@ use Rattle.sx_load.specs.declared.found.Found.{Found}
 use Rattle.sx_load.specs.declared.found.Loading.{Loading}
 use Rattle.sx_outside.specs.Contents.{Paths}
 use Rattle.sx_prelude.specs.Prelude.{prelude_table}
-use Rattle.sx_stage.specs.Stage.{PlainStage, keyword_at, expression_of, stuck}
+use Rattle.sx_stage.specs.Stage.{PlainStage, keyword_at, stuck}
 use Rattle.sx_stage.specs.Transformers.{keyword_value}
 use Rattle.sx_stage.specs.Uses.{procedure_in, used}
 use Rattle.sx_stage.specs.declared.keyword.Keyword.TheVariants as keyword
@@ -44,9 +32,9 @@ use Rattle.sx_standing.specs.Start.{started}
 use Rattle.sx_standing.specs.State.{State, stage_of}
 use Rattle.sx_standing.specs.Uses.{macro_expression}
 use Rattle.sx_steady_laws.specs.Libraries.{AreTexts}
-use Rattle.sx_stuck_laws.specs.Behind.{IsOfTexts, AllBehind, IsKeywordOf}
+use Rattle.sx_steady_laws.specs.States.{IsWholeState}
+use Rattle.sx_stuck_laws.specs.Behind.{IsOfTexts, AllBehind}
 use Rattle.sx_stuck_laws.specs.Kinds.{NotStuck}
-use Rattle.sx_stuck_laws.specs.Uses.{OnSteady}
 use Rattle.sx_value.specs.declared.cell.Cell.{Cell}
 use Rattle.sx_value.specs.declared.value.Value.{Value}
 use Rattle.sx_run_laws.specs.Parts.{IsPart}
@@ -61,43 +49,7 @@ KeptHaveProcedures g = (l : Label) (e : Option PlainCore) (v : Value) → keywor
 
 -- ---- whole states
 
-abbrev pub label_named : Named → Label
-label_named n = record { 0 = n }
-
-abbrev pub code_named : Named → CodeNo
-code_named n = record { 0 = n }
-
--- core code binds the label of this name, or has a procedure that is numbered so
-abbrev pub HasName : PlainCore → Named → Type 0
-HasName c n = Among (binders c) (label_named n) ⊎ Among (code_numbers c) (code_named n)
-
--- the expression that is kept with a keyword of the library
-abbrev pub IsKeptWith : State → Label → PlainCore → Type 0
-IsKeptWith s l c = expression_of l (stage_of s) ≡ Some c
-
--- It is closed under what other libraries define, well made, and no deeper than forms nest; no primitive in it is a keyword, and what it names is of
--- the library.
-pub record IsKeptExpression (own : LibName) (given : List Label) (c : PlainCore) : Type 0 where
-  pub closed : Closed given c
-  pub well_made : IsWellMade [] c
-  pub primitives : Each (λ o. is_keyword o ≡ false) (ops c)
-  pub names_here : (n : Named) → HasName c n → IsOwn own n
-  pub shallow : IsShallow c
-
--- A state of the expansion of a library, with the codes of these texts and behind these records, which stand behind one another. Its stage is steady:
--- its world is whole and what is kept is ready. An imported keyword is one of these records. Of the library's own keywords that are kept the labels and
--- all names in their expressions were made, and no two share a name.
-pub record IsWholeState (own : LibName) (texts : List CodeNo) (records : List LibRecord) (s : State) : Type 0 where
-  pub stage : OnSteady own texts records (stage_of s)
-  pub sound : Sound own (flat_map defined records) s
-  pub tops : (l : Label) (v : VarInfo) → IsOwn own l.0 → IsTop s l v → v.level ≡ 0
-  pub imported : (l : Label) (level : ℕ) (c : PlainCore) → IsMacro s l level (Some c) → IsKeywordOf records l c
-  pub made : (l : Label) (e : Option PlainCore) (v : Value) → keyword_at s.keywords l ≡ Some (keyword.Kept e v) → IsOwn own l.0 → l.0.number < s.names.number
-  pub expressions : (l : Label) (c : PlainCore) → IsOwn own l.0 → IsKeptWith s l c → IsKeptExpression own (flat_map defined records) c
-  pub below : (l : Label) (c : PlainCore) (n : Named) → IsOwn own l.0 → IsKeptWith s l c → HasName c n → n.number < s.names.number
-  pub apart : (l m : Label) (c d : PlainCore) (n : Named) → IsOwn own l.0 → IsOwn own m.0 → IsKeptWith s l c → IsKeptWith s m d → HasName c n → HasName d n → l ≡ m
-
--- what is kept in such a state, has its procedure
+-- What is kept in a whole state, has its procedure.
 abbrev pub WholeStatesHaveProcedures : Type 0
 WholeStatesHaveProcedures = (own : LibName) (texts : List CodeNo) (records : List LibRecord) (s : State) → IsWholeState own texts records s → KeptHaveProcedures (stage_of s)
 
