@@ -8,7 +8,7 @@ use Rattle.sx_derived.specs.Derived.{derived_record}
 use Rattle.sx_eval.specs.Codes.{Codes}
 use Rattle.sx_forms.specs.Form.{program_body}
 use Rattle.sx_import.specs.Turns.{turns}
-use Rattle.sx_library.specs.Loaded.{expand_found, expand_next, all_records, planned_text, text_of}
+use Rattle.sx_library.specs.Loaded.{expand_found, expand_next, all_records, planned_text, text_behind, fault_behind, text_of}
 use Rattle.sx_load.specs.Load.{Loads, load}
 use Rattle.sx_load.specs.declared.found.Found.{Found}
 use Rattle.sx_load.specs.declared.found.Loading.{Loading}
@@ -62,7 +62,7 @@ module _ (prelude : Result Codes Fault) (read : AreRead prelude) where
   module _ (files : Paths) (roots : List (List ℕ)) (path : List ℕ) where
     -- where loading ends
     ends : (found : Found) (s : Loading) → load files roots path ≡ Ok (found, s) → Told Any (text_of prelude (Ok (found, s)))
-    unfolding text_of
+    unfolding text_behind
     ends found s h =
         let l = loads_all files roots path found s h in
         records-told s l.sound (users-all files roots path found s h) (λ records. expand_found prelude records found (program_body found.opened.«data») >>= (λ program. planned_text records program))
@@ -88,7 +88,7 @@ module _ (prelude : Result Codes Fault) (read : AreRead prelude) where
 
     -- where it stops
     stops : (s : Loading) (f : Fault) → load files roots path ≡ Err (s, f) → Told Any (text_of prelude (Err (s, f)))
-    unfolding text_of
+    unfolding fault_behind
     stops s f h =
         records-told s (loads_until files roots path s f h) (users-until files roots path s f h) (λ records. Err f)
         (λ d first sound users records m. other-loading f.kind (subst (λ (r : Loads (Found × Loading)). LoadTells IsOfLoading r) h (loading-tells files roots path)))
