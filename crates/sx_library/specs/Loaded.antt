@@ -30,8 +30,16 @@ all_records prelude rows = derived_record prelude >>= (λ d. turns (expand_next 
 abbrev pub planned_text : List LibRecord → LibRecord → Result (List ℕ) Fault
 planned_text records program = core_text records (plan_of records program) program
 
+-- the core text of a program behind the libraries that were loaded before it, or the first fault
+unfoldable pub text_behind : Result Codes Fault → List (List ℕ × Found) → Found → Result (List ℕ) Fault
+text_behind prelude rows found = all_records prelude rows >>= (λ records. expand_found prelude records found (program_body found.opened.«data») >>= (λ program. planned_text records program))
+
+-- the fault where loading stopped, unless a library that was loaded before has one
+unfoldable pub fault_behind : Result Codes Fault → List (List ℕ × Found) → Fault → Result (List ℕ) Fault
+fault_behind prelude rows fault = all_records prelude rows >>= (λ records. Err fault)
+
 -- the core text of a program that was loaded, or the first fault: each library is expanded before any further file is
 -- looked for
-unfoldable pub text_of : Result Codes Fault → Loads (Found × Loading) → Result (List ℕ) Fault
-text_of prelude (Ok l) = all_records prelude l.1.done >>= (λ records. expand_found prelude records l.0 (program_body l.0.opened.«data») >>= (λ program. planned_text records program))
-text_of prelude (Err e) = all_records prelude e.0.done >>= (λ records. Err e.1)
+abbrev pub text_of : Result Codes Fault → Loads (Found × Loading) → Result (List ℕ) Fault
+text_of prelude (Ok l) = text_behind prelude l.1.done l.0
+text_of prelude (Err e) = fault_behind prelude e.0.done e.1

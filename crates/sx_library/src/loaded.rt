@@ -6,8 +6,7 @@ ghost use Rattle.sx_base.specs.Gives.{Gives, Stops};
 ghost use Rattle.sx_prelude.specs.Prelude.{kept};
 ghost use Rattle.sx_import.specs.Turns.{turns};
 ghost use Rattle.sx_forms.specs.Form.{library_body, program_body};
-ghost use Rattle.sx_load.specs.declared.found.Loading.{Loading};
-ghost use Rattle.sx_library.specs.Loaded.{expand_found, expand_next, all_records, planned_text, text_of};
+ghost use Rattle.sx_library.specs.Loaded.{expand_found, expand_next, all_records, planned_text, text_behind, fault_behind};
 
 use crate::library::{Unexpanded, body_of, expand_body};
 use crate::records::{Needed, Records};
@@ -147,9 +146,9 @@ fn planned_text(alloc: Global, records: &[LibRecord], program: &LibRecord) -> Re
     core_text(alloc, records, &plan, program)
 }
 
-/// The core text of a program that was loaded, or the first fault of a library or of the program. The data of each file go
-/// once they are syntax objects.
-#[tactic(auto, unfolding(crate::specs::Loaded::text_of))]
+/// The core text of a program behind the libraries that were loaded before it, or the first fault of a library or of the
+/// program. The data of each file go once they are syntax objects.
+#[tactic(auto, unfolding(crate::specs::Loaded::text_behind))]
 pub fn program_text<N: Ledger, L: Ledger>(
     alloc: Global,
     implementation: &Implementation,
@@ -157,7 +156,7 @@ pub fn program_text<N: Ledger, L: Ledger>(
     libraries: Table<Found>,
     counts: &mut Counts<N, L>,
 ) -> Result<String, Stop>
-    ensures { (l : Loading) → l.done ≡ libraries → Gives string_bytes result (text_of (kept implementation.now.prelude) (Ok (found, l))) }
+    ensures { Gives string_bytes result (text_behind (kept implementation.now.prelude) libraries found) }
 {
     let records = all_records(alloc, implementation, libraries, counts)?;
     let program = expand_program(alloc, implementation, &records, found, counts)?;
@@ -166,7 +165,7 @@ pub fn program_text<N: Ledger, L: Ledger>(
 }
 
 /// The first fault where loading stopped: that of a library before, or this one.
-#[tactic(auto, unfolding(crate::specs::Loaded::text_of))]
+#[tactic(auto, unfolding(crate::specs::Loaded::fault_behind))]
 pub fn first_fault<N: Ledger, L: Ledger>(
     alloc: Global,
     implementation: &Implementation,
@@ -174,7 +173,7 @@ pub fn first_fault<N: Ledger, L: Ledger>(
     fault: Fault,
     counts: &mut Counts<N, L>,
 ) -> Stop
-    ensures { (l : Loading) → l.done ≡ libraries → Stops result (text_of (kept implementation.now.prelude) (Err (l, fault))) }
+    ensures { Stops result (fault_behind (kept implementation.now.prelude) libraries fault) }
 {
     match all_records(alloc, implementation, libraries, counts) {
         Ok(_) => Stop::Fault(fault),
