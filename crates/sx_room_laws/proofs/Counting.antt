@@ -1,4 +1,5 @@
--- Sequences, applications, assignments, procedures and forms of `if`, `syntax-case`, `let-syntax` and `letrec-syntax` make what lies in them one deeper.
+-- Sequences, applications, assignments, procedures and forms of `if`, `syntax-case`, `letrec`, `letrec*`, `let-syntax` and `letrec-syntax` make what lies in
+-- them one deeper.
 use Rattle.std.proofs.Common.{◌≡◌, ◌<◌, ◌≤◌, ℕ, zero, suc, ◌+◌, Bool, true, false, List, [], ◌∷◌, length, Option, None, Some, Result, Ok, Err, refl, sym, ◌∙◌, ap, subst, map, if◌then◌else◌, arith}
 use Rattle.std.specs.Prelude.{nat_eq}
 use Rattle.std.specs.Cmp.{unsigned_Decides}
@@ -19,7 +20,7 @@ use Rattle.sx_core.specs.declared.core_form.CoreForm.{CoreForm}
 use Rattle.sx_core.specs.declared.core_form.CoreForm.TheVariants as core_forms
 use Rattle.sx_core.specs.declared.record.LibRecord.{LibRecord}
 use Rattle.sx_shapes.specs.At.{fault_at}
-use Rattle.sx_shapes.specs.Forms.{bindings, formals, formals_before, if_shape, lambda_shape, let_syntax_shape, set_shape, syntax_case_shape, shaped, or_bad, shape_of, shape}
+use Rattle.sx_shapes.specs.Forms.{bindings, case_lambda_shape, formals, formals_before, if_shape, lambda_case, lambda_shape, let_syntax_shape, letrec_shape, set_shape, syntax_case_shape, shaped, or_bad, shape_of, shape}
 use Rattle.sx_shapes.specs.Lists.{is_leaf, is_nil_atom, all_of}
 use Rattle.sx_shapes.specs.declared.shape.Shape.TheVariants as shapes
 use Rattle.sx_stage.specs.Patterns.{check_literals as literals_on_stage}
@@ -43,9 +44,9 @@ use Rattle.sx_expand.specs.Inside.{Inside}
 use Rattle.sx_expand.specs.Keywords.{keywords as bound_keywords}
 use Rattle.sx_expand.specs.Settle.{step_of}
 use Rattle.sx_expand.specs.declared.settle.Step.TheVariants as steps
-use Rattle.sx_room_laws.specs.Counted.{Round, sequence, operator, test, subject, value, keywords, body, IsWord, IsTarget, IsAlone, IsRound, stamp_round, counted, next_frame, within, rounds_within, next, left, all_left, AreRound, round, truth, put, put_in, code, code_in, FormsCountOnce}
+use Rattle.sx_room_laws.specs.Counted.{Round, sequence, operator, test, subject, value, keywords, body, one_case, block, IsWord, IsTarget, IsAlone, IsRound, stamp_round, counted, next_frame, in_frames, rounds_in_frames, within, rounds_within, next, left, all_left, AreRound, round, truth, put, put_in, code, code_in, FormsCountOnce}
 use Rattle.sx_room_laws.proofs.Items.{shallow-inside}
-use Rattle.sx_room_laws.proofs.Procedures.{IsPlanned, IsTaken, body-faulted, body-made, body-too-deep, headed, is-taken, lambda-faulted, lambda-made, no_ids}
+use Rattle.sx_room_laws.proofs.Procedures.{IsPlanned, IsTaken, block-faulted, block-made, body-faulted, body-made, body-too-deep, cases-faulted, cases-made, headed, is-taken, lambda-faulted, lambda-made, no_ids}
 use Rattle.sx_room_laws.proofs.Limits.{over, done-at, one-deeper, constant-is}
 use Rattle.sx_room_laws.proofs.Rooms.{form-is, too-deep-form, forms-need-no-more}
 
@@ -57,6 +58,8 @@ plan place (subject word) form = plans.Matching form [] [] place
 plan place (value word id v) form = plans.Assignment v.label form
 plan place (keywords recursive word) form = plans.Keywords recursive [] (form ∷ [])
 plan place (body word) form = plans.Lambda no_ids (form ∷ [])
+plan place (one_case word) form = plans.CaseLambda (record { formals = no_ids; body = form ∷ [] } ∷ [])
+plan place (block star word) form = plans.Letrec star [] (form ∷ [])
 
 -- the state that the plan leaves
 abbrev planned : Round → State → State
@@ -67,6 +70,8 @@ planned (subject word) s = s
 planned (value word id v) s = next (value word id v) s
 planned (keywords recursive word) s = s
 planned (body word) s = s
+planned (one_case word) s = s
+planned (block star word) s = s
 
 not-leaf : (rs : List Round) (t : Tree) → is_leaf t ≡ false → is_leaf (put_in rs t) ≡ false
 not-leaf [] t h = h
@@ -77,6 +82,8 @@ not-leaf (subject word ∷ rs) t h = refl
 not-leaf (value word id v ∷ rs) t h = refl
 not-leaf (keywords recursive word ∷ rs) t h = refl
 not-leaf (body word ∷ rs) t h = refl
+not-leaf (one_case word ∷ rs) t h = refl
+not-leaf (block star word ∷ rs) t h = refl
 
 -- Stamps change neither how many stand round a form, nor what comes of it.
 
@@ -88,6 +95,8 @@ stamp-put f (subject word) t = refl
 stamp-put f (value word id v) t = refl
 stamp-put f (keywords recursive word) t = refl
 stamp-put f (body word) t = refl
+stamp-put f (one_case word) t = refl
+stamp-put f (block star word) t = refl
 
 stamp-put-in : (f : FrameNo) (rs : List Round) (t : Tree) → stamp f (put_in rs t) ≡ put_in (map (stamp_round f) rs) (stamp f t)
 stamp-put-in f [] t = refl
@@ -105,6 +114,8 @@ stamp-next f (subject word) s = refl
 stamp-next f (value word id v) s = refl
 stamp-next f (keywords recursive word) s = refl
 stamp-next f (body word) s = refl
+stamp-next f (one_case word) s = refl
+stamp-next f (block star word) s = refl
 
 stamp-code : (f : FrameNo) (place : Span) (r : Round) (s : State) (c : PlainCore) → code place (stamp_round f r) s c ≡ code place r s c
 stamp-code f place (sequence word) s c = refl
@@ -114,6 +125,8 @@ stamp-code f place (subject word) s c = refl
 stamp-code f place (value word id v) s c = refl
 stamp-code f place (keywords recursive word) s c = refl
 stamp-code f place (body word) s c = refl
+stamp-code f place (one_case word) s c = refl
+stamp-code f place (block star word) s c = refl
 
 stamp-code-in : (f : FrameNo) (place : Span) (rs : List Round) (s : State) (c : PlainCore) → code_in place (map (stamp_round f) rs) s c ≡ code_in place rs s c
 stamp-code-in f place [] s c = refl
@@ -129,6 +142,8 @@ stamp-left f (subject word) s u = refl
 stamp-left f (value word id v) s u = refl
 stamp-left f (keywords recursive word) s u = refl
 stamp-left f (body word) s u = refl
+stamp-left f (one_case word) s u = refl
+stamp-left f (block star word) s u = refl
 
 stamp-all-left : (f : FrameNo) (rs : List Round) (s : State) → all_left (map (stamp_round f) rs) s ≡ all_left rs s
 stamp-all-left f [] s = refl
@@ -145,6 +160,8 @@ stamp-alone f (subject word ∷ rs) h = h
 stamp-alone f (value word id v ∷ rs) h = h
 stamp-alone f (keywords recursive word ∷ rs) h = h
 stamp-alone f (body word ∷ rs) h = h
+stamp-alone f (one_case word ∷ rs) h = h
+stamp-alone f (block star word ∷ rs) h = h
 
 stamp-leaf : (f : FrameNo) (t : Tree) → is_leaf (stamp f t) ≡ is_leaf t
 stamp-leaf f (atom o a) = refl
@@ -183,7 +200,7 @@ module _ (place : Span) (level : ℕ) (form : Tree) (s : State) (no : is_leaf fo
   shape-set word id v is = ap (λ b. or_bad (put (value word id v) form) place (if b then Some (shapes.Set id form) else None)) is
 
   plan-is : (r : Round) (rs : List Round) → IsRound level s r rs → plan_of place level (put r form) s ≡ Ok (plan place r form, planned r s)
-  unfolding list_plan application keyword_plan shape_plan role_of shape shape_of shaped if_shape syntax_case_shape let_syntax_shape lambda_shape formals formals_before bindings all_of assign
+  unfolding list_plan application keyword_plan shape_plan role_of shape shape_of shaped if_shape syntax_case_shape let_syntax_shape letrec_shape lambda_shape case_lambda_shape lambda_case formals formals_before bindings all_of assign
   plan-is (sequence word) rs is = by-word core_forms.Begin word (pair None form nil) is
   plan-is operator rs is = ap (λ b. if b then by_head place level (put operator form) form nil (standing_of s form) s else application place (put operator form) form nil s) no
   plan-is (test word) rs is = by-word core_forms.If word (pair None form (pair None truth nil)) is
@@ -196,6 +213,9 @@ module _ (place : Span) (level : ℕ) (form : Tree) (s : State) (no : is_leaf fo
   plan-is (keywords false word) rs is = by-word core_forms.LetSyntax word (pair None nil (pair None form nil)) is
   plan-is (keywords true word) rs is = by-word core_forms.LetrecSyntax word (pair None nil (pair None form nil)) is
   plan-is (body word) rs is = by-word core_forms.Lambda word (pair None nil (pair None form nil)) is.0
+  plan-is (one_case word) rs is = by-word core_forms.CaseLambda word (pair None (pair None nil (pair None form nil)) nil) is.0
+  plan-is (block false word) rs is = by-word core_forms.Letrec word (pair None nil (pair None form nil)) is.0
+  plan-is (block true word) rs is = by-word core_forms.LetrecStar word (pair None nil (pair None form nil)) is.0
 
   plan-settles : (r : Round) (rs : List LibRecord) (u : State) → step_of rs place (put r form) (plan place r form) u ≡ Ok (steps.Plan (plan place r form), u)
   plan-settles (sequence word) rs u = refl
@@ -205,6 +225,8 @@ module _ (place : Span) (level : ℕ) (form : Tree) (s : State) (no : is_leaf fo
   plan-settles (value word id v) rs u = refl
   plan-settles (keywords recursive word) rs u = refl
   plan-settles (body word) rs u = refl
+  plan-settles (one_case word) rs u = refl
+  plan-settles (block star word) rs u = refl
 
   in-round : (records : List LibRecord) (room depth : ℕ) (r : Round) (rs : List Round) → IsRound level s r rs → depth ≤ most_round
       → (inside records (suc room)).form place level depth (put r form) s ≡ perform (inside records room) place level depth (put r form) (plan place r form) (planned r s)
@@ -212,7 +234,7 @@ module _ (place : Span) (level : ℕ) (form : Tree) (s : State) (no : is_leaf fo
       form-is records room place level depth (put r form) s
       ∙ done-at (inside records room) place level depth (put r form) s (planned r s) (plan place r form) few (plan-is r rs is) (λ records. plan-settles r records (planned r s))
 
--- Right in a procedure each of these is an expression that waits.
+-- Right in a body each of these is an expression that waits.
 
 module _ (at : BodyAt) (depth : ℕ) (form : Tree) (s : State) (no : is_leaf form ≡ false) where
   target-taken : (word id : Tree) (v : Variable) (d : Taken) → is_leaf id ≡ true → standing_of s id ≡ standing.Variable v
@@ -239,10 +261,18 @@ module _ (at : BodyAt) (depth : ℕ) (form : Tree) (s : State) (no : is_leaf for
   }
   item-is level (keywords recursive word) rs is h = elim h [ ]
   item-is level (body word) rs is h = record { kept = with_head begun.kept (kept_head s word); planned = headed at depth core_forms.Lambda word (pair None nil (pair None form nil)) s is.0 }
+  item-is level (one_case word) rs is h = record { kept = with_head begun.kept (kept_head s word); planned = headed at depth core_forms.CaseLambda word (pair None (pair None nil (pair None form nil)) nil) s is.0 }
+  item-is level (block false word) rs is h = record { kept = with_head begun.kept (kept_head s word); planned = headed at depth core_forms.Letrec word (pair None nil (pair None form nil)) s is.0 }
+  item-is level (block true word) rs is h = record { kept = with_head begun.kept (kept_head s word); planned = headed at depth core_forms.LetrecStar word (pair None nil (pair None form nil)) s is.0 }
 
--- For a procedure, that the first pass takes its form so.
+-- the first pass over a body takes its form so
+abbrev TakesIn : Inside → Span → ℕ → ℕ → State → Tree → Type 0
+TakesIn go place level depth s form = IsTaken go (lambda_at (next_frame (counted s)) place level) depth (in_frames s form) (counted (counted s))
+
 abbrev Taking : Inside → Span → ℕ → ℕ → Round → State → Tree → Type 0
-Taking go place level depth (body word) s form = IsTaken go (lambda_at (next_frame (counted (counted s))) place level) depth (within (body word) s form) (next (body word) s)
+Taking go place level depth (body word) s form = TakesIn go place level depth (counted s) form
+Taking go place level depth (one_case word) s form = TakesIn go place level depth (counted s) form
+Taking go place level depth (block star word) s form = TakesIn go place level depth s form
 Taking go place level depth r s form = Unit {0}
 
 module _ (place : Span) (level : ℕ) (form : Tree) (s : State) where
@@ -259,6 +289,10 @@ module _ (place : Span) (level : ℕ) (form : Tree) (s : State) where
   faulted go depth t (keywords recursive word) f e w = ap (λ x. after (after x (λ c u. Ok (c ∷ [], u))) (λ cs. give (sequence_of cs))) e
   faulted go depth t (body word) f e w =
       lambda-faulted go place level (deeper depth) t form s f (body-faulted go place level (deeper depth) t (stamp (next_frame (counted s)) form) (counted (counted s)) f w e)
+  faulted go depth t (one_case word) f e w =
+      cases-faulted go place level (deeper depth) t form s f (body-faulted go place level (deeper depth) t (stamp (next_frame (counted s)) form) (counted (counted s)) f w e)
+  faulted go depth t (block star word) f e w =
+      block-faulted go place level (deeper depth) t form s star f (body-faulted go place level (deeper depth) t (stamp (next_frame s) form) (counted s) f w e)
 
   made : (go : Inside) (depth : ℕ) (t : Tree) (r : Round) (c : PlainCore) (u : State) → go.form place level (deeper depth) (within r s form) (next r s) ≡ Ok (c, u) → go.form place level (deeper depth) truth u ≡ Ok (quoted (strip truth), u) → Taking go place level (deeper depth) r s form
       → perform go place level depth t (plan place r form) (planned r s) ≡ Ok (code place r s c, left r s u)
@@ -273,13 +307,29 @@ module _ (place : Span) (level : ℕ) (form : Tree) (s : State) where
   made go depth t (keywords recursive word) c u e k w = ap (λ x. after (after x (λ c u. Ok (c ∷ [], u))) (λ cs. give (sequence_of cs))) e
   made go depth t (body word) c u e k w =
       lambda-made go place level (deeper depth) t form s c (cut (length s.scope) u) (body-made go place level (deeper depth) t (stamp (next_frame (counted s)) form) (counted (counted s)) c u w e)
+  made go depth t (one_case word) c u e k w =
+      cases-made go place level (deeper depth) t form s c (cut (length s.scope) u) (body-made go place level (deeper depth) t (stamp (next_frame (counted s)) form) (counted (counted s)) c u w e)
+  made go depth t (block star word) c u e k w =
+      block-made go place level (deeper depth) t form s star c (cut (length s.scope) u) (body-made go place level (deeper depth) t (stamp (next_frame s) form) (counted s) c u w e)
 
-  -- where the form in a procedure is too deep for the first pass
-  too-deep-in : (go : Inside) (depth : ℕ) (t word : Tree) (f : Fault) → go.item (lambda_at (next_frame (counted (counted s))) place level) (deeper depth) begun (within (body word) s form) (next (body word) s) ≡ Err f
+  -- where the form in a body is too deep for the first pass
+  too-deep-in : (go : Inside) (depth : ℕ) (t word : Tree) (f : Fault) → go.item (lambda_at (next_frame (counted (counted s))) place level) (deeper depth) begun (in_frames (counted s) form) (counted (counted (counted s))) ≡ Err f
       → perform go place level depth t (plan place (body word) form) s ≡ Err f
   unfolding perform
   too-deep-in go depth t word f e =
       lambda-faulted go place level (deeper depth) t form s f (body-too-deep go place level (deeper depth) t (stamp (next_frame (counted s)) form) (counted (counted s)) f e)
+
+  too-deep-case : (go : Inside) (depth : ℕ) (t word : Tree) (f : Fault) → go.item (lambda_at (next_frame (counted (counted s))) place level) (deeper depth) begun (in_frames (counted s) form) (counted (counted (counted s))) ≡ Err f
+      → perform go place level depth t (plan place (one_case word) form) s ≡ Err f
+  unfolding perform
+  too-deep-case go depth t word f e =
+      cases-faulted go place level (deeper depth) t form s f (body-too-deep go place level (deeper depth) t (stamp (next_frame (counted s)) form) (counted (counted s)) f e)
+
+  too-deep-block : (go : Inside) (depth : ℕ) (t word : Tree) (star : Bool) (f : Fault) → go.item (lambda_at (next_frame (counted s)) place level) (deeper depth) begun (in_frames s form) (counted (counted s)) ≡ Err f
+      → perform go place level depth t (plan place (block star word) form) s ≡ Err f
+  unfolding perform
+  too-deep-block go depth t word star f e =
+      block-faulted go place level (deeper depth) t form s star f (body-too-deep go place level (deeper depth) t (stamp (next_frame s) form) (counted s) f e)
 
 module _ (records : List LibRecord) (place : Span) (level : ℕ) where
   at-room : (a b depth : ℕ) (u : Tree) (s : State) → a ≡ b → (inside records a).form place level depth u s ≡ (inside records b).form place level depth u s
@@ -291,30 +341,27 @@ module _ (records : List LibRecord) (place : Span) (level : ℕ) where
   atom-is : (room depth : ℕ) (o : Option Span) (a : Atom) (s : State) → depth ≤ most_round → is_nil_atom a ≡ false → (inside records (suc room)).form place level depth (atom o a) s ≡ Ok (quoted (strip (atom o a)), s)
   atom-is room depth o a s few some = form-is records room place level depth (atom o a) s ∙ constant-is (inside records room) place level depth o a s few some
 
-  -- Right in a procedure, twice stamped.
+  -- Right in a body, with the stamps of two frames.
 
-  abbrev twice : State → Tree → Tree
-  twice s t = stamp (next_frame (counted (counted s))) (stamp (next_frame (counted s)) t)
+  frames-put-in : (s : State) (rs : List Round) (t : Tree) → in_frames s (put_in rs t) ≡ put_in (rounds_in_frames s rs) (in_frames s t)
+  frames-put-in s rs t =
+      ap (stamp (next_frame (counted s))) (stamp-put-in (next_frame s) rs t) ∙ stamp-put-in (next_frame (counted s)) (map (stamp_round (next_frame s)) rs) (stamp (next_frame s) t)
 
-  abbrev rounds_twice : State → List Round → List Round
-  rounds_twice s rs = map (stamp_round (next_frame (counted (counted s)))) (map (stamp_round (next_frame (counted s))) rs)
+  frames-leaf : (s : State) (t : Tree) → is_leaf (in_frames s t) ≡ is_leaf t
+  frames-leaf s t = stamp-leaf (next_frame (counted s)) (stamp (next_frame s) t) ∙ stamp-leaf (next_frame s) t
 
-  twice-is : (s : State) (rs : List Round) (t : Tree) → twice s (put_in rs t) ≡ put_in (rounds_twice s rs) (twice s t)
-  twice-is s rs t =
-      ap (stamp (next_frame (counted (counted s)))) (stamp-put-in (next_frame (counted s)) rs t)
-      ∙ stamp-put-in (next_frame (counted (counted s))) (map (stamp_round (next_frame (counted s))) rs) (stamp (next_frame (counted s)) t)
+  frames-fault : (s : State) (t : Tree) → fault_at kind.TooDeep (in_frames s t) place [] ≡ fault_at kind.TooDeep t place []
+  frames-fault s t = stamp-fault (next_frame (counted s)) (stamp (next_frame s) t) place ∙ stamp-fault (next_frame s) t place
 
-  twice-leaf : (s : State) (t : Tree) → is_leaf (twice s t) ≡ is_leaf t
-  twice-leaf s t = stamp-leaf (next_frame (counted (counted s))) (stamp (next_frame (counted s)) t) ∙ stamp-leaf (next_frame (counted s)) t
+  frames-length : (s : State) (rs : List Round) → length (rounds_in_frames s rs) ≡ length rs
+  frames-length s rs = stamp-length (next_frame (counted s)) (map (stamp_round (next_frame s)) rs) ∙ stamp-length (next_frame s) rs
 
-  twice-fault : (s : State) (t : Tree) → fault_at kind.TooDeep (twice s t) place [] ≡ fault_at kind.TooDeep t place []
-  twice-fault s t = stamp-fault (next_frame (counted (counted s))) (stamp (next_frame (counted s)) t) place ∙ stamp-fault (next_frame (counted s)) t place
+  frames-alone : (s : State) (rs : List Round) → IsAlone rs → IsAlone (rounds_in_frames s rs)
+  frames-alone s rs h = stamp-alone (next_frame (counted s)) (map (stamp_round (next_frame s)) rs) (stamp-alone (next_frame s) rs h)
 
-  twice-length : (s : State) (rs : List Round) → length (rounds_twice s rs) ≡ length rs
-  twice-length s rs = stamp-length (next_frame (counted (counted s))) (map (stamp_round (next_frame (counted s))) rs) ∙ stamp-length (next_frame (counted s)) rs
-
-  twice-alone : (s : State) (rs : List Round) → IsAlone rs → IsAlone (rounds_twice s rs)
-  twice-alone s rs h = stamp-alone (next_frame (counted (counted s))) (map (stamp_round (next_frame (counted s))) rs) (stamp-alone (next_frame (counted s)) rs h)
+  block-alone : (level : ℕ) (s : State) (star : Bool) (word : Tree) (rs : List Round) → IsRound level s (block star word) rs → IsAlone rs
+  block-alone level s false word rs is = is.1
+  block-alone level s true word rs is = is.1
 
   first-is : (at : BodyAt) (depth : ℕ) (q : Round) (qs : List Round) (x : Tree) (s : State) → is_leaf x ≡ false → AreRound level s (q ∷ qs) → IsAlone (q ∷ qs) → IsPlanned at depth (put_in (q ∷ qs) x) s
   first-is at depth q qs x s inner (round is more) h = item-is at depth (put_in qs x) s (not-leaf qs x inner) level q qs is h
@@ -322,16 +369,16 @@ module _ (records : List LibRecord) (place : Span) (level : ℕ) where
   few-deeper : (depth m : ℕ) → depth ≤ most_round → suc depth ≤ m → deeper depth ≤ m
   few-deeper depth m few h = subst (λ k. k ≤ m) (sym (one-deeper depth few)) h
 
-  taken-in : (word : Tree) (q : Round) (rs : List Round) (t : Tree) (room depth : ℕ) (s : State) → suc depth ≤ most_round → is_leaf t ≡ false → IsAlone (q ∷ rs) → AreRound level (next (body word) s) (rounds_within (body word) s (q ∷ rs))
-      → Taking (inside records (suc room)) place level (deeper depth) (body word) s (put_in (q ∷ rs) t)
-  taken-in word q rs t room depth s few inner h more =
-      subst (λ y. IsTaken (inside records (suc room)) (lambda_at (next_frame (counted (counted s))) place level) (deeper depth) y (next (body word) s)) (sym (twice-is s (q ∷ rs) t))
-      (is-taken records room (lambda_at (next_frame (counted (counted s))) place level) (deeper depth) (put_in (rounds_twice s (q ∷ rs)) (twice s t)) (next (body word) s) (few-deeper depth most_round (omega (arith, few)) few)
-      (first-is (lambda_at (next_frame (counted (counted s))) place level) (deeper depth) (stamp_round (next_frame (counted (counted s))) (stamp_round (next_frame (counted s)) q)) (rounds_twice s rs) (twice s t)
-      (next (body word) s) (twice-leaf s t ∙ inner) more (twice-alone s (q ∷ rs) h)))
+  taken-in : (q : Round) (rs : List Round) (t : Tree) (room depth : ℕ) (s : State) → suc depth ≤ most_round → is_leaf t ≡ false → IsAlone (q ∷ rs) → AreRound level (counted (counted s)) (rounds_in_frames s (q ∷ rs))
+      → TakesIn (inside records (suc room)) place level (deeper depth) s (put_in (q ∷ rs) t)
+  taken-in q rs t room depth s few inner h more =
+      subst (λ y. IsTaken (inside records (suc room)) (lambda_at (next_frame (counted s)) place level) (deeper depth) y (counted (counted s))) (sym (frames-put-in s (q ∷ rs) t))
+      (is-taken records room (lambda_at (next_frame (counted s)) place level) (deeper depth) (put_in (rounds_in_frames s (q ∷ rs)) (in_frames s t)) (counted (counted s)) (few-deeper depth most_round (omega (arith, few)) few)
+      (first-is (lambda_at (next_frame (counted s)) place level) (deeper depth) (stamp_round (next_frame (counted s)) (stamp_round (next_frame s) q)) (rounds_in_frames s rs) (in_frames s t)
+      (counted (counted s)) (frames-leaf s t ∙ inner) more (frames-alone s (q ∷ rs) h)))
 
-  at-taking : (a b depth : ℕ) (word form : Tree) (s : State) → a ≡ b → Taking (inside records a) place level depth (body word) s form → Taking (inside records b) place level depth (body word) s form
-  at-taking a b depth word form s e h = subst (λ n. Taking (inside records n) place level depth (body word) s form) e h
+  at-taking : (a b depth : ℕ) (form : Tree) (s : State) → a ≡ b → TakesIn (inside records a) place level depth s form → TakesIn (inside records b) place level depth s form
+  at-taking a b depth form s e h = subst (λ n. TakesIn (inside records n) place level depth s form) e h
 
   -- with so many round it
   abbrev Refuses : ℕ → Type 0
@@ -350,9 +397,17 @@ module _ (records : List LibRecord) (place : Span) (level : ℕ) where
       ∙ all (stamp (next_frame s) t) (map (stamp_round (next_frame s)) rs) room depth (counted s) (stamp-leaf (next_frame s) t ∙ inner) (stamp-length (next_frame s) rs ∙ e) is h
       ∙ ap (λ (f : Fault). Err f) (stamp-fault (next_frame s) t place)
   refused-within n all (body word) t rs room depth s inner e is h =
-      ap (λ x. (inside records (n + room)).form place level depth x (next (body word) s)) (twice-is s rs t)
-      ∙ all (twice s t) (rounds_twice s rs) room depth (next (body word) s) (twice-leaf s t ∙ inner) (twice-length s rs ∙ e) is h
-      ∙ ap (λ (f : Fault). Err f) (twice-fault s t)
+      ap (λ x. (inside records (n + room)).form place level depth x (counted (counted (counted s)))) (frames-put-in (counted s) rs t)
+      ∙ all (in_frames (counted s) t) (rounds_in_frames (counted s) rs) room depth (counted (counted (counted s))) (frames-leaf (counted s) t ∙ inner) (frames-length (counted s) rs ∙ e) is h
+      ∙ ap (λ (f : Fault). Err f) (frames-fault (counted s) t)
+  refused-within n all (one_case word) t rs room depth s inner e is h =
+      ap (λ x. (inside records (n + room)).form place level depth x (counted (counted (counted s)))) (frames-put-in (counted s) rs t)
+      ∙ all (in_frames (counted s) t) (rounds_in_frames (counted s) rs) room depth (counted (counted (counted s))) (frames-leaf (counted s) t ∙ inner) (frames-length (counted s) rs ∙ e) is h
+      ∙ ap (λ (f : Fault). Err f) (frames-fault (counted s) t)
+  refused-within n all (block star word) t rs room depth s inner e is h =
+      ap (λ x. (inside records (n + room)).form place level depth x (counted (counted s))) (frames-put-in s rs t)
+      ∙ all (in_frames s t) (rounds_in_frames s rs) room depth (counted (counted s)) (frames-leaf s t ∙ inner) (frames-length s rs ∙ e) is h
+      ∙ ap (λ (f : Fault). Err f) (frames-fault s t)
 
   -- one more of them
   refused-in : (n : ℕ) → Refuses n → (r : Round) (t : Tree) (rs : List Round) (room depth : ℕ) (s : State) → is_leaf t ≡ false → length rs ≡ n → IsRound level s r rs → AreRound level (next r s) (rounds_within r s rs) → depth + suc n ≡ most_round + 1
@@ -371,15 +426,37 @@ module _ (records : List LibRecord) (place : Span) (level : ℕ) where
       faulted place level (put_in rs t) s (inside records (n + room)) depth (put (keywords recursive word) (put_in rs t)) (keywords recursive word) (fault_at kind.TooDeep t place []) (at-depth (n + room) depth (within (keywords recursive word) s (put_in rs t)) (next (keywords recursive word) s) (omega (arith, h)) ∙ refused-within n all (keywords recursive word) t rs room (suc depth) s inner e more (omega (arith, h))) tt
   refused-in zero all (body word) t [] room depth s inner e is more h =
       too-deep-in place level t s (inside records (zero + room)) depth (put (body word) t) word (fault_at kind.TooDeep t place [])
-      (shallow-inside records (zero + room) (lambda_at (next_frame (counted (counted s))) place level) (deeper depth) begun (twice s t) (next (body word) s)
+      (shallow-inside records (zero + room) (lambda_at (next_frame (counted (counted s))) place level) (deeper depth) begun (in_frames (counted s) t) (counted (counted (counted s)))
       (over (deeper depth) (subst (λ k. most_round < k) (sym (one-deeper depth (omega (arith, h)))) (omega (arith, h))))
-      ∙ ap (λ (f : Fault). Err f) (twice-fault s t))
+      ∙ ap (λ (f : Fault). Err f) (frames-fault (counted s) t))
   refused-in zero all (body word) t (q ∷ rs) room depth s inner e is more h = let n : ⊥ = omega (arith, e) in elim n [ ]
   refused-in (suc n) all (body word) t [] room depth s inner e is more h = let n : ⊥ = omega (arith, e) in elim n [ ]
   refused-in (suc n) all (body word) t (q ∷ rs) room depth s inner e is more h =
       faulted place level (put_in (q ∷ rs) t) s (inside records (suc n + room)) depth (put (body word) (put_in (q ∷ rs) t)) (body word) (fault_at kind.TooDeep t place [])
       (at-depth (suc n + room) depth (within (body word) s (put_in (q ∷ rs) t)) (next (body word) s) (omega (arith, h)) ∙ refused-within (suc n) all (body word) t (q ∷ rs) room (suc depth) s inner e more (omega (arith, h)))
-      (at-taking (suc (n + room)) (suc n + room) (deeper depth) word (put_in (q ∷ rs) t) s (omega arith) (taken-in word q rs t (n + room) depth s (omega (arith, h)) inner is.1 more))
+      (at-taking (suc (n + room)) (suc n + room) (deeper depth) (put_in (q ∷ rs) t) (counted s) (omega arith) (taken-in q rs t (n + room) depth (counted s) (omega (arith, h)) inner is.1 more))
+  refused-in zero all (one_case word) t [] room depth s inner e is more h =
+      too-deep-case place level t s (inside records (zero + room)) depth (put (one_case word) t) word (fault_at kind.TooDeep t place [])
+      (shallow-inside records (zero + room) (lambda_at (next_frame (counted (counted s))) place level) (deeper depth) begun (in_frames (counted s) t) (counted (counted (counted s)))
+      (over (deeper depth) (subst (λ k. most_round < k) (sym (one-deeper depth (omega (arith, h)))) (omega (arith, h))))
+      ∙ ap (λ (f : Fault). Err f) (frames-fault (counted s) t))
+  refused-in zero all (one_case word) t (q ∷ rs) room depth s inner e is more h = let n : ⊥ = omega (arith, e) in elim n [ ]
+  refused-in (suc n) all (one_case word) t [] room depth s inner e is more h = let n : ⊥ = omega (arith, e) in elim n [ ]
+  refused-in (suc n) all (one_case word) t (q ∷ rs) room depth s inner e is more h =
+      faulted place level (put_in (q ∷ rs) t) s (inside records (suc n + room)) depth (put (one_case word) (put_in (q ∷ rs) t)) (one_case word) (fault_at kind.TooDeep t place [])
+      (at-depth (suc n + room) depth (within (one_case word) s (put_in (q ∷ rs) t)) (next (one_case word) s) (omega (arith, h)) ∙ refused-within (suc n) all (one_case word) t (q ∷ rs) room (suc depth) s inner e more (omega (arith, h)))
+      (at-taking (suc (n + room)) (suc n + room) (deeper depth) (put_in (q ∷ rs) t) (counted s) (omega arith) (taken-in q rs t (n + room) depth (counted s) (omega (arith, h)) inner is.1 more))
+  refused-in zero all (block star word) t [] room depth s inner e is more h =
+      too-deep-block place level t s (inside records (zero + room)) depth (put (block star word) t) word star (fault_at kind.TooDeep t place [])
+      (shallow-inside records (zero + room) (lambda_at (next_frame (counted s)) place level) (deeper depth) begun (in_frames s t) (counted (counted s))
+      (over (deeper depth) (subst (λ k. most_round < k) (sym (one-deeper depth (omega (arith, h)))) (omega (arith, h))))
+      ∙ ap (λ (f : Fault). Err f) (frames-fault s t))
+  refused-in zero all (block star word) t (q ∷ rs) room depth s inner e is more h = let n : ⊥ = omega (arith, e) in elim n [ ]
+  refused-in (suc n) all (block star word) t [] room depth s inner e is more h = let n : ⊥ = omega (arith, e) in elim n [ ]
+  refused-in (suc n) all (block star word) t (q ∷ rs) room depth s inner e is more h =
+      faulted place level (put_in (q ∷ rs) t) s (inside records (suc n + room)) depth (put (block star word) (put_in (q ∷ rs) t)) (block star word) (fault_at kind.TooDeep t place [])
+      (at-depth (suc n + room) depth (within (block star word) s (put_in (q ∷ rs) t)) (next (block star word) s) (omega (arith, h)) ∙ refused-within (suc n) all (block star word) t (q ∷ rs) room (suc depth) s inner e more (omega (arith, h)))
+      (at-taking (suc (n + room)) (suc n + room) (deeper depth) (put_in (q ∷ rs) t) s (omega arith) (taken-in q rs t (n + room) depth s (omega (arith, h)) inner (block-alone level s star word (q ∷ rs) is) more))
 
   refuses : (n : ℕ) → Refuses n
   refuses zero t [] room depth s inner e is h = too-deep-form records (zero + room) place level depth t s (over depth (omega (arith, h)))
@@ -398,6 +475,12 @@ module _ (records : List LibRecord) (place : Span) (level : ℕ) where
     Takes n = (rs : List Round) (room depth : ℕ) (s : State) → length rs ≡ n → AreRound level s rs → depth + n ≤ most_round
         → (inside records (n + suc room)).form place level depth (put_in rs (atom o a)) s ≡ Ok (code_in place rs s constant, all_left rs s)
 
+    frames-code : (s : State) (rs : List Round) (u : State) → code_in place (rounds_in_frames s rs) u constant ≡ code_in place rs u constant
+    frames-code s rs u = stamp-code-in (next_frame (counted s)) place (map (stamp_round (next_frame s)) rs) u constant ∙ stamp-code-in (next_frame s) place rs u constant
+
+    frames-left : (s : State) (rs : List Round) (u : State) → all_left (rounds_in_frames s rs) u ≡ all_left rs u
+    frames-left s rs u = stamp-all-left (next_frame (counted s)) (map (stamp_round (next_frame s)) rs) u ∙ stamp-all-left (next_frame s) rs u
+
     taken-within : (n : ℕ) → Takes n → (r : Round) (rs : List Round) (room depth : ℕ) (s : State) → length rs ≡ n → AreRound level (next r s) (rounds_within r s rs) → depth + n ≤ most_round
         → (inside records (n + suc room)).form place level depth (within r s (put_in rs (atom o a))) (next r s) ≡ Ok (code_in place rs (next r s) constant, all_left rs (next r s))
     taken-within n all (sequence word) rs room depth s e is h = all rs room depth s e is h
@@ -410,18 +493,23 @@ module _ (records : List LibRecord) (place : Span) (level : ℕ) where
         ∙ all (map (stamp_round (next_frame s)) rs) room depth (counted s) (stamp-length (next_frame s) rs ∙ e) is h
         ∙ (λ i. Ok (stamp-code-in (next_frame s) place rs (counted s) constant i, stamp-all-left (next_frame s) rs (counted s) i))
     taken-within n all (body word) rs room depth s e is h =
-        let f : FrameNo = next_frame (counted s) in
-        let g : FrameNo = next_frame (counted (counted s)) in
-        let u : State = next (body word) s in
-        ap (λ x. (inside records (n + suc room)).form place level depth x u) (twice-is s rs (atom o a))
-        ∙ all (rounds_twice s rs) room depth u (twice-length s rs ∙ e) is h
-        ∙ (λ i. Ok (stamp-code-in g place (map (stamp_round f) rs) u constant i, stamp-all-left g (map (stamp_round f) rs) u i)) ∙ (λ i. Ok (stamp-code-in f place rs u constant i, stamp-all-left f rs u i))
+        ap (λ x. (inside records (n + suc room)).form place level depth x (counted (counted (counted s)))) (frames-put-in (counted s) rs (atom o a))
+        ∙ all (rounds_in_frames (counted s) rs) room depth (counted (counted (counted s))) (frames-length (counted s) rs ∙ e) is h
+        ∙ (λ i. Ok (frames-code (counted s) rs (counted (counted (counted s))) i, frames-left (counted s) rs (counted (counted (counted s))) i))
+    taken-within n all (one_case word) rs room depth s e is h =
+        ap (λ x. (inside records (n + suc room)).form place level depth x (counted (counted (counted s)))) (frames-put-in (counted s) rs (atom o a))
+        ∙ all (rounds_in_frames (counted s) rs) room depth (counted (counted (counted s))) (frames-length (counted s) rs ∙ e) is h
+        ∙ (λ i. Ok (frames-code (counted s) rs (counted (counted (counted s))) i, frames-left (counted s) rs (counted (counted (counted s))) i))
+    taken-within n all (block star word) rs room depth s e is h =
+        ap (λ x. (inside records (n + suc room)).form place level depth x (counted (counted s))) (frames-put-in s rs (atom o a))
+        ∙ all (rounds_in_frames s rs) room depth (counted (counted s)) (frames-length s rs ∙ e) is h
+        ∙ (λ i. Ok (frames-code s rs (counted (counted s)) i, frames-left s rs (counted (counted s)) i))
 
-    waits-in : (word : Tree) (rs : List Round) (room depth : ℕ) (s : State) → suc depth ≤ most_round → IsAlone rs → AreRound level (next (body word) s) (rounds_within (body word) s rs)
-        → Taking (inside records (suc room)) place level (deeper depth) (body word) s (put_in rs (atom o a))
-    waits-in word [] room depth s few h more =
-        is-taken records room (lambda_at (next_frame (counted (counted s))) place level) (deeper depth) (atom o a) (next (body word) s) (few-deeper depth most_round (omega (arith, few)) few) (record { kept = begun.kept; planned = refl })
-    waits-in word (q ∷ rs) room depth s few h more = taken-in word q rs (atom o a) room depth s few refl h more
+    waits-in : (rs : List Round) (room depth : ℕ) (s : State) → suc depth ≤ most_round → IsAlone rs → AreRound level (counted (counted s)) (rounds_in_frames s rs)
+        → TakesIn (inside records (suc room)) place level (deeper depth) s (put_in rs (atom o a))
+    waits-in [] room depth s few h more =
+        is-taken records room (lambda_at (next_frame (counted s)) place level) (deeper depth) (atom o a) (counted (counted s)) (few-deeper depth most_round (omega (arith, few)) few) (record { kept = begun.kept; planned = refl })
+    waits-in (q ∷ rs) room depth s few h more = taken-in q rs (atom o a) room depth s few refl h more
 
     truth-is : (n room depth : ℕ) (u : State) → suc depth ≤ most_round → (inside records (n + suc room)).form place level (deeper depth) truth u ≡ Ok (quoted (strip truth), u)
     truth-is n room depth u few =
@@ -456,7 +544,15 @@ module _ (records : List LibRecord) (place : Span) (level : ℕ) where
     made-in n all (body word) rs room depth s e is more h =
         made place level (put_in rs (atom o a)) s (inside records (n + suc room)) depth (put (body word) (put_in rs (atom o a))) (body word) (code_in place rs (next (body word) s) constant) (all_left rs (next (body word) s))
         (at-depth (n + suc room) depth (within (body word) s (put_in rs (atom o a))) (next (body word) s) (omega (arith, h)) ∙ taken-within n all (body word) rs room (suc depth) s e more (omega (arith, h)))
-        (truth-is n room depth (all_left rs (next (body word) s)) (omega (arith, h))) (at-taking (suc (n + room)) (n + suc room) (deeper depth) word (put_in rs (atom o a)) s (omega arith) (waits-in word rs (n + room) depth s (omega (arith, h)) is.1 more))
+        (truth-is n room depth (all_left rs (next (body word) s)) (omega (arith, h))) (at-taking (suc (n + room)) (n + suc room) (deeper depth) (put_in rs (atom o a)) (counted s) (omega arith) (waits-in rs (n + room) depth (counted s) (omega (arith, h)) is.1 more))
+    made-in n all (one_case word) rs room depth s e is more h =
+        made place level (put_in rs (atom o a)) s (inside records (n + suc room)) depth (put (one_case word) (put_in rs (atom o a))) (one_case word) (code_in place rs (next (one_case word) s) constant) (all_left rs (next (one_case word) s))
+        (at-depth (n + suc room) depth (within (one_case word) s (put_in rs (atom o a))) (next (one_case word) s) (omega (arith, h)) ∙ taken-within n all (one_case word) rs room (suc depth) s e more (omega (arith, h)))
+        (truth-is n room depth (all_left rs (next (one_case word) s)) (omega (arith, h))) (at-taking (suc (n + room)) (n + suc room) (deeper depth) (put_in rs (atom o a)) (counted s) (omega arith) (waits-in rs (n + room) depth (counted s) (omega (arith, h)) is.1 more))
+    made-in n all (block star word) rs room depth s e is more h =
+        made place level (put_in rs (atom o a)) s (inside records (n + suc room)) depth (put (block star word) (put_in rs (atom o a))) (block star word) (code_in place rs (next (block star word) s) constant) (all_left rs (next (block star word) s))
+        (at-depth (n + suc room) depth (within (block star word) s (put_in rs (atom o a))) (next (block star word) s) (omega (arith, h)) ∙ taken-within n all (block star word) rs room (suc depth) s e more (omega (arith, h)))
+        (truth-is n room depth (all_left rs (next (block star word) s)) (omega (arith, h))) (at-taking (suc (n + room)) (n + suc room) (deeper depth) (put_in rs (atom o a)) s (omega arith) (waits-in rs (n + room) depth s (omega (arith, h)) (block-alone level s star word rs is) more))
 
     takes : (n : ℕ) → Takes n
     takes zero [] room depth s e is h = at-room (zero + suc room) (suc room) depth (atom o a) s (omega arith) ∙ atom-is room depth o a s (omega (arith, h)) some

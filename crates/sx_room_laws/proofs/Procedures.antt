@@ -1,5 +1,5 @@
--- The body of a procedure of one form, which waits for the second pass.
-use Rattle.std.proofs.Common.{◌≡◌, ◌≤◌, ℕ, zero, suc, ◌+◌, true, false, List, [], ◌∷◌, length, None, Some, Result, Ok, Err, refl, ◌∙◌, ap, if◌then◌else◌}
+-- Bodies of one form, which waits for the second pass, and what has such a body.
+use Rattle.std.proofs.Common.{◌≡◌, ◌≤◌, ℕ, zero, suc, ◌+◌, Bool, true, false, List, [], ◌∷◌, length, None, Some, Result, Ok, Err, refl, ◌∙◌, ap, if◌then◌else◌}
 use Rattle.sx_base.specs.Act.{after, give, each, gather}
 use Rattle.sx_base.specs.declared.fault.Fault.{Fault}
 use Rattle.sx_base.specs.declared.fault.FaultKind.TheVariants as kind
@@ -7,14 +7,15 @@ use Rattle.sx_base.specs.declared.name.FrameNo.{FrameNo}
 use Rattle.sx_base.specs.declared.span.Span.{Span}
 use Rattle.sx_tree.specs.Changes.{stamp}
 use Rattle.sx_tree.specs.Tree.{Tree, pair}
-use Rattle.sx_core.specs.Core.{PlainCore, procedure}
-use Rattle.sx_core.specs.CoreView.{cases}
+use Rattle.sx_core.specs.Core.{PlainCore, procedure, letrec}
+use Rattle.sx_core.specs.CoreView.{cases, inits}
 use Rattle.sx_core.specs.declared.core_form.CoreForm.{CoreForm}
 use Rattle.sx_core.specs.declared.code.Lambda.{Lambda}
 use Rattle.sx_core.specs.declared.formals.Formals.{Formals}
 use Rattle.sx_core.specs.declared.record.LibRecord.{LibRecord}
 use Rattle.sx_core.specs.declared.record.Line.TheVariants as line
 use Rattle.sx_shapes.specs.declared.shape.FormalIds.{FormalIds}
+use Rattle.sx_shapes.specs.declared.shape.LambdaCase.{LambdaCase}
 use Rattle.sx_standing.specs.Binders.{bind_formals}
 use Rattle.sx_standing.specs.InScope.{leaving, cut}
 use Rattle.sx_standing.specs.Standing.{standing_of}
@@ -26,9 +27,9 @@ use Rattle.sx_heads.specs.declared.item.Item.TheVariants as items
 use Rattle.sx_heads.specs.declared.taken.BodyAt.{BodyAt}
 use Rattle.sx_heads.specs.declared.taken.Taken.{Taken}
 use Rattle.sx_heads.specs.declared.taken.Waits.TheVariants as waits
-use Rattle.sx_expand.specs.Body.{body, body_core, finish, finish_as, finish_one, item, lambda_at, perform_item, perform_settled}
 use Rattle.sx_heads.specs.Depth.{most_round}
-use Rattle.sx_expand.specs.Expression.{lambda, lambda_case, inside}
+use Rattle.sx_expand.specs.Body.{body, body_core, finish, finish_as, finish_one, item, lambda_at, perform_item, perform_settled}
+use Rattle.sx_expand.specs.Expression.{case_lambda, lambda, lambda_case, letrec_form, one_case, inside}
 use Rattle.sx_expand.specs.Inside.{Inside}
 use Rattle.sx_expand.specs.Settle.{at_use, item_by, item_step, item_step_of, next_form, settle_item, settle_item_to, too_many}
 use Rattle.sx_room_laws.specs.Counted.{IsWord, counted}
@@ -130,3 +131,36 @@ module _ (go : Inside) (place : Span) (level depth : ℕ) (t form : Tree) (s : S
   pub lambda-made : (c : PlainCore) (v : State) → body go place level depth t (stamp (record { 0 = (counted s).names }) form ∷ []) (counted (counted s)) ≡ Ok (c, v)
       → lambda go place level depth t no_ids (form ∷ []) s ≡ Ok (procedure (record { 0 = s.names }) (cases (record { formals = no_formals; body = c } ∷ [])) true, cut (length s.scope) v)
   lambda-made c v h = lambda-is (Ok (c, v)) h
+
+  -- and one case of `case-lambda`
+  abbrev pub the_case : LambdaCase
+  the_case = record { formals = no_ids; body = form ∷ [] }
+
+  cases-are : (r : Result (PlainCore × State) Fault) → body go place level depth t (stamp (record { 0 = (counted s).names }) form ∷ []) (counted (counted s)) ≡ r
+      → case_lambda go place level depth t (the_case ∷ []) s
+      ≡ after (after (after (after r (λ c. give (record { formals = no_formals; body = c }))) (leaving (length s.scope))) (λ (c : Lambda). each (one_case go place level depth t) (c ∷ []) [])) (λ cs. give (procedure (record { 0 = s.names }) (cases cs) false))
+  unfolding case_lambda lambda_case fresh fresh_frame bind_formals each
+  cases-are r h =
+      ap (λ x. after (after (after (after x (λ c. give (record { formals = no_formals; body = c }))) (leaving (length s.scope))) (λ (c : Lambda). each (one_case go place level depth t) (c ∷ []) []))
+      (λ cs. give (procedure (record { 0 = s.names }) (cases cs) false))) h
+
+  pub cases-faulted : (e : Fault) → body go place level depth t (stamp (record { 0 = (counted s).names }) form ∷ []) (counted (counted s)) ≡ Err e → case_lambda go place level depth t (the_case ∷ []) s ≡ Err e
+  cases-faulted e h = cases-are (Err e) h
+
+  pub cases-made : (c : PlainCore) (v : State) → body go place level depth t (stamp (record { 0 = (counted s).names }) form ∷ []) (counted (counted s)) ≡ Ok (c, v)
+      → case_lambda go place level depth t (the_case ∷ []) s ≡ Ok (procedure (record { 0 = s.names }) (cases (record { formals = no_formals; body = c } ∷ [])) false, cut (length s.scope) v)
+  unfolding each
+  cases-made c v h = cases-are (Ok (c, v)) h
+
+  -- `letrec` and `letrec*` without variables
+  block-is : (star : Bool) (r : Result (PlainCore × State) Fault) → body go place level depth t (stamp (record { 0 = s.names }) form ∷ []) (counted s) ≡ r
+      → letrec_form go place level depth t star [] (form ∷ []) s ≡ after (after r (λ c. give (letrec star (inits []) c))) (leaving (length s.scope))
+  unfolding letrec_form fresh_frame each
+  block-is star r h = ap (λ x. after (after x (λ c. give (letrec star (inits []) c))) (leaving (length s.scope))) h
+
+  pub block-faulted : (star : Bool) (e : Fault) → body go place level depth t (stamp (record { 0 = s.names }) form ∷ []) (counted s) ≡ Err e → letrec_form go place level depth t star [] (form ∷ []) s ≡ Err e
+  block-faulted star e h = block-is star (Err e) h
+
+  pub block-made : (star : Bool) (c : PlainCore) (v : State) → body go place level depth t (stamp (record { 0 = s.names }) form ∷ []) (counted s) ≡ Ok (c, v)
+      → letrec_form go place level depth t star [] (form ∷ []) s ≡ Ok (letrec star (inits []) c, cut (length s.scope) v)
+  block-made star c v h = block-is star (Ok (c, v)) h

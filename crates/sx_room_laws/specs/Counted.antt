@@ -1,5 +1,5 @@
--- Sequences, applications, assignments, procedures and forms of `if`, `syntax-case`, `let-syntax` and `letrec-syntax` count alike: each makes what lies in it
--- one deeper, and no more.
+-- Sequences, applications, assignments, procedures and forms of `if`, `syntax-case`, `letrec`, `letrec*`, `let-syntax` and `letrec-syntax` count alike: each
+-- makes what lies in it one deeper, and no more.
 use Rattle.std.specs.Prelude.{◌≡◌, ℕ, ◌≤◌, ◌+◌, Bool, true, false, List, [], ◌∷◌, map, length, Option, None, Ok}
 use Rattle.sx_base.specs.declared.atom.Atom.{Atom}
 use Rattle.sx_base.specs.declared.atom.Atom.TheVariants as atoms
@@ -9,7 +9,7 @@ use Rattle.sx_base.specs.declared.span.Span.{Span}
 use Rattle.sx_tree.specs.Changes.{stamp}
 use Rattle.sx_tree.specs.Tree.{Tree, atom, pair, nil}
 use Rattle.sx_tree.specs.Leaves.{strip}
-use Rattle.sx_core.specs.Core.{PlainCore, quoted, one_armed, assignment, procedure, call, matching, none, no_case, case, no_clause}
+use Rattle.sx_core.specs.Core.{PlainCore, quoted, one_armed, assignment, procedure, letrec, call, matching, none, no_init, no_case, case, no_clause}
 use Rattle.sx_core.specs.Labels.{has_label, with_label}
 use Rattle.sx_core.specs.declared.core_form.CoreForm.{CoreForm}
 use Rattle.sx_core.specs.declared.core_form.CoreForm.TheVariants as core_forms
@@ -24,7 +24,7 @@ use Rattle.sx_heads.specs.Depth.{most_round}
 use Rattle.sx_expand.specs.Expanding.{expression}
 
 -- What stands right round a form: `(begin form)`, `(form)`, `(if form #t)`, `(syntax-case form ())`, `(set! id form)`, `(let-syntax () form)`, which is
--- `(letrec-syntax () form)` where it is recursive, or `(lambda () form)`. A keyword is an identifier that stands for it, and the target of an assignment one that stands for the variable.
+-- `(letrec-syntax () form)` where it is recursive, `(lambda () form)`, `(case-lambda (() form))`, or `(letrec () form)`, which may be `(letrec* () form)`. A keyword is an identifier that stands for it, and the target of an assignment one that stands for the variable.
 pub data Round : Type 0 where
   sequence : Tree → Round
   operator : Round
@@ -33,6 +33,8 @@ pub data Round : Type 0 where
   value : Tree → Tree → Variable → Round
   keywords : Bool → Tree → Round
   body : Tree → Round
+  one_case : Tree → Round
+  block : Bool → Tree → Round
 
 pub record IsWord (s : State) (f : CoreForm) (word : Tree) : Type 0 where
   pub leaf : is_leaf word ≡ true
@@ -47,7 +49,7 @@ pub record IsTarget (at : ℕ) (s : State) (id : Tree) (v : Variable) : Type 0 w
   pub in_scope : is_in_scope s v ≡ true
   pub inside : has_label s.exports v.label ≡ false
 
--- Right in a procedure stands no sequence, and no form of `let-syntax` or `letrec-syntax`: the forms of these are forms of the body there.
+-- Right in a body stands no sequence, and no form of `let-syntax` or `letrec-syntax`: the forms of these are forms of the body there.
 abbrev pub IsAlone : List Round → Type 0
 IsAlone [] = Unit {0}
 IsAlone (sequence word ∷ rs) = ⊥
@@ -57,6 +59,8 @@ IsAlone (subject word ∷ rs) = Unit {0}
 IsAlone (value word id v ∷ rs) = Unit {0}
 IsAlone (keywords recursive word ∷ rs) = ⊥
 IsAlone (body word ∷ rs) = Unit {0}
+IsAlone (one_case word ∷ rs) = Unit {0}
+IsAlone (block star word ∷ rs) = Unit {0}
 
 -- what stands right round these
 abbrev pub IsRound : ℕ → State → Round → List Round → Type 0
@@ -68,6 +72,9 @@ IsRound level s (value word id v) rs = IsWord s core_forms.Set word × IsTarget 
 IsRound level s (keywords false word) rs = IsWord s core_forms.LetSyntax word
 IsRound level s (keywords true word) rs = IsWord s core_forms.LetrecSyntax word
 IsRound level s (body word) rs = IsWord s core_forms.Lambda word × IsAlone rs
+IsRound level s (one_case word) rs = IsWord s core_forms.CaseLambda word × IsAlone rs
+IsRound level s (block false word) rs = IsWord s core_forms.Letrec word × IsAlone rs
+IsRound level s (block true word) rs = IsWord s core_forms.LetrecStar word × IsAlone rs
 
 -- Where a frame is stamped on what stands in a form, it is stamped on the words.
 abbrev pub stamp_round : FrameNo → Round → Round
@@ -78,6 +85,8 @@ stamp_round f (subject word) = subject (stamp f word)
 stamp_round f (value word id v) = value (stamp f word) (stamp f id) v
 stamp_round f (keywords recursive word) = keywords recursive (stamp f word)
 stamp_round f (body word) = body (stamp f word)
+stamp_round f (one_case word) = one_case (stamp f word)
+stamp_round f (block star word) = block star (stamp f word)
 
 -- with the next name taken
 abbrev pub counted : State → State
@@ -86,7 +95,14 @@ counted s = record s { names = record { library = s.names.library; number = s.na
 abbrev pub next_frame : State → FrameNo
 next_frame s = record { 0 = s.names }
 
--- Forms among keywords have a frame of their own, which takes the next name. The code of a procedure takes a name, its formals have a frame, and so has its body.
+-- the frame of formals or of variables, and that of the body in it
+abbrev pub in_frames : State → Tree → Tree
+in_frames s form = stamp (next_frame (counted s)) (stamp (next_frame s) form)
+
+abbrev pub rounds_in_frames : State → List Round → List Round
+rounds_in_frames s rs = map (stamp_round (next_frame (counted s))) (map (stamp_round (next_frame s)) rs)
+
+-- Forms among keywords have a frame of their own, which takes the next name. The code of a procedure takes a name before its frames.
 abbrev pub within : Round → State → Tree → Tree
 within (sequence word) s form = form
 within operator s form = form
@@ -94,7 +110,9 @@ within (test word) s form = form
 within (subject word) s form = form
 within (value word id v) s form = form
 within (keywords recursive word) s form = stamp (next_frame s) form
-within (body word) s form = stamp (next_frame (counted (counted s))) (stamp (next_frame (counted s)) form)
+within (body word) s form = in_frames (counted s) form
+within (one_case word) s form = in_frames (counted s) form
+within (block star word) s form = in_frames s form
 
 abbrev pub rounds_within : Round → State → List Round → List Round
 rounds_within (sequence word) s rs = rs
@@ -103,7 +121,9 @@ rounds_within (test word) s rs = rs
 rounds_within (subject word) s rs = rs
 rounds_within (value word id v) s rs = rs
 rounds_within (keywords recursive word) s rs = map (stamp_round (next_frame s)) rs
-rounds_within (body word) s rs = map (stamp_round (next_frame (counted (counted s)))) (map (stamp_round (next_frame (counted s))) rs)
+rounds_within (body word) s rs = rounds_in_frames (counted s) rs
+rounds_within (one_case word) s rs = rounds_in_frames (counted s) rs
+rounds_within (block star word) s rs = rounds_in_frames s rs
 
 -- An assignment marks its target before its value is expanded.
 abbrev pub next : Round → State → State
@@ -114,8 +134,10 @@ next (subject word) s = s
 next (value word id v) s = record s { assigned = with_label s.assigned v.label }
 next (keywords recursive word) s = counted s
 next (body word) s = counted (counted (counted s))
+next (one_case word) s = counted (counted (counted s))
+next (block star word) s = counted (counted s)
 
--- What came into scope in a procedure or its body is out of scope after it.
+-- What came into scope in a form with variables or in its body is out of scope after it.
 abbrev pub left : Round → State → State → State
 left (sequence word) s u = u
 left operator s u = u
@@ -124,6 +146,8 @@ left (subject word) s u = u
 left (value word id v) s u = u
 left (keywords recursive word) s u = u
 left (body word) s u = cut (length s.scope) (cut (length s.scope) u)
+left (one_case word) s u = cut (length s.scope) (cut (length s.scope) u)
+left (block star word) s u = cut (length s.scope) (cut (length s.scope) u)
 
 -- the state that is left of all of them
 abbrev pub all_left : List Round → State → State
@@ -146,6 +170,8 @@ put (subject word) form = pair None word (pair None form (pair None nil nil))
 put (value word id v) form = pair None word (pair None id (pair None form nil))
 put (keywords recursive word) form = pair None word (pair None nil (pair None form nil))
 put (body word) form = pair None word (pair None nil (pair None form nil))
+put (one_case word) form = pair None word (pair None (pair None nil (pair None form nil)) nil)
+put (block star word) form = pair None word (pair None nil (pair None form nil))
 
 -- a form in these, the outermost first
 abbrev pub put_in : List Round → Tree → Tree
@@ -161,6 +187,8 @@ code place (subject word) s c = matching c no_clause place
 code place (value word id v) s c = assignment v.label c
 code place (keywords recursive word) s c = c
 code place (body word) s c = procedure (record { 0 = s.names }) (case (record { required = []; rest = None }) c no_case) true
+code place (one_case word) s c = procedure (record { 0 = s.names }) (case (record { required = []; rest = None }) c no_case) false
+code place (block star word) s c = letrec star no_init c
 
 abbrev pub code_in : Span → List Round → State → PlainCore → PlainCore
 code_in place [] s c = c
