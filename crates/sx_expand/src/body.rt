@@ -144,7 +144,7 @@ fn item_at<M: Transformers, N: Ledger, L: Ledger>(
         return Err(state.fault_form(FaultKind::TooDeep, form, &at.place));
     }
     let SettledItem { at, form, item } = settle_item(state, at, depth, taken, form, means, counts)?;
-    perform_item(state, &at, depth, taken, &form, item, means, counts, room)
+    perform_item(state, &at, depth, taken, &form, &item, means, counts, room)
 }
 
 /// What is done with a form of a body that is no use.
@@ -156,12 +156,12 @@ fn perform_item<M: Transformers, N: Ledger, L: Ledger>(
     depth: u16,
     taken: &mut Taken,
     form: &Syn,
-    item: Item,
+    item: &Item,
     means: &M,
     counts: &mut Counts<N, L>,
     room: u16,
 ) -> Result<(), Stop>
-    ensures { GivesAfter (λ _. taken.new) result state.new (perform_item (inside (M.records means.now) room) at.now depth taken.old form.now item state.old) }
+    ensures { GivesAfter (λ _. taken.new) result state.new (perform_item (inside (M.records means.now) room) at.now depth taken.old form.now item.now state.old) }
 {
     let inner = deeper(depth);
     match item {
@@ -177,12 +177,12 @@ fn perform_item<M: Transformers, N: Ledger, L: Ledger>(
             room,
         ),
         Item::Keyword(spec) => define_syntax(
-            state, at, inner, taken, form, &spec, means, counts, room,
+            state, at, inner, taken, form, spec, means, counts, room,
         ),
         Item::Keywords(recursive, specs, forms) => {
             let forms = with_keywords(
                 state,
-                recursive,
+                *recursive,
                 specs.as_slice(),
                 forms.as_slice(),
                 &at.place,

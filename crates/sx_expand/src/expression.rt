@@ -139,6 +139,7 @@ fn form_at<M: Transformers, N: Ledger, L: Ledger>(
     )
 }
 
+/// What is done with a plan: the code of one that is done is taken out of it.
 #[cycle(form)]
 #[tactic(auto, unfolding(crate::specs::Expression::perform))]
 fn perform<M: Transformers, N: Ledger, L: Ledger>(
@@ -154,13 +155,36 @@ fn perform<M: Transformers, N: Ledger, L: Ledger>(
 ) -> Result<Core, Stop>
     ensures { GivesAfter (λ c. c) result state.new (perform (inside (M.records means.now) room) place.now level depth form.now plan state.old) }
 {
-    let inner = deeper(depth);
     match plan {
         Plan::Done(core) => Ok(core),
+        plan => perform_plan(state, form, &plan, place, level, depth, means, counts, room),
+    }
+}
+
+/// As `perform`, of a plan that is only looked at: what lies in it is dropped as a whole by the caller.
+#[cycle(form)]
+#[tactic(auto, unfolding(crate::specs::Expression::perform))]
+fn perform_plan<M: Transformers, N: Ledger, L: Ledger>(
+    state: &mut Expansion,
+    form: &Syn,
+    plan: &Plan,
+    place: &Span,
+    level: u32,
+    depth: u16,
+    means: &M,
+    counts: &mut Counts<N, L>,
+    room: u16,
+) -> Result<Core, Stop>
+    ensures { GivesAfter (λ c. c) result state.new (perform (inside (M.records means.now) room) place.now level depth form.now plan.now state.old) }
+{
+    let inner = deeper(depth);
+    match plan {
+        // This never comes: the caller has taken the code of a plan that is done.
+        Plan::Done(_) => Err(Stop::Memory),
         Plan::Call(operator, operands) => {
             application(
                 state,
-                &operator,
+                operator,
                 operands.as_slice(),
                 place,
                 level,
@@ -172,20 +196,11 @@ fn perform<M: Transformers, N: Ledger, L: Ledger>(
         }
         Plan::Conditional(test, consequent, other) => {
             conditional(
-                state,
-                &test,
-                &consequent,
-                &other,
-                place,
-                level,
-                inner,
-                means,
-                counts,
-                room,
+                state, test, consequent, other, place, level, inner, means, counts, room,
             )
         }
         Plan::Assignment(label, value) => set(
-            state, label, &value, place, level, inner, means, counts, room,
+            state, label, value, place, level, inner, means, counts, room,
         ),
         Plan::Sequence(forms) => in_sequence(
             state,
@@ -200,7 +215,7 @@ fn perform<M: Transformers, N: Ledger, L: Ledger>(
         Plan::Lambda(ids, forms) => lambda(
             state,
             form,
-            &ids,
+            ids,
             forms.as_slice(),
             place,
             level,
@@ -223,7 +238,7 @@ fn perform<M: Transformers, N: Ledger, L: Ledger>(
         Plan::Letrec(star, specs, forms) => letrec_form(
             state,
             form,
-            star,
+            *star,
             specs.as_slice(),
             forms.as_slice(),
             place,
@@ -235,7 +250,7 @@ fn perform<M: Transformers, N: Ledger, L: Ledger>(
         ),
         Plan::Matching(subject, literals, clauses, span) => syntax_case(
             state,
-            &subject,
+            subject,
             literals.as_slice(),
             clauses.as_slice(),
             span,
@@ -248,7 +263,7 @@ fn perform<M: Transformers, N: Ledger, L: Ledger>(
         ),
         Plan::Keywords(recursive, specs, forms) => keywords_form(
             state,
-            recursive,
+            *recursive,
             specs.as_slice(),
             forms.as_slice(),
             place,
@@ -259,7 +274,7 @@ fn perform<M: Transformers, N: Ledger, L: Ledger>(
             room,
         ),
         Plan::Quasi(which, template) => quasi_form(
-            state, form, which, &template, place, level, inner, means, counts, room,
+            state, form, *which, template, place, level, inner, means, counts, room,
         ),
         // No plan of a form that was settled is a use.
         Plan::Use(_) => Err(state.fault_form(FaultKind::BadForm, form, place)),
@@ -349,7 +364,7 @@ fn alternate<M: Transformers, N: Ledger, L: Ledger>(
 #[tactic(auto, unfolding(crate::specs::Expression::set))]
 fn set<M: Transformers, N: Ledger, L: Ledger>(
     state: &mut Expansion,
-    label: Label,
+    label: &Label,
     value: &Syn,
     place: &Span,
     level: u32,
@@ -358,10 +373,11 @@ fn set<M: Transformers, N: Ledger, L: Ledger>(
     counts: &mut Counts<N, L>,
     room: u16,
 ) -> Result<Core, Stop>
-    ensures { GivesAfter (λ c. c) result state.new (set (inside (M.records means.now) room) place.now level depth label value.now state.old) }
+    ensures { GivesAfter (λ c. c) result state.new (set (inside (M.records means.now) room) place.now level depth label.now value.now state.old) }
 {
     let value = expression(state, value, place, level, depth, means, counts, room)?;
     let value = Box::new(state.alloc(), value)?;
+    let label = label.share()?;
     Ok(Core {
         node: CoreNode::Set(label, value),
     })

@@ -119,7 +119,7 @@ pub(crate) fn syntax_case<M: Transformers, N: Ledger, L: Ledger>(
     subject: &Syn,
     literals: &[Syn],
     cases: &[PatternCase],
-    span: Span,
+    span: &Span,
     place: &Span,
     level: u32,
     depth: u16,
@@ -127,7 +127,7 @@ pub(crate) fn syntax_case<M: Transformers, N: Ledger, L: Ledger>(
     counts: &mut Counts<N, L>,
     room: u16,
 ) -> Result<Core, Stop>
-    ensures { GivesAfter (λ c. c) result state.new (syntax_case (inside (M.records means.now) room) place.now level depth subject.now literals.now cases.now span state.old) }
+    ensures { GivesAfter (λ c. c) result state.new (syntax_case (inside (M.records means.now) room) place.now level depth subject.now literals.now cases.now span.now state.old) }
 {
     let subject = expression(state, subject, place, level, depth, means, counts, room)?;
     state.check_literals(literals, place)?;
@@ -135,6 +135,7 @@ pub(crate) fn syntax_case<M: Transformers, N: Ledger, L: Ledger>(
         state, literals, cases, place, level, depth, means, counts, room,
     )?;
     let subject = Box::new(state.alloc(), subject)?;
+    let span = span.share()?;
     Ok(Core {
         node: CoreNode::SyntaxCase(subject, clauses, span),
     })

@@ -79,10 +79,13 @@ abbrev pub decreases-expression::letrec_form : goal.decreases-expression::letrec
 decreases-expression::letrec_form g l = 32 * l.room + 8
 
 abbrev pub decreases-expression::perform : goal.decreases-expression::perform
-decreases-expression::perform g l = 32 * l.room + 10
+decreases-expression::perform g l = 32 * l.room + 11
+
+abbrev pub decreases-expression::perform_plan : goal.decreases-expression::perform_plan
+decreases-expression::perform_plan g l = 32 * l.room + 10
 
 abbrev pub decreases-expression::form_at : goal.decreases-expression::form_at
-decreases-expression::form_at g l = 32 * l.room + 11
+decreases-expression::form_at g l = 32 * l.room + 12
 
 abbrev pub invariant-body::splice-loop-form : goal.invariant-body::splice-loop-form
 invariant-body::splice-loop-form g l = gather ((inside (g.M.Transformers.records l.means) l.room).item l.at l.depth) l.taken (map (λ t. t) (drop l.form-index l.forms)) l.state ≡ splice (inside (g.M.Transformers.records l.means) l.room) l.at l.depth l.fn.taken l.forms l.fn.state
