@@ -1,13 +1,16 @@
 //! Bodies (R6RS 10 and 11.3).
 
-ghost use Rattle.std.specs.Prelude.{◌≡◌, IfOk, None, false};
+ghost use Rattle.std.specs.Prelude.{◌≡◌, IfOk, None, false, map};
 ghost use Rattle.sx_base.specs.Datum as datum;
 ghost use Rattle.sx_base.specs.declared.atom.Atom.TheVariants as atoms;
 ghost use Rattle.sx_base.specs.Act.{GivesAfter};
+ghost use Rattle.sx_heads.specs.Items.{begun};
+ghost use Rattle.sx_tree.specs.Changes.{stamp};
 ghost use Rattle.sx_expand.specs.Expression.{inside};
-ghost use Rattle.sx_expand.specs.Body.{splice, item, perform_item, value_of, finish_one, finish_all, finish, body, body_core, with_inits, no_value};
+ghost use Rattle.sx_expand.specs.Body.{splice, item, perform_item, value_of, finish_one, finish_all, finish, body, body_in, body_core, lambda_at, with_inits, no_value};
 
-use crate::expression::{expression, procedure, procedure_of_case, sequence_of, stamp_all};
+use crate::cores::procedure_of_case;
+use crate::expression::{expression, procedure, sequence_of, stamp_all};
 use crate::keywords::{define_syntax, with_keywords};
 use crate::settle::{SettledItem, settle_item};
 use crate::transformers::Transformers;
@@ -18,7 +21,7 @@ use sx_base::datum::{Datum, Node};
 use sx_base::fault::{FaultKind, Stop};
 use sx_base::items::Items;
 use sx_base::memory::Memory;
-use sx_base::name::CodeNo;
+use sx_base::name::{CodeNo, FrameNo};
 use sx_base::span::Span;
 use sx_core::code::{Core, CoreNode, Init};
 use sx_core::record::Line;
@@ -84,6 +87,31 @@ fn body_core(alloc: Global, lines: Vec<Line>) -> Result<Core, Memory>
         }
     }
     with_inits(alloc, inits, sequence_of(values))
+}
+
+/// Nothing is taken yet.
+pub(crate) fn begun(alloc: Global) -> Taken
+    ensures { result ≡ begun }
+{
+    Taken {
+        waiting: Items::new(alloc),
+        kept: KeptHeads::new(alloc),
+        has_expression: false,
+        moved: false,
+    }
+}
+
+/// Where the forms of the body of a procedure stand.
+fn lambda_at(frame: FrameNo, place: &Span, level: u32) -> Result<BodyAt, Memory>
+    ensures { IfOk result (λ at. at ≡ lambda_at frame place.now level) }
+{
+    let place = place.share()?;
+    Ok(BodyAt {
+        frame,
+        place,
+        level,
+        kind: BodyKind::Lambda,
+    })
 }
 
 /// Forms of a body, in order.
@@ -244,6 +272,7 @@ pub(crate) fn finish_one<M: Transformers, N: Ledger, L: Ledger>(
     let depth = waiting.depth;
     match &waiting.what {
         Waits::Variable(label, value) => {
+            let label = label.share()?;
             let value = value_of(
                 state,
                 value,
@@ -254,9 +283,10 @@ pub(crate) fn finish_one<M: Transformers, N: Ledger, L: Ledger>(
                 counts,
                 room,
             )?;
-            Ok(Line::Define(label.share()?, value))
+            Ok(Line::Define(label, value))
         }
         Waits::Procedure(label, form, ids, forms) => {
+            let label = label.share()?;
             let number = CodeNo(state.fresh()?);
             let case = procedure(
                 state,
@@ -271,7 +301,7 @@ pub(crate) fn finish_one<M: Transformers, N: Ledger, L: Ledger>(
                 room,
             )?;
             let value = procedure_of_case(state.alloc(), number, case)?;
-            Ok(Line::Define(label.share()?, value))
+            Ok(Line::Define(label, value))
         }
         Waits::Expression(form) => {
             let value = expression(state, form, place, level, depth, means, counts, room)?;
@@ -339,22 +369,52 @@ pub fn body<M: Transformers, N: Ledger, L: Ledger>(
 {
     let outer = state.in_scope();
     let frame = state.fresh_frame()?;
-    let forms = stamp_all(state.alloc(), &frame, forms, counts.nodes)?;
-    let at = BodyAt {
-        frame,
-        place: place.share()?,
-        level,
-        kind: BodyKind::Lambda,
-    };
-    let mut taken = Taken {
-        waiting: Items::new(state.alloc()),
-        kept: KeptHeads::new(state.alloc()),
-        has_expression: false,
-        moved: false,
-    };
+    let core = body_in(
+        state, frame, form, forms, place, level, depth, means, counts, room,
+    )?;
+    state.cut_scope(outer);
+    Ok(core)
+}
+
+/// Such a body whose definitions have this frame.
+#[cycle(form)]
+fn body_in<M: Transformers, N: Ledger, L: Ledger>(
+    state: &mut Expansion,
+    frame: FrameNo,
+    form: &Syn,
+    forms: &[Syn],
+    place: &Span,
+    level: u32,
+    depth: u16,
+    means: &M,
+    counts: &mut Counts<N, L>,
+    room: u16,
+) -> Result<Core, Stop>
+    ensures { GivesAfter (λ c. c) result state.new (body_in (inside (M.records means.now) room) place.now level depth form.now forms.now frame state.old) }
+{
+    let at = lambda_at(frame, place, level)?;
+    let taken = taken_of(state, &at, depth, forms, means, counts, room)?;
+    finish(state, form, &taken, place, level, means, counts, room)
+}
+
+/// The first pass over the forms of a body, on which its frame is put.
+#[cycle(form)]
+fn taken_of<M: Transformers, N: Ledger, L: Ledger>(
+    state: &mut Expansion,
+    at: &BodyAt,
+    depth: u16,
+    forms: &[Syn],
+    means: &M,
+    counts: &mut Counts<N, L>,
+    room: u16,
+) -> Result<Taken, Stop>
+    ensures { GivesAfter (λ t. t) result state.new (splice (inside (M.records means.now) room) at.now depth begun (map (stamp at.now.frame) forms.now) state.old) }
+{
+    let forms = stamp_all(state.alloc(), &at.frame, forms, counts.nodes)?;
+    let mut taken = begun(state.alloc());
     splice(
         state,
-        &at,
+        at,
         depth,
         &mut taken,
         forms.as_slice(),
@@ -362,7 +422,5 @@ pub fn body<M: Transformers, N: Ledger, L: Ledger>(
         counts,
         room,
     )?;
-    let core = finish(state, form, &taken, place, level, means, counts, room)?;
-    state.cut_scope(outer);
-    Ok(core)
+    Ok(taken)
 }

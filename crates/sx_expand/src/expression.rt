@@ -1,21 +1,22 @@
 //! Expressions (R6RS 10 and 11).
 
-ghost use Rattle.std.specs.Prelude.{◌≡◌, ◌∷◌, [], IfOk, map, true};
+ghost use Rattle.std.specs.Prelude.{◌≡◌, [], IfOk, map};
 ghost use Rattle.sx_base.specs.Act.{GivesAfter};
-ghost use Rattle.sx_core.specs.Core.{procedure};
-ghost use Rattle.sx_core.specs.CoreView.{cases};
 ghost use Rattle.sx_tree.specs.Changes.{stamp};
-ghost use Rattle.sx_expand.specs.Body.{sequence_of};
-ghost use Rattle.sx_expand.specs.Expression.{inside, form_at, perform, in_order, lambda, case_lambda, all_cases, lambda_case, letrec_form, all_inits, one_init, application, conditional, alternate, set, in_sequence};
+ghost use Rattle.sx_expand.specs.Body.{body, sequence_of};
+ghost use Rattle.sx_expand.specs.Expression.{inside, form_at, perform, in_order, lambda, case_lambda, all_cases, lambda_case, case_in, letrec_form, letrec_in, all_inits, one_init, application, conditional, alternate, set, in_sequence};
 
 use crate::body::body;
+use crate::cores::{
+    assignment_of, call_of, letrec_of, one_armed_of, procedure_of_case, procedure_of_cases,
+    two_armed_of,
+};
 use crate::keywords::keywords_form;
 use crate::patterns::syntax_case;
 use crate::quasi::quasi_form;
 use crate::settle::{Settled, settle};
 use crate::transformers::Transformers;
 use std::alloc::Global;
-use std::rc::Rc;
 use std::sync::ledger::Ledger;
 use sx_base::fault::{FaultKind, Stop};
 use sx_base::items::Items;
@@ -23,7 +24,7 @@ use sx_base::memory::Memory;
 use sx_base::name::{CodeNo, FrameNo, Label};
 use sx_base::span::Span;
 use sx_base::steps::Steps;
-use sx_core::code::{Code, Core, CoreNode, Init, Lambda};
+use sx_core::code::{Core, CoreNode, Init, Lambda};
 use sx_heads::depth::{MOST_ROUND, deeper};
 use sx_heads::plan::Plan;
 use sx_shapes::shape::{BindingSpec, FormalIds, LambdaCase};
@@ -56,25 +57,6 @@ pub(crate) fn with_room<T>(alloc: Global, count: usize) -> Vec<T>
         Ok(items) => items,
         Err(_) => Vec::new(alloc),
     }
-}
-
-/// A procedure of one case.
-pub(crate) fn procedure_of_case(alloc: Global, number: CodeNo, case: Lambda) -> Result<Core, Memory>
-    ensures { IfOk result (λ c. c ≡ procedure number (cases (case ∷ [])) true) }
-{
-    let mut cases = Vec::with_capacity(alloc, 1)?;
-    cases.push(case)?;
-    let code = Rc::new(
-        alloc,
-        Code {
-            number,
-            cases,
-            plain: true,
-        },
-    )?;
-    Ok(Core {
-        node: CoreNode::Lambda(code),
-    })
 }
 
 /// The forms, each stamped with a frame.
@@ -114,6 +96,25 @@ pub fn expression<M: Transformers, N: Ledger, L: Ledger>(
         return Err(state.fault_form(FaultKind::TooDeep, form, place));
     }
     form_at(state, form, place, level, depth, means, counts, room - 1)
+}
+
+/// An expression that a frame is put on.
+#[cycle(form)]
+pub(crate) fn expression_in<M: Transformers, N: Ledger, L: Ledger>(
+    state: &mut Expansion,
+    frame: &FrameNo,
+    form: &Syn,
+    place: &Span,
+    level: u32,
+    depth: u16,
+    means: &M,
+    counts: &mut Counts<N, L>,
+    room: u16,
+) -> Result<Core, Stop>
+    ensures { GivesAfter (λ c. c) result state.new ((inside (M.records means.now) room).form place.now level depth (stamp frame.now form.now) state.old) }
+{
+    let form = form.stamp(state.alloc(), frame.share()?, counts.nodes)?;
+    expression(state, &form, place, level, depth, means, counts, room)
 }
 
 #[cycle(form)]
@@ -300,10 +301,7 @@ fn application<M: Transformers, N: Ledger, L: Ledger>(
 {
     let operator = expression(state, operator, place, level, depth, means, counts, room)?;
     let operands = in_order(state, operands, place, level, depth, means, counts, room)?;
-    let operator = Box::new(state.alloc(), operator)?;
-    Ok(Core {
-        node: CoreNode::App(operator, operands),
-    })
+    Ok(call_of(state.alloc(), operator, operands)?)
 }
 
 #[cycle(form)]
@@ -344,18 +342,11 @@ fn alternate<M: Transformers, N: Ledger, L: Ledger>(
 ) -> Result<Core, Stop>
     ensures { GivesAfter (λ c. c) result state.new (alternate (inside (M.records means.now) room) place.now level depth test consequent other.now state.old) }
 {
-    let test = Box::new(state.alloc(), test)?;
-    let consequent = Box::new(state.alloc(), consequent)?;
     match other {
-        None => Ok(Core {
-            node: CoreNode::If(test, consequent, None),
-        }),
+        None => Ok(one_armed_of(state.alloc(), test, consequent)?),
         Some(other) => {
             let other = expression(state, other, place, level, depth, means, counts, room)?;
-            let other = Box::new(state.alloc(), other)?;
-            Ok(Core {
-                node: CoreNode::If(test, consequent, Some(other)),
-            })
+            Ok(two_armed_of(state.alloc(), test, consequent, other)?)
         }
     }
 }
@@ -376,11 +367,7 @@ fn set<M: Transformers, N: Ledger, L: Ledger>(
     ensures { GivesAfter (λ c. c) result state.new (set (inside (M.records means.now) room) place.now level depth label.now value.now state.old) }
 {
     let value = expression(state, value, place, level, depth, means, counts, room)?;
-    let value = Box::new(state.alloc(), value)?;
-    let label = label.share()?;
-    Ok(Core {
-        node: CoreNode::Set(label, value),
-    })
+    Ok(assignment_of(state.alloc(), label, value)?)
 }
 
 #[cycle(form)]
@@ -462,17 +449,7 @@ fn case_lambda<M: Transformers, N: Ledger, L: Ledger>(
 {
     let number = CodeNo(state.fresh()?);
     let cases = all_cases(state, form, cases, place, level, depth, means, counts, room)?;
-    let code = Rc::new(
-        state.alloc(),
-        Code {
-            number,
-            cases,
-            plain: false,
-        },
-    )?;
-    Ok(Core {
-        node: CoreNode::Lambda(code),
-    })
+    Ok(procedure_of_cases(state.alloc(), number, cases)?)
 }
 
 #[cycle(form)]
@@ -527,14 +504,60 @@ pub fn lambda_case<M: Transformers, N: Ledger, L: Ledger>(
 {
     let outer = state.in_scope();
     let frame = state.fresh_frame()?;
+    let case = case_in(
+        state, &frame, form, ids, forms, place, level, depth, means, counts, room,
+    )?;
+    state.cut_scope(outer);
+    Ok(case)
+}
+
+/// A case whose formals have this frame.
+#[cycle(form)]
+fn case_in<M: Transformers, N: Ledger, L: Ledger>(
+    state: &mut Expansion,
+    frame: &FrameNo,
+    form: &Syn,
+    ids: &FormalIds,
+    forms: &[Syn],
+    place: &Span,
+    level: u32,
+    depth: u16,
+    means: &M,
+    counts: &mut Counts<N, L>,
+    room: u16,
+) -> Result<Lambda, Stop>
+    ensures { GivesAfter (λ c. c) result state.new (case_in (inside (M.records means.now) room) place.now level depth form.now ids.now forms.now frame.now state.old) }
+{
     let binders = BinderContext {
-        frame: &frame,
+        frame,
         place,
         level,
     };
     let formals = state.bind_formals(&binders, ids)?;
-    let forms = stamp_all(state.alloc(), &frame, forms, counts.nodes)?;
-    let body = body(
+    let body = body_under(
+        state, frame, form, forms, place, level, depth, means, counts, room,
+    )?;
+    Ok(Lambda { formals, body })
+}
+
+/// The body of `form`, on whose forms a frame is put.
+#[cycle(form)]
+fn body_under<M: Transformers, N: Ledger, L: Ledger>(
+    state: &mut Expansion,
+    frame: &FrameNo,
+    form: &Syn,
+    forms: &[Syn],
+    place: &Span,
+    level: u32,
+    depth: u16,
+    means: &M,
+    counts: &mut Counts<N, L>,
+    room: u16,
+) -> Result<Core, Stop>
+    ensures { GivesAfter (λ c. c) result state.new (body (inside (M.records means.now) room) place.now level depth form.now (map (stamp frame.now) forms.now) state.old) }
+{
+    let forms = stamp_all(state.alloc(), frame, forms, counts.nodes)?;
+    body(
         state,
         form,
         forms.as_slice(),
@@ -544,9 +567,7 @@ pub fn lambda_case<M: Transformers, N: Ledger, L: Ledger>(
         means,
         counts,
         room,
-    )?;
-    state.cut_scope(outer);
-    Ok(Lambda { formals, body })
+    )
 }
 
 /// As `lambda_case`, of a procedure that a definition binds.
@@ -602,15 +623,40 @@ fn letrec_form<M: Transformers, N: Ledger, L: Ledger>(
 {
     let outer = state.in_scope();
     let frame = state.fresh_frame()?;
+    let core = letrec_in(
+        state, &frame, form, star, specs, forms, place, level, depth, means, counts, room,
+    )?;
+    state.cut_scope(outer);
+    Ok(core)
+}
+
+/// Such a form whose variables have this frame.
+#[cycle(form)]
+fn letrec_in<M: Transformers, N: Ledger, L: Ledger>(
+    state: &mut Expansion,
+    frame: &FrameNo,
+    form: &Syn,
+    star: bool,
+    specs: &[BindingSpec],
+    forms: &[Syn],
+    place: &Span,
+    level: u32,
+    depth: u16,
+    means: &M,
+    counts: &mut Counts<N, L>,
+    room: u16,
+) -> Result<Core, Stop>
+    ensures { GivesAfter (λ c. c) result state.new (letrec_in (inside (M.records means.now) room) place.now level depth form.now star specs.now forms.now frame.now state.old) }
+{
     let binders = BinderContext {
-        frame: &frame,
+        frame,
         place,
         level,
     };
     let bound = state.bind_specs(&binders, specs)?;
     let inits = all_inits(
         state,
-        &frame,
+        frame,
         bound.as_slice(),
         place,
         level,
@@ -619,23 +665,11 @@ fn letrec_form<M: Transformers, N: Ledger, L: Ledger>(
         counts,
         room,
     )?;
-    let forms = stamp_all(state.alloc(), &frame, forms, counts.nodes)?;
-    let body = body(
-        state,
-        form,
-        forms.as_slice(),
-        place,
-        level,
-        depth,
-        means,
-        counts,
-        room,
+    drop(bound);
+    let body = body_under(
+        state, frame, form, forms, place, level, depth, means, counts, room,
     )?;
-    let body = Box::new(state.alloc(), body)?;
-    state.cut_scope(outer);
-    Ok(Core {
-        node: CoreNode::Letrec(star, inits, body),
-    })
+    Ok(letrec_of(state.alloc(), star, inits, body)?)
 }
 
 #[cycle(form)]
@@ -675,10 +709,17 @@ fn one_init<M: Transformers, N: Ledger, L: Ledger>(
 ) -> Result<Init, Stop>
     ensures { GivesAfter (λ i. i) result state.new (one_init (inside (M.records means.now) room) place.now level depth frame.now bound.now state.old) }
 {
-    let form = bound
-        .init
-        .stamp(state.alloc(), frame.share()?, counts.nodes)?;
-    let value = expression(state, &form, place, level, depth, means, counts, room)?;
     let label = bound.label.share()?;
+    let value = expression_in(
+        state,
+        frame,
+        &bound.init,
+        place,
+        level,
+        depth,
+        means,
+        counts,
+        room,
+    )?;
     Ok(Init { label, value })
 }

@@ -2,6 +2,7 @@
 
 ghost use Rattle.std.specs.Prelude.{◌≡◌, IfOk};
 ghost use Rattle.sx_base.specs.Act.{GivesAfter};
+ghost use Rattle.sx_standing.specs.InScope.{apart};
 ghost use Rattle.sx_expand.specs.Expression.{inside, keywords_form};
 ghost use Rattle.sx_expand.specs.Keywords.{keyword, seen_in, keyword_in, all_keywords, keywords, with_keywords, define_syntax};
 
@@ -25,6 +26,26 @@ use sx_standing::expansion::Expansion;
 use sx_standing::means::Counts;
 use sx_syntax::syn::Syn;
 
+/// An expression with nothing in scope.
+#[cycle(form)]
+fn expression_apart<M: Transformers, N: Ledger, L: Ledger>(
+    state: &mut Expansion,
+    form: &Syn,
+    place: &Span,
+    level: u32,
+    depth: u16,
+    means: &M,
+    counts: &mut Counts<N, L>,
+    room: u16,
+) -> Result<Core, Stop>
+    ensures { GivesAfter (λ c. c) result state.new (apart ((inside (M.records means.now) room).form place.now level depth form.now) state.old) }
+{
+    let scope = state.take_scope();
+    let core = expression(state, form, place, level, depth, means, counts, room)?;
+    state.restore_scope(scope);
+    Ok(core)
+}
+
 /// Expands the expression of a keyword, one level up and with nothing in scope, and evaluates it.
 #[cycle(form)]
 #[tactic(auto, unfolding(crate::specs::Keywords::keyword), using(crate::proofs::Steps::earlier_inside))]
@@ -43,10 +64,8 @@ fn keyword<M: Transformers, N: Ledger, L: Ledger>(
     let Some(up) = level.checked_add(1) else {
         return Err(Stop::Memory);
     };
-    let scope = state.take_scope();
-    let core = expression(state, &bound.init, place, up, depth, means, counts, room)?;
-    state.restore_scope(scope);
     let at = place_of(&bound.init, place)?;
+    let core = expression_apart(state, &bound.init, place, up, depth, means, counts, room)?;
     means.finish_keyword(state, &at, &bound.label, core, counts)
 }
 

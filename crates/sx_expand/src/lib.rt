@@ -16,6 +16,7 @@
 #![tactic(auto)]
 
 pub mod body;
+mod cores;
 pub mod expander;
 pub mod expression;
 pub mod inside;

@@ -2,15 +2,16 @@
 
 ghost use Rattle.std.specs.Prelude.{◌≡◌};
 ghost use Rattle.sx_base.specs.Act.{GivesAfter};
-ghost use Rattle.sx_expand.specs.Expression.{inside, fender, pattern_clause, all_clauses, syntax_case};
+ghost use Rattle.sx_expand.specs.Expression.{inside, fender, clause_in, pattern_clause, all_clauses, syntax_case};
 
-use crate::expression::expression;
+use crate::cores::matching_of;
+use crate::expression::{expression, expression_in};
 use crate::transformers::Transformers;
 use std::sync::ledger::Ledger;
 use sx_base::fault::Stop;
 use sx_base::name::FrameNo;
 use sx_base::span::Span;
-use sx_core::code::{Clause, Core, CoreNode};
+use sx_core::code::{Clause, Core};
 use sx_shapes::shape::PatternCase;
 use sx_standing::binders::BinderContext;
 use sx_standing::expansion::Expansion;
@@ -34,8 +35,7 @@ fn fender<M: Transformers, N: Ledger, L: Ledger>(
     match form {
         None => Ok(None),
         Some(form) => {
-            let form = form.stamp(state.alloc(), frame.share()?, counts.nodes)?;
-            let core = expression(state, &form, place, level, depth, means, counts, room)?;
+            let core = expression_in(state, frame, form, place, level, depth, means, counts, room)?;
             Ok(Some(core))
         }
     }
@@ -59,16 +59,39 @@ fn pattern_clause<M: Transformers, N: Ledger, L: Ledger>(
 {
     let outer = state.in_scope();
     let frame = state.fresh_frame()?;
+    let clause = clause_in(
+        state, &frame, literals, case, place, level, depth, means, counts, room,
+    )?;
+    state.cut_scope(outer);
+    Ok(clause)
+}
+
+/// A clause whose variables have this frame.
+#[cycle(form)]
+fn clause_in<M: Transformers, N: Ledger, L: Ledger>(
+    state: &mut Expansion,
+    frame: &FrameNo,
+    literals: &[Syn],
+    case: &PatternCase,
+    place: &Span,
+    level: u32,
+    depth: u16,
+    means: &M,
+    counts: &mut Counts<N, L>,
+    room: u16,
+) -> Result<Clause, Stop>
+    ensures { GivesAfter (λ c. c) result state.new (clause_in (inside (M.records means.now) room) place.now level depth literals.now case.now frame.now state.old) }
+{
     let compiled = state.pattern(&case.pattern, literals, place)?;
     let binders = BinderContext {
-        frame: &frame,
+        frame,
         place,
         level,
     };
     state.bind_pattern(&binders, compiled.variables.as_slice())?;
     let fender = fender(
         state,
-        &frame,
+        frame,
         &case.fender,
         place,
         level,
@@ -77,9 +100,17 @@ fn pattern_clause<M: Transformers, N: Ledger, L: Ledger>(
         counts,
         room,
     )?;
-    let output = case.output.stamp(state.alloc(), frame, counts.nodes)?;
-    let output = expression(state, &output, place, level, depth, means, counts, room)?;
-    state.cut_scope(outer);
+    let output = expression_in(
+        state,
+        frame,
+        &case.output,
+        place,
+        level,
+        depth,
+        means,
+        counts,
+        room,
+    )?;
     Ok(Clause {
         pattern: compiled.pattern,
         fender,
@@ -134,9 +165,5 @@ pub(crate) fn syntax_case<M: Transformers, N: Ledger, L: Ledger>(
     let clauses = all_clauses(
         state, literals, cases, place, level, depth, means, counts, room,
     )?;
-    let subject = Box::new(state.alloc(), subject)?;
-    let span = span.share()?;
-    Ok(Core {
-        node: CoreNode::SyntaxCase(subject, clauses, span),
-    })
+    Ok(matching_of(state.alloc(), subject, clauses, span)?)
 }

@@ -2,6 +2,7 @@
 
 ghost use Rattle.std.specs.Prelude.{◌≡◌};
 ghost use Rattle.sx_base.specs.Act.{GivesAfter};
+ghost use Rattle.sx_quasi_code.specs.Form.{parts_of};
 ghost use Rattle.sx_expand.specs.Expression.{inside};
 ghost use Rattle.sx_expand.specs.Quasi.{parts_in_order, quasi_form};
 
@@ -13,7 +14,7 @@ use sx_base::span::Span;
 use sx_core::code::Core;
 use sx_heads::context::FormContext;
 use sx_quasi::word::Family;
-use sx_quasi_code::form::{code_of, form_of, parts_of};
+use sx_quasi_code::form::{QuasiForm, code_of, form_of, parts_of};
 use sx_quasi_code::parts::Part;
 use sx_standing::expansion::Expansion;
 use sx_standing::means::Counts;
@@ -41,6 +42,25 @@ fn parts_in_order<M: Transformers, N: Ledger, L: Ledger>(
     Ok(done)
 }
 
+/// The code of the parts of a template, in order.
+#[cycle(form)]
+fn cores_of<M: Transformers, N: Ledger, L: Ledger>(
+    state: &mut Expansion,
+    form: &Syn,
+    quasi: &QuasiForm,
+    place: &Span,
+    level: u32,
+    depth: u16,
+    means: &M,
+    counts: &mut Counts<N, L>,
+    room: u16,
+) -> Result<Vec<Core>, Stop>
+    ensures { GivesAfter (λ c. c.items) result state.new (parts_in_order (inside (M.records means.now) room) place.now level (parts_of form.now depth quasi.now) state.old) }
+{
+    let parts = parts_of(state.alloc(), form, quasi, depth)?;
+    parts_in_order(state, parts.as_slice(), place, level, means, counts, room)
+}
+
 /// What the template comes to, its parts in order, and the code of them all.
 #[cycle(form)]
 #[tactic(auto, unfolding(crate::specs::Quasi::quasi_form))]
@@ -59,8 +79,9 @@ pub(crate) fn quasi_form<M: Transformers, N: Ledger, L: Ledger>(
     ensures { GivesAfter (λ c. c) result state.new (quasi_form (inside (M.records means.now) room) place.now level depth form.now which template.now state.old) }
 {
     let quasi = form_of(state, form, which, template, place)?;
-    let parts = parts_of(state.alloc(), form, &quasi, depth)?;
-    let cores = parts_in_order(state, parts.as_slice(), place, level, means, counts, room)?;
+    let cores = cores_of(
+        state, form, &quasi, place, level, depth, means, counts, room,
+    )?;
     let context = FormContext { form, place, level };
     code_of(state, &context, &quasi, cores, counts.nodes)
 }

@@ -8,7 +8,7 @@ ghost use Rattle.sx_expand.specs.Body.{finish_all, splice};
 ghost use Rattle.sx_expand.specs.Expression.{inside, full_room};
 ghost use Rattle.sx_expand.specs.Top.{export, all_exports, exports, with_label_of, with_labels_of, code_of, with_lines_of, refs_of, record_of, record_in, kind_of, body_at, first_pass, finished, top};
 
-use crate::body::{finish_one, item};
+use crate::body::{begun, finish_one, item};
 use crate::expression::{stamp_all, with_room};
 use crate::inside::ROOM;
 use crate::libraries::Libraries;
@@ -25,7 +25,6 @@ use sx_base::symbol::Symbol;
 use sx_core::code::Core;
 use sx_core::record::{LibRecord, Line};
 use sx_core::references::references;
-use sx_heads::kept::KeptHeads;
 use sx_heads::taken::{BodyAt, BodyKind, Taken, Waiting};
 use sx_standing::expansion::Expansion;
 use sx_standing::means::{Counts, Means};
@@ -266,12 +265,7 @@ fn first_pass<N: Ledger, L: Ledger>(
     let stamped = stamp_all(state.alloc(), &at.frame, forms.as_slice(), counts.nodes)?;
     drop(forms);
     let body = body_at(state, at)?;
-    let mut taken = Taken {
-        waiting: Items::new(state.alloc()),
-        kept: KeptHeads::new(state.alloc()),
-        has_expression: false,
-        moved: false,
-    };
+    let mut taken = begun(state.alloc());
     splice_each(state, &body, &mut taken, stamped, means, counts)?;
     Ok(taken)
 }

@@ -43,10 +43,10 @@ abbrev pub decreases-expression::in_sequence : goal.decreases-expression::in_seq
 decreases-expression::in_sequence g l = 32 * l.room + 2
 
 abbrev pub decreases-expression::all_inits : goal.decreases-expression::all_inits
-decreases-expression::all_inits g l = 32 * l.room + 2
+decreases-expression::all_inits g l = 32 * l.room + 3
 
 abbrev pub decreases-expression::one_init : goal.decreases-expression::one_init
-decreases-expression::one_init g l = 32 * l.room + 1
+decreases-expression::one_init g l = 32 * l.room + 2
 
 abbrev pub decreases-body::finish_one : goal.decreases-body::finish_one
 decreases-body::finish_one g l = 32 * l.room + 2
@@ -61,31 +61,31 @@ abbrev pub decreases-body::finish : goal.decreases-body::finish
 decreases-body::finish g l = 32 * l.room + 4
 
 abbrev pub decreases-body::body : goal.decreases-body::body
-decreases-body::body g l = 32 * l.room + 5
+decreases-body::body g l = 32 * l.room + 6
 
 abbrev pub decreases-expression::lambda_case : goal.decreases-expression::lambda_case
-decreases-expression::lambda_case g l = 32 * l.room + 6
+decreases-expression::lambda_case g l = 32 * l.room + 9
 
 abbrev pub decreases-expression::all_cases : goal.decreases-expression::all_cases
-decreases-expression::all_cases g l = 32 * l.room + 7
+decreases-expression::all_cases g l = 32 * l.room + 10
 
 abbrev pub decreases-expression::case_lambda : goal.decreases-expression::case_lambda
-decreases-expression::case_lambda g l = 32 * l.room + 8
+decreases-expression::case_lambda g l = 32 * l.room + 11
 
 abbrev pub decreases-expression::lambda : goal.decreases-expression::lambda
-decreases-expression::lambda g l = 32 * l.room + 8
+decreases-expression::lambda g l = 32 * l.room + 11
 
 abbrev pub decreases-expression::letrec_form : goal.decreases-expression::letrec_form
-decreases-expression::letrec_form g l = 32 * l.room + 8
+decreases-expression::letrec_form g l = 32 * l.room + 9
 
 abbrev pub decreases-expression::perform : goal.decreases-expression::perform
-decreases-expression::perform g l = 32 * l.room + 11
+decreases-expression::perform g l = 32 * l.room + 13
 
 abbrev pub decreases-expression::perform_plan : goal.decreases-expression::perform_plan
-decreases-expression::perform_plan g l = 32 * l.room + 10
+decreases-expression::perform_plan g l = 32 * l.room + 12
 
 abbrev pub decreases-expression::form_at : goal.decreases-expression::form_at
-decreases-expression::form_at g l = 32 * l.room + 12
+decreases-expression::form_at g l = 32 * l.room + 14
 
 abbrev pub invariant-body::splice-loop-form : goal.invariant-body::splice-loop-form
 invariant-body::splice-loop-form g l = gather ((inside (g.M.Transformers.records l.means) l.room).item l.at l.depth) l.taken (map (λ t. t) (drop l.form-index l.forms)) l.state ≡ splice (inside (g.M.Transformers.records l.means) l.room) l.at l.depth l.fn.taken l.forms l.fn.state
@@ -103,37 +103,37 @@ abbrev pub decreases-body::perform_item : goal.decreases-body::perform_item
 decreases-body::perform_item g l = 32 * l.room + 7
 
 abbrev pub decreases-keywords::keyword : goal.decreases-keywords::keyword
-decreases-keywords::keyword g l = 32 * l.room + 1
+decreases-keywords::keyword g l = 32 * l.room + 2
 
 abbrev pub decreases-keywords::keyword_in : goal.decreases-keywords::keyword_in
-decreases-keywords::keyword_in g l = 32 * l.room + 2
+decreases-keywords::keyword_in g l = 32 * l.room + 3
 
 abbrev pub decreases-keywords::all_keywords : goal.decreases-keywords::all_keywords
-decreases-keywords::all_keywords g l = 32 * l.room + 3
+decreases-keywords::all_keywords g l = 32 * l.room + 4
 
 abbrev pub decreases-keywords::keywords : goal.decreases-keywords::keywords
-decreases-keywords::keywords g l = 32 * l.room + 4
+decreases-keywords::keywords g l = 32 * l.room + 5
 
 abbrev pub decreases-keywords::with_keywords : goal.decreases-keywords::with_keywords
-decreases-keywords::with_keywords g l = 32 * l.room + 5
+decreases-keywords::with_keywords g l = 32 * l.room + 6
 
 abbrev pub decreases-keywords::keywords_form : goal.decreases-keywords::keywords_form
-decreases-keywords::keywords_form g l = 32 * l.room + 6
+decreases-keywords::keywords_form g l = 32 * l.room + 7
 
 abbrev pub decreases-keywords::define_syntax : goal.decreases-keywords::define_syntax
-decreases-keywords::define_syntax g l = 32 * l.room + 2
+decreases-keywords::define_syntax g l = 32 * l.room + 3
 
 abbrev pub decreases-patterns::fender : goal.decreases-patterns::fender
-decreases-patterns::fender g l = 32 * l.room + 1
+decreases-patterns::fender g l = 32 * l.room + 2
 
 abbrev pub decreases-patterns::pattern_clause : goal.decreases-patterns::pattern_clause
-decreases-patterns::pattern_clause g l = 32 * l.room + 2
+decreases-patterns::pattern_clause g l = 32 * l.room + 4
 
 abbrev pub decreases-patterns::all_clauses : goal.decreases-patterns::all_clauses
-decreases-patterns::all_clauses g l = 32 * l.room + 3
+decreases-patterns::all_clauses g l = 32 * l.room + 5
 
 abbrev pub decreases-patterns::syntax_case : goal.decreases-patterns::syntax_case
-decreases-patterns::syntax_case g l = 32 * l.room + 4
+decreases-patterns::syntax_case g l = 32 * l.room + 6
 
 abbrev pub invariant-keywords::all_keywords-loop-one : goal.invariant-keywords::all_keywords-loop-one
 invariant-keywords::all_keywords-loop-one g l = gather (keyword_in (inside (g.M.Transformers.records l.means) l.room) l.place l.level l.depth l.recursive l.frame) tt (map (λ b. b) (drop l.one-index l.bound)) l.state ≡ all_keywords (inside (g.M.Transformers.records l.means) l.room) l.place l.level l.depth l.recursive l.frame l.bound l.fn.state
@@ -148,4 +148,31 @@ abbrev pub decreases-quasi::parts_in_order : goal.decreases-quasi::parts_in_orde
 decreases-quasi::parts_in_order g l = 32 * l.room + 1
 
 abbrev pub decreases-quasi::quasi_form : goal.decreases-quasi::quasi_form
-decreases-quasi::quasi_form g l = 32 * l.room + 2
+decreases-quasi::quasi_form g l = 32 * l.room + 3
+
+abbrev pub decreases-expression::expression_in : goal.decreases-expression::expression_in
+decreases-expression::expression_in g l = 32 * l.room + 1
+
+abbrev pub decreases-patterns::clause_in : goal.decreases-patterns::clause_in
+decreases-patterns::clause_in g l = 32 * l.room + 3
+
+abbrev pub decreases-body::taken_of : goal.decreases-body::taken_of
+decreases-body::taken_of g l = 32 * l.room + 2
+
+abbrev pub decreases-body::body_in : goal.decreases-body::body_in
+decreases-body::body_in g l = 32 * l.room + 5
+
+abbrev pub decreases-expression::body_under : goal.decreases-expression::body_under
+decreases-expression::body_under g l = 32 * l.room + 7
+
+abbrev pub decreases-expression::case_in : goal.decreases-expression::case_in
+decreases-expression::case_in g l = 32 * l.room + 8
+
+abbrev pub decreases-expression::letrec_in : goal.decreases-expression::letrec_in
+decreases-expression::letrec_in g l = 32 * l.room + 8
+
+abbrev pub decreases-keywords::expression_apart : goal.decreases-keywords::expression_apart
+decreases-keywords::expression_apart g l = 32 * l.room + 1
+
+abbrev pub decreases-quasi::cores_of : goal.decreases-quasi::cores_of
+decreases-quasi::cores_of g l = 32 * l.room + 2
