@@ -1,7 +1,8 @@
 //! `syntax-case` (libraries report 12.4).
 
 ghost use Rattle.std.specs.Prelude.{◌≡◌};
-ghost use Rattle.sx_base.specs.Act.{GivesAfter};
+ghost use Rattle.sx_base.specs.Act.{GivesAfter, after, give};
+ghost use Rattle.sx_tree.specs.Changes.{stamp};
 ghost use Rattle.sx_expand.specs.Expression.{inside, fender, clause_in, pattern_clause, all_clauses, syntax_case};
 
 use crate::cores::matching_of;
@@ -12,6 +13,8 @@ use sx_base::fault::Stop;
 use sx_base::name::FrameNo;
 use sx_base::span::Span;
 use sx_core::code::{Clause, Core};
+use sx_core::pattern::Pattern;
+use sx_pattern::compile::Compiled;
 use sx_shapes::shape::PatternCase;
 use sx_standing::binders::BinderContext;
 use sx_standing::expansion::Expansion;
@@ -82,13 +85,35 @@ fn clause_in<M: Transformers, N: Ledger, L: Ledger>(
 ) -> Result<Clause, Stop>
     ensures { GivesAfter (λ c. c) result state.new (clause_in (inside (M.records means.now) room) place.now level depth literals.now case.now frame.now state.old) }
 {
-    let compiled = state.pattern(&case.pattern, literals, place)?;
+    let Compiled { pattern, variables } = state.pattern(&case.pattern, literals, place)?;
     let binders = BinderContext {
         frame,
         place,
         level,
     };
-    state.bind_pattern(&binders, compiled.variables.as_slice())?;
+    state.bind_pattern(&binders, variables.as_slice())?;
+    drop(variables);
+    clause_of(
+        state, frame, pattern, case, place, level, depth, means, counts, room,
+    )
+}
+
+/// A clause whose pattern is compiled, and its variables bound.
+#[cycle(form)]
+fn clause_of<M: Transformers, N: Ledger, L: Ledger>(
+    state: &mut Expansion,
+    frame: &FrameNo,
+    pattern: Pattern,
+    case: &PatternCase,
+    place: &Span,
+    level: u32,
+    depth: u16,
+    means: &M,
+    counts: &mut Counts<N, L>,
+    room: u16,
+) -> Result<Clause, Stop>
+    ensures { GivesAfter (λ c. c) result state.new (after (fender (inside (M.records means.now) room) place.now level depth frame.now case.now.fender state.old) (λ f s. after ((inside (M.records means.now) room).form place.now level depth (stamp frame.now case.now.output) s) (λ o. give (record { pattern = pattern; fender = f; output = o })))) }
+{
     let fender = fender(
         state,
         frame,
@@ -112,7 +137,7 @@ fn clause_in<M: Transformers, N: Ledger, L: Ledger>(
         room,
     )?;
     Ok(Clause {
-        pattern: compiled.pattern,
+        pattern,
         fender,
         output,
     })
