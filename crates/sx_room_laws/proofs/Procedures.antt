@@ -4,22 +4,26 @@ use Rattle.sx_base.specs.Act.{after, give, each, gather}
 use Rattle.sx_base.specs.declared.fault.Fault.{Fault}
 use Rattle.sx_base.specs.declared.fault.FaultKind.TheVariants as kind
 use Rattle.sx_base.specs.declared.name.FrameNo.{FrameNo}
+use Rattle.sx_base.specs.declared.name.Label.{Label}
 use Rattle.sx_base.specs.declared.span.Span.{Span}
 use Rattle.sx_tree.specs.Changes.{stamp}
 use Rattle.sx_tree.specs.Tree.{Tree, pair}
 use Rattle.sx_core.specs.Core.{PlainCore, procedure, letrec}
 use Rattle.sx_core.specs.CoreView.{cases, inits}
 use Rattle.sx_core.specs.declared.core_form.CoreForm.{CoreForm}
+use Rattle.sx_core.specs.declared.code.Init.{Init}
 use Rattle.sx_core.specs.declared.code.Lambda.{Lambda}
 use Rattle.sx_core.specs.declared.formals.Formals.{Formals}
 use Rattle.sx_core.specs.declared.record.LibRecord.{LibRecord}
 use Rattle.sx_core.specs.declared.record.Line.TheVariants as line
+use Rattle.sx_shapes.specs.declared.shape.BindingSpec.{BindingSpec}
 use Rattle.sx_shapes.specs.declared.shape.FormalIds.{FormalIds}
 use Rattle.sx_shapes.specs.declared.shape.LambdaCase.{LambdaCase}
-use Rattle.sx_standing.specs.Binders.{bind_formals}
+use Rattle.sx_standing.specs.Binders.{bind_variable, bind_spec, bind_formals}
 use Rattle.sx_standing.specs.InScope.{leaving, cut}
 use Rattle.sx_standing.specs.Standing.{standing_of}
 use Rattle.sx_standing.specs.State.{State, fresh, fresh_frame, fault_form}
+use Rattle.sx_standing.specs.declared.binders.BoundSpec.{BoundSpec}
 use Rattle.sx_heads.specs.Items.{alone, begun, core_item, headed_item, item_plan, keep, kept_head, list_item, wait, waiting_at}
 use Rattle.sx_heads.specs.Kept.{Heads, with_head}
 use Rattle.sx_heads.specs.declared.item.Item.{Item}
@@ -29,7 +33,7 @@ use Rattle.sx_heads.specs.declared.taken.Taken.{Taken}
 use Rattle.sx_heads.specs.declared.taken.Waits.TheVariants as waits
 use Rattle.sx_heads.specs.Depth.{most_round}
 use Rattle.sx_expand.specs.Body.{body, body_core, finish, finish_as, finish_one, item, lambda_at, perform_item, perform_settled}
-use Rattle.sx_expand.specs.Expression.{case_lambda, lambda, lambda_case, letrec_form, one_case, inside}
+use Rattle.sx_expand.specs.Expression.{all_inits, case_lambda, lambda, lambda_case, letrec_form, one_case, one_init, inside}
 use Rattle.sx_expand.specs.Inside.{Inside}
 use Rattle.sx_expand.specs.Settle.{at_use, item_by, item_step, item_step_of, next_form, settle_item, settle_item_to, too_many}
 use Rattle.sx_room_laws.specs.Counted.{IsWord, counted}
@@ -116,21 +120,24 @@ no_ids = record { required = []; rest = None }
 abbrev pub no_formals : Formals
 no_formals = record { required = []; rest = None }
 
--- A procedure without formals, from what comes of its body.
+-- A procedure, from what comes of its body.
 module _ (go : Inside) (place : Span) (level depth : ℕ) (t form : Tree) (s : State) where
-  lambda-is : (r : Result (PlainCore × State) Fault) → body go place level depth t (stamp (record { 0 = (counted s).names }) form ∷ []) (counted (counted s)) ≡ r
-      → lambda go place level depth t no_ids (form ∷ []) s
-      ≡ after (after (after r (λ c. give (record { formals = no_formals; body = c }))) (leaving (length s.scope))) (λ (c : Lambda). give (procedure (record { 0 = s.names }) (cases (c ∷ [])) true))
-  unfolding lambda lambda_case fresh fresh_frame bind_formals each
-  lambda-is r h =
-      ap (λ x. after (after (after x (λ c. give (record { formals = no_formals; body = c }))) (leaving (length s.scope))) (λ (c : Lambda). give (procedure (record { 0 = s.names }) (cases (c ∷ [])) true))) h
+  module _ (ids : FormalIds) (fs : Formals) (v : State) (bound : bind_formals (record { 0 = (counted s).names }) place level ids (counted (counted s)) ≡ Ok (fs, v)) where
+    lambda-is : (r : Result (PlainCore × State) Fault) → body go place level depth t (stamp (record { 0 = (counted s).names }) form ∷ []) v ≡ r
+        → lambda go place level depth t ids (form ∷ []) s
+        ≡ after (after (after r (λ c. give (record { formals = fs; body = c }))) (leaving (length s.scope))) (λ (c : Lambda). give (procedure (record { 0 = s.names }) (cases (c ∷ [])) true))
+    unfolding lambda lambda_case fresh fresh_frame
+    lambda-is r h =
+        ap (λ x. after (after (after x (λ formals s'. after (body go place level depth t (stamp (record { 0 = (counted s).names }) form ∷ []) s') (λ c. give (record { formals = formals; body = c })))) (leaving (length s.scope)))
+        (λ (c : Lambda). give (procedure (record { 0 = s.names }) (cases (c ∷ [])) true))) bound
+        ∙ ap (λ x. after (after (after x (λ c. give (record { formals = fs; body = c }))) (leaving (length s.scope))) (λ (c : Lambda). give (procedure (record { 0 = s.names }) (cases (c ∷ [])) true))) h
 
-  pub lambda-faulted : (e : Fault) → body go place level depth t (stamp (record { 0 = (counted s).names }) form ∷ []) (counted (counted s)) ≡ Err e → lambda go place level depth t no_ids (form ∷ []) s ≡ Err e
-  lambda-faulted e h = lambda-is (Err e) h
+    pub lambda-faulted : (e : Fault) → body go place level depth t (stamp (record { 0 = (counted s).names }) form ∷ []) v ≡ Err e → lambda go place level depth t ids (form ∷ []) s ≡ Err e
+    lambda-faulted e h = lambda-is (Err e) h
 
-  pub lambda-made : (c : PlainCore) (v : State) → body go place level depth t (stamp (record { 0 = (counted s).names }) form ∷ []) (counted (counted s)) ≡ Ok (c, v)
-      → lambda go place level depth t no_ids (form ∷ []) s ≡ Ok (procedure (record { 0 = s.names }) (cases (record { formals = no_formals; body = c } ∷ [])) true, cut (length s.scope) v)
-  lambda-made c v h = lambda-is (Ok (c, v)) h
+    pub lambda-made : (c : PlainCore) (u : State) → body go place level depth t (stamp (record { 0 = (counted s).names }) form ∷ []) v ≡ Ok (c, u)
+        → lambda go place level depth t ids (form ∷ []) s ≡ Ok (procedure (record { 0 = s.names }) (cases (record { formals = fs; body = c } ∷ [])) true, cut (length s.scope) u)
+    lambda-made c u h = lambda-is (Ok (c, u)) h
 
   -- and one case of `case-lambda`
   abbrev pub the_case : LambdaCase
@@ -164,3 +171,28 @@ module _ (go : Inside) (place : Span) (level depth : ℕ) (t form : Tree) (s : S
   pub block-made : (star : Bool) (c : PlainCore) (v : State) → body go place level depth t (stamp (record { 0 = s.names }) form ∷ []) (counted s) ≡ Ok (c, v)
       → letrec_form go place level depth t star [] (form ∷ []) s ≡ Ok (letrec star (inits []) c, cut (length s.scope) v)
   block-made star c v h = block-is star (Ok (c, v)) h
+
+-- `letrec` and `letrec*` with one variable, from what comes of its expression and then of the body.
+module _ (go : Inside) (place : Span) (level depth : ℕ) (t form : Tree) (s : State) (star : Bool) (id : Tree) (l : Label) (v : State) (bound : bind_variable (record { 0 = s.names }) place level false id (counted s) ≡ Ok (l, v)) where
+  abbrev pub variable : BindingSpec
+  variable = record { id = id; init = form }
+
+  abbrev ended_by : Tree → List Init → State → Result (PlainCore × State) Fault
+  ended_by last is u = after (body go place level depth t (stamp (record { 0 = s.names }) last ∷ []) u) (λ c. give (letrec star (inits is) c))
+
+  initial-is : (last : Tree) (r : Result (PlainCore × State) Fault) → go.form place level depth (stamp (record { 0 = s.names }) form) v ≡ r
+      → letrec_form go place level depth t star (variable ∷ []) (last ∷ []) s
+      ≡ after (after (after (after r (λ c. give (record { label = l; value = c }))) (λ (i : Init). each (one_init go place level depth (record { 0 = s.names })) (i ∷ []) [])) (ended_by last)) (leaving (length s.scope))
+  unfolding letrec_form fresh_frame bind_spec one_init each
+  initial-is last r h =
+      ap (λ x. after (after (after (after x (λ l. give (record { label = l; init = form }))) (λ (b : BoundSpec). each (bind_spec (record { 0 = s.names }) place level) (b ∷ []) []))
+      (λ bs u. after (all_inits go place level depth (record { 0 = s.names }) bs u) (ended_by last))) (leaving (length s.scope))) bound
+      ∙ ap (λ x. after (after (after (after x (λ c. give (record { label = l; value = c }))) (λ (i : Init). each (one_init go place level depth (record { 0 = s.names })) (i ∷ []) [])) (ended_by last)) (leaving (length s.scope))) h
+
+  pub initial-faulted : (last : Tree) (e : Fault) → go.form place level depth (stamp (record { 0 = s.names }) form) v ≡ Err e → letrec_form go place level depth t star (variable ∷ []) (last ∷ []) s ≡ Err e
+  initial-faulted last e h = initial-is last (Err e) h
+
+  pub initial-made : (last : Tree) (c d : PlainCore) (u w : State) → go.form place level depth (stamp (record { 0 = s.names }) form) v ≡ Ok (c, u) → body go place level depth t (stamp (record { 0 = s.names }) last ∷ []) u ≡ Ok (d, w)
+      → letrec_form go place level depth t star (variable ∷ []) (last ∷ []) s ≡ Ok (letrec star (inits (record { label = l; value = c } ∷ [])) d, cut (length s.scope) w)
+  unfolding each
+  initial-made last c d u w h k = initial-is last (Ok (c, u)) h ∙ ap (λ x. after (after x (λ e. give (letrec star (inits (record { label = l; value = c } ∷ [])) e))) (leaving (length s.scope))) k

@@ -5,16 +5,19 @@ use Rattle.sx_base.specs.declared.atom.Atom.{Atom}
 use Rattle.sx_base.specs.declared.atom.Atom.TheVariants as atoms
 use Rattle.sx_base.specs.declared.fault.FaultKind.TheVariants as kind
 use Rattle.sx_base.specs.declared.name.FrameNo.{FrameNo}
+use Rattle.sx_base.specs.declared.name.Label.{Label}
 use Rattle.sx_base.specs.declared.span.Span.{Span}
 use Rattle.sx_tree.specs.Changes.{stamp}
-use Rattle.sx_tree.specs.Tree.{Tree, atom, pair, nil}
+use Rattle.sx_tree.specs.Tree.{Tree, atom, pair, nil, chain}
 use Rattle.sx_tree.specs.Leaves.{strip}
-use Rattle.sx_core.specs.Core.{PlainCore, quoted, one_armed, assignment, procedure, letrec, call, matching, none, no_init, no_case, case, no_clause}
+use Rattle.sx_core.specs.Core.{PlainCore, quoted, one_armed, assignment, procedure, letrec, call, matching, none, no_init, init, no_case, case, no_clause}
 use Rattle.sx_core.specs.Labels.{has_label, with_label}
 use Rattle.sx_core.specs.declared.core_form.CoreForm.{CoreForm}
 use Rattle.sx_core.specs.declared.core_form.CoreForm.TheVariants as core_forms
+use Rattle.sx_core.specs.declared.formals.Formals.{Formals}
 use Rattle.sx_core.specs.declared.record.LibRecord.{LibRecord}
-use Rattle.sx_shapes.specs.Lists.{is_leaf, is_nil_atom}
+use Rattle.sx_shapes.specs.Lists.{is_leaf, is_nil_atom, all_ids}
+use Rattle.sx_standing.specs.Binders.{bind_variable, bind_formals}
 use Rattle.sx_standing.specs.InScope.{cut, is_in_scope}
 use Rattle.sx_standing.specs.Standing.{standing_of}
 use Rattle.sx_standing.specs.State.{State, fault_form}
@@ -24,7 +27,9 @@ use Rattle.sx_heads.specs.Depth.{most_round}
 use Rattle.sx_expand.specs.Expanding.{expression}
 
 -- What stands right round a form: `(begin form)`, `(form)`, `(if form #t)`, `(syntax-case form ())`, `(set! id form)`, `(let-syntax () form)`, which is
--- `(letrec-syntax () form)` where it is recursive, `(lambda () form)`, `(case-lambda (() form))`, or `(letrec () form)`, which may be `(letrec* () form)`. A keyword is an identifier that stands for it, and the target of an assignment one that stands for the variable.
+-- `(letrec-syntax () form)` where it is recursive, `(lambda (id ...) form)`, `(case-lambda (() form))`, `(letrec () form)`, or `(letrec ((id form)) #t)`, both of which
+-- may be of `letrec*`. A keyword is an identifier that stands for it, and the target of an assignment one that stands for the variable. The
+-- formals of a procedure and the variable of a `letrec` are bound so, and leave this state.
 pub data Round : Type 0 where
   sequence : Tree → Round
   operator : Round
@@ -32,9 +37,10 @@ pub data Round : Type 0 where
   subject : Tree → Round
   value : Tree → Tree → Variable → Round
   keywords : Bool → Tree → Round
-  body : Tree → Round
+  body : Tree → List Tree → Formals → State → Round
   one_case : Tree → Round
   block : Bool → Tree → Round
+  initial : Bool → Tree → Tree → Label → State → Round
 
 pub record IsWord (s : State) (f : CoreForm) (word : Tree) : Type 0 where
   pub leaf : is_leaf word ≡ true
@@ -58,23 +64,41 @@ IsAlone (test word ∷ rs) = Unit {0}
 IsAlone (subject word ∷ rs) = Unit {0}
 IsAlone (value word id v ∷ rs) = Unit {0}
 IsAlone (keywords recursive word ∷ rs) = ⊥
-IsAlone (body word ∷ rs) = Unit {0}
+IsAlone (body word ids fs v ∷ rs) = Unit {0}
 IsAlone (one_case word ∷ rs) = Unit {0}
 IsAlone (block star word ∷ rs) = Unit {0}
+IsAlone (initial star word id l v ∷ rs) = Unit {0}
+
+-- with the next name taken
+abbrev pub counted : State → State
+counted s = record s { names = record { library = s.names.library; number = s.names.number + 1 } }
+
+abbrev pub next_frame : State → FrameNo
+next_frame s = record { 0 = s.names }
 
 -- what stands right round these
-abbrev pub IsRound : ℕ → State → Round → List Round → Type 0
-IsRound level s (sequence word) rs = IsWord s core_forms.Begin word
-IsRound level s operator rs = Unit {0}
-IsRound level s (test word) rs = IsWord s core_forms.If word
-IsRound level s (subject word) rs = IsWord s core_forms.SyntaxCase word
-IsRound level s (value word id v) rs = IsWord s core_forms.Set word × IsTarget level s id v
-IsRound level s (keywords false word) rs = IsWord s core_forms.LetSyntax word
-IsRound level s (keywords true word) rs = IsWord s core_forms.LetrecSyntax word
-IsRound level s (body word) rs = IsWord s core_forms.Lambda word × IsAlone rs
-IsRound level s (one_case word) rs = IsWord s core_forms.CaseLambda word × IsAlone rs
-IsRound level s (block false word) rs = IsWord s core_forms.Letrec word × IsAlone rs
-IsRound level s (block true word) rs = IsWord s core_forms.LetrecStar word × IsAlone rs
+pub record AreFormals (place : Span) (at : ℕ) (s : State) (ids : List Tree) (fs : Formals) (v : State) : Type 0 where
+  pub leaves : all_ids ids ≡ true
+  pub bound : bind_formals (next_frame (counted s)) place at (record { required = ids; rest = None }) (counted (counted s)) ≡ Ok (fs, v)
+
+pub record IsBinder (place : Span) (at : ℕ) (s : State) (id : Tree) (l : Label) (v : State) : Type 0 where
+  pub leaf : is_leaf id ≡ true
+  pub bound : bind_variable (next_frame s) place at false id (counted s) ≡ Ok (l, v)
+
+abbrev pub IsRound : Span → ℕ → State → Round → List Round → Type 0
+IsRound place level s (sequence word) rs = IsWord s core_forms.Begin word
+IsRound place level s operator rs = Unit {0}
+IsRound place level s (test word) rs = IsWord s core_forms.If word
+IsRound place level s (subject word) rs = IsWord s core_forms.SyntaxCase word
+IsRound place level s (value word id v) rs = IsWord s core_forms.Set word × IsTarget level s id v
+IsRound place level s (keywords false word) rs = IsWord s core_forms.LetSyntax word
+IsRound place level s (keywords true word) rs = IsWord s core_forms.LetrecSyntax word
+IsRound place level s (body word ids fs v) rs = (IsWord s core_forms.Lambda word × AreFormals place level s ids fs v) × IsAlone rs
+IsRound place level s (one_case word) rs = IsWord s core_forms.CaseLambda word × IsAlone rs
+IsRound place level s (block false word) rs = IsWord s core_forms.Letrec word × IsAlone rs
+IsRound place level s (block true word) rs = IsWord s core_forms.LetrecStar word × IsAlone rs
+IsRound place level s (initial false word id l v) rs = IsWord s core_forms.Letrec word × IsBinder place level s id l v
+IsRound place level s (initial true word id l v) rs = IsWord s core_forms.LetrecStar word × IsBinder place level s id l v
 
 -- Where a frame is stamped on what stands in a form, it is stamped on the words.
 abbrev pub stamp_round : FrameNo → Round → Round
@@ -84,23 +108,17 @@ stamp_round f (test word) = test (stamp f word)
 stamp_round f (subject word) = subject (stamp f word)
 stamp_round f (value word id v) = value (stamp f word) (stamp f id) v
 stamp_round f (keywords recursive word) = keywords recursive (stamp f word)
-stamp_round f (body word) = body (stamp f word)
+stamp_round f (body word ids fs v) = body (stamp f word) (map (stamp f) ids) fs v
 stamp_round f (one_case word) = one_case (stamp f word)
 stamp_round f (block star word) = block star (stamp f word)
-
--- with the next name taken
-abbrev pub counted : State → State
-counted s = record s { names = record { library = s.names.library; number = s.names.number + 1 } }
-
-abbrev pub next_frame : State → FrameNo
-next_frame s = record { 0 = s.names }
+stamp_round f (initial star word id l v) = initial star (stamp f word) (stamp f id) l v
 
 -- the frame of formals or of variables, and that of the body in it
-abbrev pub in_frames : State → Tree → Tree
-in_frames s form = stamp (next_frame (counted s)) (stamp (next_frame s) form)
+abbrev pub in_frames : FrameNo → FrameNo → Tree → Tree
+in_frames f g form = stamp g (stamp f form)
 
-abbrev pub rounds_in_frames : State → List Round → List Round
-rounds_in_frames s rs = map (stamp_round (next_frame (counted s))) (map (stamp_round (next_frame s)) rs)
+abbrev pub rounds_in_frames : FrameNo → FrameNo → List Round → List Round
+rounds_in_frames f g rs = map (stamp_round g) (map (stamp_round f) rs)
 
 -- Forms among keywords have a frame of their own, which takes the next name. The code of a procedure takes a name before its frames.
 abbrev pub within : Round → State → Tree → Tree
@@ -110,9 +128,10 @@ within (test word) s form = form
 within (subject word) s form = form
 within (value word id v) s form = form
 within (keywords recursive word) s form = stamp (next_frame s) form
-within (body word) s form = in_frames (counted s) form
-within (one_case word) s form = in_frames (counted s) form
-within (block star word) s form = in_frames s form
+within (body word ids fs v) s form = in_frames (next_frame (counted s)) (next_frame v) form
+within (one_case word) s form = in_frames (next_frame (counted s)) (next_frame (counted (counted s))) form
+within (block star word) s form = in_frames (next_frame s) (next_frame (counted s)) form
+within (initial star word id l v) s form = stamp (next_frame s) form
 
 abbrev pub rounds_within : Round → State → List Round → List Round
 rounds_within (sequence word) s rs = rs
@@ -121,9 +140,10 @@ rounds_within (test word) s rs = rs
 rounds_within (subject word) s rs = rs
 rounds_within (value word id v) s rs = rs
 rounds_within (keywords recursive word) s rs = map (stamp_round (next_frame s)) rs
-rounds_within (body word) s rs = rounds_in_frames (counted s) rs
-rounds_within (one_case word) s rs = rounds_in_frames (counted s) rs
-rounds_within (block star word) s rs = rounds_in_frames s rs
+rounds_within (body word ids fs v) s rs = rounds_in_frames (next_frame (counted s)) (next_frame v) rs
+rounds_within (one_case word) s rs = rounds_in_frames (next_frame (counted s)) (next_frame (counted (counted s))) rs
+rounds_within (block star word) s rs = rounds_in_frames (next_frame s) (next_frame (counted s)) rs
+rounds_within (initial star word id l v) s rs = map (stamp_round (next_frame s)) rs
 
 -- An assignment marks its target before its value is expanded.
 abbrev pub next : Round → State → State
@@ -133,9 +153,10 @@ next (test word) s = s
 next (subject word) s = s
 next (value word id v) s = record s { assigned = with_label s.assigned v.label }
 next (keywords recursive word) s = counted s
-next (body word) s = counted (counted (counted s))
+next (body word ids fs v) s = counted v
 next (one_case word) s = counted (counted (counted s))
 next (block star word) s = counted (counted s)
+next (initial star word id l v) s = v
 
 -- What came into scope in a form with variables or in its body is out of scope after it.
 abbrev pub left : Round → State → State → State
@@ -145,9 +166,10 @@ left (test word) s u = u
 left (subject word) s u = u
 left (value word id v) s u = u
 left (keywords recursive word) s u = u
-left (body word) s u = cut (length s.scope) (cut (length s.scope) u)
+left (body word ids fs v) s u = cut (length s.scope) (cut (length v.scope) u)
 left (one_case word) s u = cut (length s.scope) (cut (length s.scope) u)
 left (block star word) s u = cut (length s.scope) (cut (length s.scope) u)
+left (initial star word id l v) s u = cut (length s.scope) (cut (length u.scope) (counted u))
 
 -- the state that is left of all of them
 abbrev pub all_left : List Round → State → State
@@ -155,9 +177,9 @@ all_left [] s = s
 all_left (r ∷ rs) s = left r s (all_left rs (next r s))
 
 -- these stand round a form, each in the state in which it is expanded
-pub data AreRound (level : ℕ) : State → List Round → Type 0 where
-  innermost : {s : State} → AreRound level s []
-  round : {s : State} {r : Round} {rs : List Round} → IsRound level s r rs → AreRound level (next r s) (rounds_within r s rs) → AreRound level s (r ∷ rs)
+pub data AreRound (place : Span) (level : ℕ) : State → List Round → Type 0 where
+  innermost : {s : State} → AreRound place level s []
+  round : {s : State} {r : Round} {rs : List Round} → IsRound place level s r rs → AreRound place level (next r s) (rounds_within r s rs) → AreRound place level s (r ∷ rs)
 
 abbrev pub truth : Tree
 truth = atom None (atoms.Bool true)
@@ -169,9 +191,10 @@ put (test word) form = pair None word (pair None form (pair None truth nil))
 put (subject word) form = pair None word (pair None form (pair None nil nil))
 put (value word id v) form = pair None word (pair None id (pair None form nil))
 put (keywords recursive word) form = pair None word (pair None nil (pair None form nil))
-put (body word) form = pair None word (pair None nil (pair None form nil))
+put (body word ids fs v) form = pair None word (pair None (chain ids nil) (pair None form nil))
 put (one_case word) form = pair None word (pair None (pair None nil (pair None form nil)) nil)
 put (block star word) form = pair None word (pair None nil (pair None form nil))
+put (initial star word id l v) form = pair None word (pair None (pair None (pair None id (pair None form nil)) nil) (pair None truth nil))
 
 -- a form in these, the outermost first
 abbrev pub put_in : List Round → Tree → Tree
@@ -186,9 +209,10 @@ code place (test word) s c = one_armed c (quoted (strip truth))
 code place (subject word) s c = matching c no_clause place
 code place (value word id v) s c = assignment v.label c
 code place (keywords recursive word) s c = c
-code place (body word) s c = procedure (record { 0 = s.names }) (case (record { required = []; rest = None }) c no_case) true
+code place (body word ids fs v) s c = procedure (record { 0 = s.names }) (case fs c no_case) true
 code place (one_case word) s c = procedure (record { 0 = s.names }) (case (record { required = []; rest = None }) c no_case) false
 code place (block star word) s c = letrec star no_init c
+code place (initial star word id l v) s c = letrec star (init l c no_init) (quoted (strip truth))
 
 abbrev pub code_in : Span → List Round → State → PlainCore → PlainCore
 code_in place [] s c = c
@@ -196,8 +220,8 @@ code_in place (r ∷ rs) s c = code place r s (code_in place rs (next r s) c)
 
 pub record FormsCountOnce : Type 0 where
   -- A constant in 600 of them is taken,
-  pub taken : (records : List LibRecord) (place : Span) (level : ℕ) (rs : List Round) (o : Option Span) (a : Atom) (s : State) → AreRound level s rs → length rs ≤ most_round → is_nil_atom a ≡ false
+  pub taken : (records : List LibRecord) (place : Span) (level : ℕ) (rs : List Round) (o : Option Span) (a : Atom) (s : State) → AreRound place level s rs → length rs ≤ most_round → is_nil_atom a ≡ false
       → expression records place level (put_in rs (atom o a)) s ≡ Ok (code_in place rs s (quoted (strip (atom o a))), all_left rs s)
   -- and any form in 601 of them is TooDeep, unless it is an identifier, which might be a keyword where it is an operator.
-  pub refused : (records : List LibRecord) (place : Span) (level : ℕ) (rs : List Round) (t : Tree) (s : State) → AreRound level s rs → length rs ≡ most_round + 1 → is_leaf t ≡ false
+  pub refused : (records : List LibRecord) (place : Span) (level : ℕ) (rs : List Round) (t : Tree) (s : State) → AreRound place level s rs → length rs ≡ most_round + 1 → is_leaf t ≡ false
       → expression records place level (put_in rs t) s ≡ fault_form kind.TooDeep t place s

@@ -20,7 +20,7 @@ pub fn limit_of_nesting()
     ensures { LimitOfNesting }
 {}
 
-/// Sequences, applications, assignments, procedures without formals, and forms of `if`, `syntax-case`, `letrec`, `letrec*`,
+/// Sequences, applications, assignments, procedures, and forms of `if`, `syntax-case`, `letrec`, `letrec*`,
 /// `let-syntax` and `letrec-syntax` make what lies in them one deeper, and no more: a constant in 600 of them expands, and
 /// any other form but an identifier in 601 of them is TooDeep, at its place.
 pub fn forms_count_once()
