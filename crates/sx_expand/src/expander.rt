@@ -146,11 +146,8 @@ impl Expander {
         requires { self.failed ≡ false }
         ensures { Gives (λ r. r) result (library_record self (earlier_in means.now.earlier) version place.now exports.now forms) }
     {
-        let mut state = self.state;
-        match body_of(self.path, version, self.frame, place) {
-            Ok(at) => top(&mut state, at, exports, forms, means, counts),
-            Err(memory) => Err(Stop::from(memory)),
-        }
+        let mut expander = self;
+        library_record(&mut expander, forms, place, exports, version, means, counts)
     }
 }
 
@@ -181,9 +178,16 @@ fn begun(
     })
 }
 
-fn body_of(path: Symbol, version: Items<u64>, frame: FrameNo, place: &Span) -> Result<TopAt, Memory>
-    ensures { IfOk result (λ at. at ≡ record { path = path; version = version; frame = frame; place = place.now }) }
+fn body_of(
+    path: &Symbol,
+    version: Items<u64>,
+    frame: &FrameNo,
+    place: &Span,
+) -> Result<TopAt, Memory>
+    ensures { IfOk result (λ at. at ≡ record { path = path.now; version = version; frame = frame.now; place = place.now }) }
 {
+    let path = path.share()?;
+    let frame = frame.share()?;
     let place = place.share()?;
     Ok(TopAt {
         path,
@@ -191,6 +195,22 @@ fn body_of(path: Symbol, version: Items<u64>, frame: FrameNo, place: &Span) -> R
         frame,
         place,
     })
+}
+
+/// As `Expander::top`: only the caller owns the expander.
+fn library_record<N: Ledger, L: Ledger>(
+    expander: &mut Expander,
+    forms: Items<Syn>,
+    place: &Span,
+    exports: &[(Symbol, Syn)],
+    version: Items<u64>,
+    means: &Means,
+    counts: &mut Counts<N, L>,
+) -> Result<LibRecord, Stop>
+    ensures { Gives (λ r. r) result (library_record expander.old (earlier_in means.now.earlier) version place.now exports.now forms) }
+{
+    let at = body_of(&expander.path, version, &expander.frame, place)?;
+    top(&mut expander.state, at, exports, forms, means, counts)
 }
 
 fn lambda_body<N: Ledger, L: Ledger>(

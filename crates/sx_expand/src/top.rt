@@ -4,7 +4,7 @@ ghost use Rattle.std.specs.Prelude.{◌≡◌, [], IfOk, OnOk};
 ghost use Rattle.sx_base.specs.Act.{GivesAfter};
 ghost use Rattle.sx_base.specs.Gives.{Gives};
 ghost use Rattle.sx_stage.specs.Libraries.{earlier_in};
-ghost use Rattle.sx_expand.specs.Body.{finish_all, splice};
+ghost use Rattle.sx_expand.specs.Body.{finish_one, finish_all, splice};
 ghost use Rattle.sx_expand.specs.Expression.{inside, full_room};
 ghost use Rattle.sx_expand.specs.Top.{export, all_exports, exports, with_label_of, with_labels_of, code_of, with_lines_of, refs_of, record_of, record_in, kind_of, body_at, first_pass, finished, top};
 
@@ -178,6 +178,18 @@ fn kind_of(library: &LibName) -> BodyKind
     }
 }
 
+/// The line of one that has waited, which goes with that.
+fn finish_next<N: Ledger, L: Ledger>(
+    state: &mut Expansion,
+    one: Waiting,
+    means: &Means,
+    counts: &mut Counts<N, L>,
+) -> Result<Line, Stop>
+    ensures { GivesAfter (λ l. l) result state.new (finish_one (inside (earlier_in means.now.earlier) full_room) 0 one state.old) }
+{
+    finish_one(state, &one, 0, means, counts, ROOM)
+}
+
 /// The second pass. What has waited goes as soon as it is done: the forms of a long body and their core code aren't kept
 /// side by side.
 #[tactic(auto, using(crate::proofs::Taking::each_none))]
@@ -193,7 +205,7 @@ fn finish_each<N: Ledger, L: Ledger>(
     let mut lines = with_room(state.alloc(), waiting.len());
     let mut left = waiting.into_iter();
     while let Some(one) = left.next() {
-        let line = finish_one(state, &one, 0, means, counts, ROOM)?;
+        let line = finish_next(state, one, means, counts)?;
         lines.push(line)?;
     }
     Ok(lines)

@@ -14,4 +14,4 @@ returns-in_err-line g c =
 pub loop-one-preserved : goal.loop-one-preserved
 loop-one-preserved g c =
     rw c.in_ok-push.ensures.items (each_taken (finish_one (inside (earlier_in c.args.means.now.earlier) full_room) 0) c.loop-one.lines.items c.loop-one.left.rest.items c.next.new.self.rest.items c.in-Some.one
-    c.in-Some.ensures.cases.0 c.loop-one.state _ c.loop-one.invariant c.in_ok-line.line c.finish_one.new.state c.in_ok-line.ensures)
+    c.in-Some.ensures.cases.0 c.loop-one.state _ c.loop-one.invariant c.in_ok-line.line c.finish_next.new.state c.in_ok-line.ensures)
