@@ -1,7 +1,10 @@
+use Rattle.std.proofs.Common.{sym, ◌∙◌}
+use Rattle.std.proofs.lemmas.List.{nil_from_length}
 use Rattle.std.proofs.lemmas.Result.{err_from_is_err_and}
 use Rattle.sx_stage.specs.Libraries.{earlier_in}
+use Rattle.sx_expand.specs.Body.{splice}
 use Rattle.sx_expand.specs.Expression.{inside, full_room}
-use Rattle.sx_expand.proofs.Taking.{gather_taken, gather_stopped}
+use Rattle.sx_expand.proofs.Taking.{gather_none, gather_taken, gather_stopped}
 use Rattle.sx_expand.proofs.top.splice_each.Goals as goal
 
 pub returns-in_err-item : goal.returns-in_err-item
@@ -14,3 +17,9 @@ pub loop-form-preserved : goal.loop-form-preserved
 loop-form-preserved g c =
     gather_taken ((inside (earlier_in c.args.means.now.earlier) full_room).item c.args.at.now 0) c.loop-form.taken c.loop-form.left.rest.items c.next.new.self.rest.items c.in-Some.form
     c.in-Some.ensures.cases.0 c.loop-form.state _ c.loop-form.invariant c.item.new.taken c.item.new.state c.in_ok-item.ensures
+
+pub returns : goal.returns
+returns g c =
+    gather_none ((inside (earlier_in c.args.means.now.earlier) full_room).item c.args.at.now 0) c.loop-form.taken c.loop-form.left.rest.items c.loop-form.state
+    (splice (inside (earlier_in c.args.means.now.earlier) full_room) c.args.at.now 0 c.args.taken.now c.args.forms c.args.state.now)
+    (nil_from_length c.loop-form.left.rest.items (sym c.loop-form.left.rest.ok.0 ∙ c.in_default.ensures.cases.0)) c.loop-form.invariant
