@@ -181,7 +181,8 @@ fn of_fault<N: Ledger, L: Ledger>(
     ensures gives { Prepares result (of_loaded loaded.report (Err (loaded.loading, fault))) }
     ensures unread { result ≢ Err Unfinished.Read }
 {
-    let Loading { done, sources, .. } = loaded.loading;
+    let Loaded { loading, .. } = loaded;
+    let Loading { done, sources, .. } = loading;
     match first_fault(alloc, implementation, done, fault, counts) {
         Stop::Fault(fault) => Err(Unfinished::Line(line_of(alloc, sources.as_slice(), &fault)?)),
         Stop::Memory => Err(Unfinished::Memory),
