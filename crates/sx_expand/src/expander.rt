@@ -36,7 +36,8 @@ use sx_syntax::syn::Syn;
 /// The state of one library's expansion, and whether a call was refused. After a refusal it is of no use.
 #[derive(Drop)]
 pub struct Expander {
-    state: Expansion,
+    /// In a box: what owns an expander moves and drops a pointer.
+    state: Box<Expansion>,
     /// The frame of imports and definitions.
     frame: FrameNo,
     /// The path of the library's file.
@@ -51,7 +52,7 @@ impl Model for Expander {
 
     ghost coded = { expanding_code };
 
-    ghost view = { λ e. record { state = e.state; frame = e.frame; path = e.path; failed = e.failed } };
+    ghost view = { λ e. record { state = e.state.value; frame = e.frame; path = e.path; failed = e.failed } };
 }
 
 impl Expander {
@@ -98,7 +99,7 @@ impl Expander {
         ensures frame { self.new.frame ≡ self.old.frame }
         ensures path { self.new.path ≡ self.old.path }
     {
-        match expression(&mut self.state, form, place, level, 0, means, counts, ROOM) {
+        match expression(&mut *self.state, form, place, level, 0, means, counts, ROOM) {
             Ok(core) => Ok(core),
             Err(stop) => {
                 self.failed = true;
@@ -123,7 +124,7 @@ impl Expander {
         ensures frame { self.new.frame ≡ self.old.frame }
         ensures path { self.new.path ≡ self.old.path }
     {
-        match lambda_body(&mut self.state, forms, place, level, means, counts) {
+        match lambda_body(&mut *self.state, forms, place, level, means, counts) {
             Ok(core) => Ok(core),
             Err(stop) => {
                 self.failed = true;
@@ -169,6 +170,7 @@ fn begun(
         imports,
     };
     let state = Expansion::start(alloc, name, &environment, codes)?;
+    let state = Box::new(alloc, state)?;
     let frame = state.first_frame()?;
     Ok(Expander {
         state,
@@ -210,7 +212,7 @@ fn library_record<N: Ledger, L: Ledger>(
     ensures { Gives (λ r. r) result (library_record expander.old (earlier_in means.now.earlier) version place.now exports.now forms) }
 {
     let at = body_of(&expander.path, version, &expander.frame, place)?;
-    top(&mut expander.state, at, exports, forms, means, counts)
+    top(&mut *expander.state, at, exports, forms, means, counts)
 }
 
 fn lambda_body<N: Ledger, L: Ledger>(
