@@ -13,7 +13,7 @@ ghost use Rattle.sx_derived.specs.Names.{path, start, names, exports_of};
 ghost use Rattle.sx_derived.specs.Derived.{tree_at, trees, forms_of, record_of, derived_record, label_or, relabelled_in};
 
 use crate::implementation::Implementation;
-use crate::names::{exports_of, names, path, start};
+use crate::names::{exports, names, path, start};
 use indexmap::IndexMap;
 use std::alloc::Global;
 use std::rc::Rc;
@@ -27,7 +27,6 @@ use sx_base::name::{CodeNo, Label};
 use sx_base::span::Span;
 use sx_base::symbol::Symbol;
 use sx_builtin::derived::derived_source;
-use sx_builtin::exports::DERIVED;
 use sx_core::code::Code;
 use sx_core::record::LibRecord;
 use sx_expand::expander::Expander;
@@ -149,7 +148,7 @@ pub fn derived_record<N: Ledger, L: Ledger>(
     let place = start(alloc)?;
     let forms = forms_of(alloc, &place, derived_source())?;
     let names = names(alloc)?;
-    let exports = exports_of(alloc, &DERIVED)?;
+    let exports = exports(alloc)?;
     let codes = implementation.prelude.codes(alloc)?;
     let text = Text {
         alloc,

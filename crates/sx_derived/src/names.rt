@@ -3,6 +3,7 @@
 ghost use Rattle.std.specs.Prelude.{◌≡◌, ◌≤◌, ◌<◌, ◌++◌, IfOk, OnOk};
 ghost use Rattle.sx_base.specs.Op.{name_count, op_text};
 ghost use Rattle.sx_base.specs.declared.library.LibName.TheVariants as library;
+ghost use Rattle.sx_builtin.specs.Exports.{derived};
 ghost use Rattle.sx_derived.specs.Names.{path, start, is_defined, name_at, names_from, names, export_at, exports_of};
 
 use std::alloc::Global;
@@ -128,9 +129,9 @@ fn push_export(
     exports.push((symbol, leaf))
 }
 
-/// What these definitions export, in order.
+// What these definitions export, in order.
 #[tactic(auto, unfolding(crate::specs::Names::exports_of))]
-pub(crate) fn exports_of(
+fn exports_of(
     alloc: Global,
     definitions: &[Option<u16>],
 ) -> Result<Items<(Symbol, Syn)>, Memory>
@@ -141,4 +142,11 @@ pub(crate) fn exports_of(
         push_export(alloc, definition, &mut exports)?;
     }
     Ok(exports)
+}
+
+/// What the library exports: all that it defines.
+pub(crate) fn exports(alloc: Global) -> Result<Items<(Symbol, Syn)>, Memory>
+    ensures { IfOk result (λ es. es ≡ exports_of derived) }
+{
+    exports_of(alloc, &DERIVED)
 }
