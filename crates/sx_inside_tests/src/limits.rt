@@ -18,6 +18,21 @@ use sx_outside::MemFiles;
 // Files by path.
 type Held = Vec<(String, Vec<u8>)>;
 
+// What is made: which libraries, how many, and how many bytes the last of them has at least.
+#[derive(Drop)]
+struct Asked<'a> {
+    kind: &'a str,
+    count: usize,
+    last: usize,
+}
+
+// The program that is loaded, and where its libraries are sought.
+#[derive(Drop)]
+struct Sought<'a> {
+    roots: &'a [Symbol],
+    program: &'a Symbol,
+}
+
 // What is loaded, how many libraries there are, and how many bytes the last of them has at least; and what comes of it: how
 // many libraries are loaded, or the line of the first fault.
 const LIBRARIES: &str = "side by side/1024/0 => 1024
@@ -108,32 +123,25 @@ fn again(alloc: Global, files: &mut Held, count: usize) -> Result<String, Fail> 
 }
 
 // Makes files, and gives the text in which a fault may lie.
-fn make(
-    alloc: Global,
-    files: &mut Held,
-    kind: &str,
-    count: usize,
-    last: usize,
-) -> Result<String, Fail> {
-    match kind {
-        "side by side" => side_by_side(alloc, files, count, 0, last),
-        "large" => side_by_side(alloc, files, count, 4_194_304, last),
-        "one in another" => one_in_another(alloc, files, count),
-        _ => again(alloc, files, count),
+fn make(alloc: Global, files: &mut Held, asked: &Asked) -> Result<String, Fail> {
+    match asked.kind {
+        "side by side" => side_by_side(alloc, files, asked.count, 0, asked.last),
+        "large" => side_by_side(alloc, files, asked.count, 4_194_304, asked.last),
+        "one in another" => one_in_another(alloc, files, asked.count),
+        _ => again(alloc, files, asked.count),
     }
 }
 
 fn loaded(
     alloc: Global,
     files: &mut MemFiles,
-    roots: &[Symbol],
-    program: &Symbol,
+    sought: &Sought,
     loading: &mut Loading,
     at_fault: &str,
 ) -> Result<String, Fail>
     requires { loading.old ≡ nothing_loaded }
 {
-    match load(alloc, files, roots, program, loading) {
+    match load(alloc, files, sought.roots, sought.program, loading) {
         Ok(found) => Ok(format!(in alloc; "{}", found.place)?),
         Err(Halt::Fault(fault)) => {
             let line = fault_line(alloc, &fault, at_fault.as_bytes())?;
@@ -145,29 +153,16 @@ fn loaded(
 }
 
 // (files and what is loaded are owned where no call can stop: each way out that drops them costs the proof much)
-fn told(
-    alloc: Global,
-    files: Held,
-    roots: &[Symbol],
-    program: &Symbol,
-    at_fault: &str,
-) -> Result<String, Fail> {
+fn told(alloc: Global, files: Held, sought: &Sought, at_fault: &str) -> Result<String, Fail> {
     let mut files = MemFiles::new(alloc, files, Vec::new(alloc));
     let mut loading = Loading::new(alloc);
-    loaded(alloc, &mut files, roots, program, &mut loading, at_fault)
+    loaded(alloc, &mut files, sought, &mut loading, at_fault)
 }
 
-fn made_and_told(
-    alloc: Global,
-    roots: &[Symbol],
-    program: &Symbol,
-    kind: &str,
-    count: usize,
-    last: usize,
-) -> Result<String, Fail> {
+fn made_and_told(alloc: Global, sought: &Sought, asked: &Asked) -> Result<String, Fail> {
     let mut files = Vec::new(alloc);
-    match make(alloc, &mut files, kind, count, last) {
-        Ok(at_fault) => told(alloc, files, roots, program, at_fault.as_str()),
+    match make(alloc, &mut files, asked) {
+        Ok(at_fault) => told(alloc, files, sought, at_fault.as_str()),
         Err(fail) => Err(fail),
     }
 }
@@ -177,20 +172,22 @@ fn number(text: &str) -> Result<usize, Fail> {
 }
 
 // What comes of a row, in a line.
-fn outcome(alloc: Global, asked: &str) -> Result<String, Fail> {
-    let (kind, rest) = asked.split_once("/").ok_or("no count")?;
+fn outcome(alloc: Global, words: &str) -> Result<String, Fail> {
+    let (kind, rest) = words.split_once("/").ok_or("no count")?;
     let (count, last) = rest.split_once("/").ok_or("no bytes")?;
+    let asked = Asked {
+        kind,
+        count: number(count)?,
+        last: number(last)?,
+    };
     let mut roots = Items::new(alloc);
     roots.push(Symbol::new(alloc, ".")?)?;
     let program = Symbol::new(alloc, "p.sps")?;
-    made_and_told(
-        alloc,
-        roots.as_slice(),
-        &program,
-        kind,
-        number(count)?,
-        number(last)?,
-    )
+    let sought = Sought {
+        roots: roots.as_slice(),
+        program: &program,
+    };
+    made_and_told(alloc, &sought, &asked)
 }
 
 fn check(rt: &impl Abort, alloc: Global, rows: &str) -> Result<(), Fail> {
