@@ -87,22 +87,14 @@ fn put(alloc: Global, records: &mut ReadyRecords, word: &str) -> Result<(), Memo
     }
 }
 
-// Begins an expansion behind those of the records that are marked, and holds it.
-fn begin(
-    alloc: Global,
-    records: &ReadyRecords,
-    needs: &[bool],
-    held: &mut Vec<Expansion>,
-) -> Result<(), Memory> {
+// An expansion behind those of the records that are marked.
+fn begun(alloc: Global, records: &ReadyRecords, needs: &[bool]) -> Result<Expansion, Memory> {
     let environment = Environment {
         earlier: records,
         needs,
         imports: &[],
     };
-    match Expansion::start(alloc, LibName::Program, &environment, IndexMap::new(alloc)) {
-        Ok(begun) => held.push(begun),
-        Err(memory) => Err(memory),
-    }
+    Expansion::start(alloc, LibName::Program, &environment, IndexMap::new(alloc))
 }
 
 // The word in the frame of its library.
@@ -136,43 +128,60 @@ fn put_found(alloc: Global, expansion: &mut Expansion, words: &mut String) -> Re
     words.push_str(".")
 }
 
-fn found(alloc: Global, held: &mut Vec<Expansion>) -> Result<String, Memory> {
-    let mut words = String::new(alloc);
-    for number in 0..held.len() {
-        if let Some(expansion) = held.get_mut(number) {
-            put_found(alloc, expansion, &mut words)?;
-        }
+fn put_last(alloc: Global, records: &ReadyRecords, words: &mut String) -> Result<(), Memory> {
+    match begun(alloc, records, &[true, false, true]) {
+        Ok(mut third) => put_found(alloc, &mut third, words),
+        Err(memory) => Err(memory),
     }
-    Ok(words)
+}
+
+fn while_two_are_held(
+    alloc: Global,
+    records: &mut ReadyRecords,
+    first: &mut Expansion,
+    second: &mut Expansion,
+    words: &mut String,
+) -> Result<(), Memory> {
+    put(alloc, records, "c")?;
+    put_found(alloc, first, words)?;
+    put_found(alloc, second, words)?;
+    put_last(alloc, records, words)
+}
+
+fn while_one_is_held(
+    alloc: Global,
+    records: &mut ReadyRecords,
+    first: &mut Expansion,
+    words: &mut String,
+) -> Result<(), Memory> {
+    put(alloc, records, "b")?;
+    match begun(alloc, records, &[true, true]) {
+        Ok(mut second) => while_two_are_held(alloc, records, first, &mut second, words),
+        Err(memory) => Err(memory),
+    }
 }
 
 // What expansions find that are begun between records and held while others come. (records and expansions are owned where no
 // call can stop: each way out that drops them costs the proof much)
-fn steps(
-    alloc: Global,
-    records: &mut ReadyRecords,
-    held: &mut Vec<Expansion>,
-) -> Result<String, Memory> {
+fn put_all(alloc: Global, records: &mut ReadyRecords, words: &mut String) -> Result<(), Memory> {
     put(alloc, records, "a")?;
-    begin(alloc, records, &[true], held)?;
-    put(alloc, records, "b")?;
-    begin(alloc, records, &[true, true], held)?;
-    put(alloc, records, "c")?;
-    begin(alloc, records, &[true, false, true], held)?;
-    found(alloc, held)
+    match begun(alloc, records, &[true]) {
+        Ok(mut first) => while_one_is_held(alloc, records, &mut first, words),
+        Err(memory) => Err(memory),
+    }
 }
 
-fn shared(alloc: Global) -> Result<String, Memory> {
-    let mut held = Vec::new(alloc);
+fn shared(alloc: Global, words: &mut String) -> Result<(), Memory> {
     match ReadyRecords::new(alloc) {
-        Ok(mut records) => steps(alloc, &mut records, &mut held),
+        Ok(mut records) => put_all(alloc, &mut records, words),
         Err(memory) => Err(memory),
     }
 }
 
 #[test]
 fn a_record_is_put_in_while_expansions_share_the_tables(rt: HostRuntime) -> Result<(), Fail> {
-    let words = shared(rt.alloc())?;
+    let mut words = String::new(rt.alloc());
+    shared(rt.alloc(), &mut words)?;
     assert!(rt; words.as_str() == "a.ab.ac.");
     Ok(())
 }
