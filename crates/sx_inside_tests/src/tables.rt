@@ -125,7 +125,8 @@ fn put_found(alloc: Global, expansion: &mut Expansion, words: &mut String) -> Re
             words.push_str(word)?;
         }
     }
-    words.push_str(".")
+    words.push_str(".")?;
+    Ok(())
 }
 
 fn put_last(alloc: Global, records: &ReadyRecords, words: &mut String) -> Result<(), Memory> {
