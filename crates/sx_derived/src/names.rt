@@ -131,10 +131,7 @@ fn push_export(
 
 // What these definitions export, in order.
 #[tactic(auto, unfolding(crate::specs::Names::exports_of))]
-fn exports_of(
-    alloc: Global,
-    definitions: &[Option<u16>],
-) -> Result<Items<(Symbol, Syn)>, Memory>
+fn exports_of(alloc: Global, definitions: &[Option<u16>]) -> Result<Items<(Symbol, Syn)>, Memory>
     ensures { IfOk result (λ es. es ≡ exports_of definitions.now) }
 {
     let mut exports = Items::new(alloc);
