@@ -1,6 +1,7 @@
 #!/bin/sh
 # Programs of the size that a file may have, 4 MiB, each full of one thing. Each row has its size, the seconds that it took,
-# the most memory that it held, and the line of its fault where it has one. With words, only those kinds are run.
+# the most memory that it held, and the line of its fault where it has one; a run is stopped after half a minute. With words,
+# only those kinds are run.
 top=$(cd "$(dirname "$0")/.." && pwd) || exit 1
 folder=$(mktemp -d) || exit 1
 trap 'rm -rf "$folder"' EXIT
@@ -9,7 +10,7 @@ if [ -z "$program" ]; then
     program=$top/crates/scheme_expand/out/scheme_expand
 fi
 python3 - "$program" "$folder" "$@" <<'END'
-import os, subprocess, sys, time
+import os, subprocess, sys, threading, time
 
 program, folder, *wanted = sys.argv[1:]
 # What stands before, what is repeated, with its number for each N, and what stands behind.
@@ -41,7 +42,7 @@ SIZE = 4 * 1024 * 1024
 def write(path, first, word, last):
     """A program with as many of these words as a file has room for."""
     with open(path, "w") as file:
-        left = SIZE - file.write("(import (rnrs))\n" + first) - len(last)
+        left = SIZE - file.write("(import (rnrs) (rnrs records syntactic))\n" + first) - len(last)
         number = 0
         while len(now := word.replace("N", str(number))) <= left:
             left -= file.write(now)
@@ -54,8 +55,13 @@ def run(kind):
     begun = time.time()
     child = subprocess.Popen([program, "--root", folder, f"{folder}/p.sps"],
                              stdout=subprocess.DEVNULL, stderr=subprocess.PIPE)
+    stop = threading.Timer(30, child.kill)
+    stop.start()
     told = child.stderr.read().decode(errors="replace").replace(folder + "/", "")
-    _, _, used = os.wait4(child.pid, 0)
+    _, status, used = os.wait4(child.pid, 0)
+    stop.cancel()
+    if os.WIFSIGNALED(status):
+        told = "stopped"
     print(f"{kind:12} {count:8} {time.time() - begun:8.3f} s {used.ru_maxrss / 1024:8.1f} MB  {told.splitlines()[0] if told else ''}",
           flush=True)
 
