@@ -29,12 +29,13 @@ use sx_base::symbol::Symbol;
 use sx_builtin::derived::derived_source;
 use sx_core::code::Code;
 use sx_core::record::LibRecord;
-use sx_expand::expander::Expander;
+use sx_expand::expander::{Expander, LibraryBody};
 use sx_prims::table::PrimTable;
 use sx_reader::read::read_all;
 use sx_stage::earlier::Earlier;
 use sx_standing::means::{Counts, Means};
 use sx_standing::ready::ReadyRecords;
+use sx_standing::start::Environment;
 use sx_syntax::syn::Syn;
 
 fn tree_at(alloc: Global, place: &Span, datum: &Datum) -> Result<Syn, Stop>
@@ -95,7 +96,12 @@ fn expander_of(
 {
     let path = path(alloc)?;
     let records = ReadyRecords::new(alloc)?;
-    Expander::new(alloc, LibName::Derived, path, &records, &[], names, codes)
+    let environment = Environment {
+        earlier: &records,
+        needs: &[],
+        imports: names,
+    };
+    Expander::new(alloc, LibName::Derived, path, &environment, codes)
 }
 
 // The record of these forms.
@@ -114,8 +120,13 @@ fn record_by<N: Ledger, L: Ledger>(
         needs: &[],
     };
     let means = Means { earlier, prims };
-    let version = Items::new(text.alloc);
-    begun.top(forms, text.place, text.exports, version, &means, counts)
+    let body = LibraryBody {
+        forms,
+        place: text.place,
+        exports: text.exports,
+        version: Items::new(text.alloc),
+    };
+    begun.top(body, &means, counts)
 }
 
 // The record of these forms, where this is what the procedures mean that are texts.

@@ -9,9 +9,10 @@ ghost use Rattle.sx_tree.specs.Changes.{stamp};
 ghost use Rattle.sx_expand.specs.Expression.{inside};
 ghost use Rattle.sx_expand.specs.Body.{splice, item, perform_item, value_of, finish_one, finish_all, finish, body, body_in, body_core, lambda_at, with_inits, no_value};
 
+use crate::at::{FormAt, ItemAt};
 use crate::cores::procedure_of_case;
-use crate::expression::{expression, procedure, sequence_of, stamp_all};
-use crate::keywords::{define_syntax, with_keywords};
+use crate::expression::{ProcedureForm, expression, procedure, sequence_of, stamp_all};
+use crate::keywords::{KeywordDefinition, KeywordsForm, define_syntax, with_keywords};
 use crate::settle::{SettledItem, settle_item};
 use crate::transformers::Transformers;
 use std::alloc::Global;
@@ -32,6 +33,13 @@ use sx_heads::taken::{BodyAt, BodyKind, Taken, Waiting, Waits};
 use sx_standing::expansion::Expansion;
 use sx_standing::means::Counts;
 use sx_syntax::syn::Syn;
+
+/// A form that has a body, and the forms of the body.
+#[derive(Drop)]
+pub struct BodyForm<'a> {
+    pub form: &'a Syn,
+    pub forms: &'a [Syn],
+}
 
 fn falsehood() -> Datum
     ensures { result ≡ datum.atom None (atoms.Bool false) }
@@ -118,18 +126,15 @@ fn lambda_at(frame: FrameNo, place: &Span, level: u32) -> Result<BodyAt, Memory>
 #[cycle(form)]
 fn splice<M: Transformers, N: Ledger, L: Ledger>(
     state: &mut Expansion,
-    at: &BodyAt,
-    depth: u16,
+    at: &ItemAt<M>,
     taken: &mut Taken,
     forms: &[Syn],
-    means: &M,
     counts: &mut Counts<N, L>,
-    room: u16,
 ) -> Result<(), Stop>
-    ensures { GivesAfter (λ _. taken.new) result state.new (splice (inside (M.records means.now) room) at.now depth taken.old forms.now state.old) }
+    ensures { GivesAfter (λ _. taken.new) result state.new (splice (inside (M.records at.now.means.now) at.now.room) at.now.body.now at.now.depth taken.old forms.now state.old) }
 {
     for form in forms {
-        item(state, at, depth, taken, form, means, counts, room)?;
+        item(state, at, taken, form, counts)?;
     }
     Ok(())
 }
@@ -138,102 +143,91 @@ fn splice<M: Transformers, N: Ledger, L: Ledger>(
 #[tactic(auto, using(crate::proofs::Steps::item_step, crate::proofs::Steps::item_too_deep))]
 pub(crate) fn item<M: Transformers, N: Ledger, L: Ledger>(
     state: &mut Expansion,
-    at: &BodyAt,
-    depth: u16,
+    at: &ItemAt<M>,
     taken: &mut Taken,
     form: &Syn,
-    means: &M,
     counts: &mut Counts<N, L>,
-    room: u16,
 ) -> Result<(), Stop>
-    ensures { GivesAfter (λ _. taken.new) result state.new ((inside (M.records means.now) room).item at.now depth taken.old form.now state.old) }
+    ensures { GivesAfter (λ _. taken.new) result state.new ((inside (M.records at.now.means.now) at.now.room).item at.now.body.now at.now.depth taken.old form.now state.old) }
 {
-    if room == 0 {
-        return Err(state.fault_form(FaultKind::TooDeep, form, &at.place));
+    if at.room == 0 {
+        return Err(state.fault_form(FaultKind::TooDeep, form, &at.body.place));
     }
-    item_at(state, at, depth, taken, form, means, counts, room - 1)
+    let inner = ItemAt {
+        room: at.room - 1,
+        ..*at
+    };
+    item_at(state, &inner, taken, form, counts)
 }
 
 #[cycle(form)]
 #[tactic(auto, unfolding(crate::specs::Body::item), using(crate::proofs::Steps::earlier_inside))]
 fn item_at<M: Transformers, N: Ledger, L: Ledger>(
     state: &mut Expansion,
-    at: &BodyAt,
-    depth: u16,
+    at: &ItemAt<M>,
     taken: &mut Taken,
     form: &Syn,
-    means: &M,
     counts: &mut Counts<N, L>,
-    room: u16,
 ) -> Result<(), Stop>
-    ensures { GivesAfter (λ _. taken.new) result state.new (item (inside (M.records means.now) room) at.now depth taken.old form.now state.old) }
+    ensures { GivesAfter (λ _. taken.new) result state.new (item (inside (M.records at.now.means.now) at.now.room) at.now.body.now at.now.depth taken.old form.now state.old) }
 {
-    if depth > MOST_ROUND {
-        return Err(state.fault_form(FaultKind::TooDeep, form, &at.place));
+    if at.depth > MOST_ROUND {
+        return Err(state.fault_form(FaultKind::TooDeep, form, &at.body.place));
     }
-    let SettledItem { at, form, item } = settle_item(state, at, depth, taken, form, means, counts)?;
-    perform_item(state, &at, depth, taken, &form, &item, means, counts, room)
+    let settled = settle_item(state, at, taken, form, counts)?;
+    perform_item(state, at, taken, &settled, counts)
 }
 
-/// What is done with a form of a body that is no use.
+/// What is done with a form of a body that is no use, and that says itself where it stands.
 #[cycle(form)]
 #[tactic(auto, unfolding(crate::specs::Body::perform_item))]
 fn perform_item<M: Transformers, N: Ledger, L: Ledger>(
     state: &mut Expansion,
-    at: &BodyAt,
-    depth: u16,
+    at: &ItemAt<M>,
     taken: &mut Taken,
-    form: &Syn,
-    item: &Item,
-    means: &M,
+    settled: &SettledItem,
     counts: &mut Counts<N, L>,
-    room: u16,
 ) -> Result<(), Stop>
-    ensures { GivesAfter (λ _. taken.new) result state.new (perform_item (inside (M.records means.now) room) at.now depth taken.old form.now item.now state.old) }
+    ensures { GivesAfter (λ _. taken.new) result state.new (perform_item (inside (M.records at.now.means.now) at.now.room) settled.now.at at.now.depth taken.old settled.now.form settled.now.item state.old) }
 {
-    let inner = deeper(depth);
-    match item {
+    let inner = ItemAt {
+        body: &settled.at,
+        depth: deeper(at.depth),
+        ..*at
+    };
+    match &settled.item {
         Item::Nothing => Ok(()),
-        Item::Forms(forms) => splice(
-            state,
-            at,
-            inner,
-            taken,
-            forms.as_slice(),
-            means,
-            counts,
-            room,
-        ),
-        Item::Keyword(spec) => define_syntax(
-            state, at, inner, taken, form, spec, means, counts, room,
-        ),
+        Item::Forms(forms) => splice(state, &inner, taken, forms.as_slice(), counts),
+        Item::Keyword(spec) => {
+            let definition = KeywordDefinition {
+                form: &settled.form,
+                spec,
+            };
+            define_syntax(state, &inner, taken, &definition, counts)
+        }
         Item::Keywords(recursive, specs, forms) => {
-            let forms = with_keywords(
-                state,
-                *recursive,
-                specs.as_slice(),
-                forms.as_slice(),
-                &at.place,
-                at.level,
-                inner,
-                means,
-                counts,
-                room,
-            )?;
-            splice(
-                state,
-                at,
-                inner,
-                taken,
-                forms.as_slice(),
-                means,
-                counts,
-                room,
-            )
+            let parts = KeywordsForm {
+                recursive: *recursive,
+                specs: specs.as_slice(),
+                forms: forms.as_slice(),
+            };
+            let keywords_at = FormAt {
+                place: &settled.at.place,
+                level: settled.at.level,
+                depth: inner.depth,
+                room: at.room,
+                means: at.means,
+            };
+            let forms = with_keywords(state, &parts, &keywords_at, counts)?;
+            splice(state, &inner, taken, forms.as_slice(), counts)
         }
         // No form that was settled is a use.
-        Item::Use(_) => Err(state.fault_form(FaultKind::BadForm, form, &at.place)),
-        Item::SetUse(_) => Err(state.fault_form(FaultKind::BadForm, form, &at.place)),
+        Item::Use(_) => Err(state.fault_form(FaultKind::BadForm, &settled.form, &settled.at.place)),
+        Item::SetUse(_) => Err(state.fault_form(
+            FaultKind::BadForm,
+            &settled.form,
+            &settled.at.place,
+        )),
     }
 }
 
@@ -241,18 +235,14 @@ fn perform_item<M: Transformers, N: Ledger, L: Ledger>(
 fn value_of<M: Transformers, N: Ledger, L: Ledger>(
     state: &mut Expansion,
     value: &Option<Syn>,
-    place: &Span,
-    level: u32,
-    depth: u16,
-    means: &M,
+    at: &FormAt<M>,
     counts: &mut Counts<N, L>,
-    room: u16,
 ) -> Result<Core, Stop>
-    ensures { GivesAfter (λ c. c) result state.new (value_of (inside (M.records means.now) room) place.now level depth value.now state.old) }
+    ensures { GivesAfter (λ c. c) result state.new (value_of (inside (M.records at.now.means.now) at.now.room) at.now.place.now at.now.level at.now.depth value.now state.old) }
 {
     match value {
         None => Ok(no_value(state.alloc())?),
-        Some(value) => expression(state, value, place, level, depth, means, counts, room),
+        Some(value) => expression(state, value, at, counts),
     }
 }
 
@@ -261,70 +251,58 @@ fn value_of<M: Transformers, N: Ledger, L: Ledger>(
 pub(crate) fn finish_one<M: Transformers, N: Ledger, L: Ledger>(
     state: &mut Expansion,
     waiting: &Waiting,
-    level: u32,
-    means: &M,
+    at: &FormAt<M>,
     counts: &mut Counts<N, L>,
-    room: u16,
 ) -> Result<Line, Stop>
-    ensures { GivesAfter (λ c. c) result state.new (finish_one (inside (M.records means.now) room) level waiting.now state.old) }
+    ensures { GivesAfter (λ c. c) result state.new (finish_one (inside (M.records at.now.means.now) at.now.room) at.now.level waiting.now state.old) }
 {
-    let place = &waiting.place;
-    let depth = waiting.depth;
+    let there = FormAt {
+        place: &waiting.place,
+        depth: waiting.depth,
+        ..*at
+    };
+    let inner = FormAt {
+        depth: deeper(waiting.depth),
+        ..there
+    };
     match &waiting.what {
         Waits::Variable(label, value) => {
             let label = label.share()?;
-            let value = value_of(
-                state,
-                value,
-                place,
-                level,
-                deeper(depth),
-                means,
-                counts,
-                room,
-            )?;
+            let value = value_of(state, value, &inner, counts)?;
             Ok(Line::Define(label, value))
         }
         Waits::Procedure(label, form, ids, forms) => {
             let label = label.share()?;
             let number = CodeNo(state.fresh()?);
-            let case = procedure(
-                state,
+            let parts = ProcedureForm {
                 form,
                 ids,
-                forms.as_slice(),
-                place,
-                level,
-                deeper(depth),
-                means,
-                counts,
-                room,
-            )?;
+                forms: forms.as_slice(),
+            };
+            let case = procedure(state, &parts, &inner, counts)?;
             let value = procedure_of_case(state.alloc(), number, case)?;
             Ok(Line::Define(label, value))
         }
         Waits::Expression(form) => {
-            let value = expression(state, form, place, level, depth, means, counts, room)?;
+            let value = expression(state, form, &there, counts)?;
             Ok(Line::Expr(value))
         }
     }
 }
 
-/// The second pass.
+/// The second pass. What waits has a place and a depth of its own.
 #[cycle(form)]
 fn finish_all<M: Transformers, N: Ledger, L: Ledger>(
     state: &mut Expansion,
     waiting: &[Waiting],
-    level: u32,
-    means: &M,
+    at: &FormAt<M>,
     counts: &mut Counts<N, L>,
-    room: u16,
 ) -> Result<Vec<Line>, Stop>
-    ensures { GivesAfter (λ v. v.items) result state.new (finish_all (inside (M.records means.now) room) level waiting.now state.old) }
+    ensures { GivesAfter (λ v. v.items) result state.new (finish_all (inside (M.records at.now.means.now) at.now.room) at.now.level waiting.now state.old) }
 {
     let mut lines = Vec::new(state.alloc());
     for one in waiting {
-        let line = finish_one(state, one, level, means, counts, room)?;
+        let line = finish_one(state, one, at, counts)?;
         lines.push(line)?;
     }
     Ok(lines)
@@ -336,42 +314,32 @@ fn finish<M: Transformers, N: Ledger, L: Ledger>(
     state: &mut Expansion,
     form: &Syn,
     taken: &Taken,
-    place: &Span,
-    level: u32,
-    means: &M,
+    at: &FormAt<M>,
     counts: &mut Counts<N, L>,
-    room: u16,
 ) -> Result<Core, Stop>
-    ensures { GivesAfter (λ c. c) result state.new (finish (inside (M.records means.now) room) place.now level form.now taken.now state.old) }
+    ensures { GivesAfter (λ c. c) result state.new (finish (inside (M.records at.now.means.now) at.now.room) at.now.place.now at.now.level form.now taken.now state.old) }
 {
     if !taken.has_expression {
-        return Err(state.fault_form(FaultKind::NoExpression, form, place));
+        return Err(state.fault_form(FaultKind::NoExpression, form, at.place));
     }
-    let lines = finish_all(state, taken.waiting.as_slice(), level, means, counts, room)?;
+    let lines = finish_all(state, taken.waiting.as_slice(), at, counts)?;
     Ok(body_core(state.alloc(), lines)?)
 }
 
-/// The body of a procedure or `letrec`, which is `form`.
+/// The body of a procedure or `letrec`.
 #[cycle(form)]
 #[tactic(auto, unfolding(crate::specs::Body::body))]
 pub fn body<M: Transformers, N: Ledger, L: Ledger>(
     state: &mut Expansion,
-    form: &Syn,
-    forms: &[Syn],
-    place: &Span,
-    level: u32,
-    depth: u16,
-    means: &M,
+    whole: &BodyForm,
+    at: &FormAt<M>,
     counts: &mut Counts<N, L>,
-    room: u16,
 ) -> Result<Core, Stop>
-    ensures { GivesAfter (λ c. c) result state.new (body (inside (M.records means.now) room) place.now level depth form.now forms.now state.old) }
+    ensures { GivesAfter (λ c. c) result state.new (body (inside (M.records at.now.means.now) at.now.room) at.now.place.now at.now.level at.now.depth whole.now.form.now whole.now.forms.now state.old) }
 {
     let outer = state.in_scope();
     let frame = state.fresh_frame()?;
-    let core = body_in(
-        state, frame, form, forms, place, level, depth, means, counts, room,
-    )?;
+    let core = body_in(state, frame, whole, at, counts)?;
     state.cut_scope(outer);
     Ok(core)
 }
@@ -381,46 +349,35 @@ pub fn body<M: Transformers, N: Ledger, L: Ledger>(
 fn body_in<M: Transformers, N: Ledger, L: Ledger>(
     state: &mut Expansion,
     frame: FrameNo,
-    form: &Syn,
-    forms: &[Syn],
-    place: &Span,
-    level: u32,
-    depth: u16,
-    means: &M,
+    whole: &BodyForm,
+    at: &FormAt<M>,
     counts: &mut Counts<N, L>,
-    room: u16,
 ) -> Result<Core, Stop>
-    ensures { GivesAfter (λ c. c) result state.new (body_in (inside (M.records means.now) room) place.now level depth form.now forms.now frame state.old) }
+    ensures { GivesAfter (λ c. c) result state.new (body_in (inside (M.records at.now.means.now) at.now.room) at.now.place.now at.now.level at.now.depth whole.now.form.now whole.now.forms.now frame state.old) }
 {
-    let at = lambda_at(frame, place, level)?;
-    let taken = taken_of(state, &at, depth, forms, means, counts, room)?;
-    finish(state, form, &taken, place, level, means, counts, room)
+    let body = lambda_at(frame, at.place, at.level)?;
+    let items = ItemAt {
+        body: &body,
+        depth: at.depth,
+        room: at.room,
+        means: at.means,
+    };
+    let taken = taken_of(state, &items, whole.forms, counts)?;
+    finish(state, whole.form, &taken, at, counts)
 }
 
 /// The first pass over the forms of a body, on which its frame is put.
 #[cycle(form)]
 fn taken_of<M: Transformers, N: Ledger, L: Ledger>(
     state: &mut Expansion,
-    at: &BodyAt,
-    depth: u16,
+    at: &ItemAt<M>,
     forms: &[Syn],
-    means: &M,
     counts: &mut Counts<N, L>,
-    room: u16,
 ) -> Result<Taken, Stop>
-    ensures { GivesAfter (λ t. t) result state.new (splice (inside (M.records means.now) room) at.now depth begun (map (stamp at.now.frame) forms.now) state.old) }
+    ensures { GivesAfter (λ t. t) result state.new (splice (inside (M.records at.now.means.now) at.now.room) at.now.body.now at.now.depth begun (map (stamp at.now.body.now.frame) forms.now) state.old) }
 {
-    let forms = stamp_all(state.alloc(), &at.frame, forms, counts.nodes)?;
+    let forms = stamp_all(state.alloc(), &at.body.frame, forms, counts.nodes)?;
     let mut taken = begun(state.alloc());
-    splice(
-        state,
-        at,
-        depth,
-        &mut taken,
-        forms.as_slice(),
-        means,
-        counts,
-        room,
-    )?;
+    splice(state, at, &mut taken, forms.as_slice(), counts)?;
     Ok(taken)
 }

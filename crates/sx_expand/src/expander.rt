@@ -8,10 +8,11 @@ ghost use Rattle.sx_stage.specs.Libraries.{earlier_in};
 ghost use Rattle.sx_standing.specs.Ready.{needed_records};
 ghost use Rattle.sx_expand.specs.Expanding.{ready, expression, lambda_body, library_record};
 
-use crate::body::body;
+use crate::at::{FormAt, OuterAt};
+use crate::body::{BodyForm, body};
 use crate::expression::expression;
 use crate::inside::ROOM;
-use crate::top::{TopAt, top};
+use crate::top::{TopAt, TopBody, top};
 use indexmap::IndexMap;
 use std::alloc::Global;
 use std::marker::Model;
@@ -29,9 +30,19 @@ use sx_core::code::{Code, Core};
 use sx_core::record::LibRecord;
 use sx_standing::expansion::Expansion;
 use sx_standing::means::{Counts, Means};
-use sx_standing::ready::ReadyRecords;
 use sx_standing::start::Environment;
 use sx_syntax::syn::Syn;
+
+/// The body of a library or program that is to be expanded, and what stands in its record beside what its forms give.
+#[derive(Drop)]
+pub struct LibraryBody<'a> {
+    pub forms: Items<Syn>,
+    /// Where a form without a span stands.
+    pub place: &'a Span,
+    /// External names, each with the identifier that it stands for.
+    pub exports: &'a [(Symbol, Syn)],
+    pub version: Items<u64>,
+}
 
 /// The state of one library's expansion, and whether a call was refused. After a refusal it is of no use.
 #[derive(Drop)]
@@ -63,14 +74,12 @@ impl Expander {
         alloc: Global,
         name: LibName,
         path: Symbol,
-        earlier: &ReadyRecords,
-        needs: &[bool],
-        imports: &[(Symbol, Label)],
+        environment: &Environment,
         codes: IndexMap<CodeNo, Rc<Code>>,
     ) -> Result<Expander, Stop>
-        ensures { Gives (λ e. e) result (Ok (ready name path (needed_records needs.now earlier.now) imports.now (table.seen codes.entries))) }
+        ensures { Gives (λ e. e) result (Ok (ready name path (needed_records environment.now.needs.now environment.now.earlier.now) environment.now.imports.now (table.seen codes.entries))) }
     {
-        match begun(alloc, name, path, earlier, needs, imports, codes) {
+        match begun(alloc, name, path, environment, codes) {
             Ok(expander) => Ok(expander),
             Err(memory) => Err(Stop::from(memory)),
         }
@@ -83,23 +92,29 @@ impl Expander {
         self.failed
     }
 
-    /// What an expression expands to. A form without a span stands at the place.
+    /// What an expression expands to.
     pub fn expression<N: Ledger, L: Ledger>(
         &mut self,
         form: &Syn,
-        place: &Span,
-        level: u32,
+        at: &OuterAt,
         means: &Means,
         counts: &mut Counts<N, L>,
     ) -> Result<Core, Stop>
         requires { self.old.failed ≡ false }
-        ensures given { GivesAfter (λ c. c) result self.new.state (expression (earlier_in means.now.earlier) place.now level form.now self.old.state) }
+        ensures given { GivesAfter (λ c. c) result self.new.state (expression (earlier_in means.now.earlier) at.now.place.now at.now.level form.now self.old.state) }
         ensures ok { OnOk result (self.new.failed ≡ false) }
         ensures err { OnErr result (self.new.failed ≡ true) }
         ensures frame { self.new.frame ≡ self.old.frame }
         ensures path { self.new.path ≡ self.old.path }
     {
-        match expression(&mut *self.state, form, place, level, 0, means, counts, ROOM) {
+        let at = FormAt {
+            place: at.place,
+            level: at.level,
+            depth: 0,
+            room: ROOM,
+            means,
+        };
+        match expression(&mut *self.state, form, &at, counts) {
             Ok(core) => Ok(core),
             Err(stop) => {
                 self.failed = true;
@@ -112,19 +127,18 @@ impl Expander {
     pub fn body<N: Ledger, L: Ledger>(
         &mut self,
         forms: &[Syn],
-        place: &Span,
-        level: u32,
+        at: &OuterAt,
         means: &Means,
         counts: &mut Counts<N, L>,
     ) -> Result<Core, Stop>
         requires { self.old.failed ≡ false }
-        ensures given { GivesAfter (λ c. c) result self.new.state (lambda_body (earlier_in means.now.earlier) place.now level forms.now self.old.state) }
+        ensures given { GivesAfter (λ c. c) result self.new.state (lambda_body (earlier_in means.now.earlier) at.now.place.now at.now.level forms.now self.old.state) }
         ensures ok { OnOk result (self.new.failed ≡ false) }
         ensures err { OnErr result (self.new.failed ≡ true) }
         ensures frame { self.new.frame ≡ self.old.frame }
         ensures path { self.new.path ≡ self.old.path }
     {
-        match lambda_body(&mut *self.state, forms, place, level, means, counts) {
+        match lambda_body(&mut *self.state, forms, at, means, counts) {
             Ok(core) => Ok(core),
             Err(stop) => {
                 self.failed = true;
@@ -133,22 +147,18 @@ impl Expander {
         }
     }
 
-    /// The record of a library or program with this body, whose forms go on the way. The exports are external names,
-    /// each with the identifier that it stands for.
+    /// The record of a library or program with this body, whose forms go on the way.
     pub fn top<N: Ledger, L: Ledger>(
         self,
-        forms: Items<Syn>,
-        place: &Span,
-        exports: &[(Symbol, Syn)],
-        version: Items<u64>,
+        body: LibraryBody,
         means: &Means,
         counts: &mut Counts<N, L>,
     ) -> Result<LibRecord, Stop>
         requires { self.failed ≡ false }
-        ensures { Gives (λ r. r) result (library_record self (earlier_in means.now.earlier) version place.now exports.now forms) }
+        ensures { Gives (λ r. r) result (library_record self (earlier_in means.now.earlier) body.entry.version body.entry.place.now body.entry.exports.now body.entry.forms) }
     {
         let mut expander = self;
-        library_record(&mut expander, forms, place, exports, version, means, counts)
+        library_record(&mut expander, body, means, counts)
     }
 }
 
@@ -157,19 +167,12 @@ fn begun(
     alloc: Global,
     name: LibName,
     path: Symbol,
-    earlier: &ReadyRecords,
-    needs: &[bool],
-    imports: &[(Symbol, Label)],
+    environment: &Environment,
     codes: IndexMap<CodeNo, Rc<Code>>,
 ) -> Result<Expander, Memory>
-    ensures { IfOk result (λ e. e ≡ ready name path (needed_records needs.now earlier.now) imports.now (table.seen codes.entries)) }
+    ensures { IfOk result (λ e. e ≡ ready name path (needed_records environment.now.needs.now environment.now.earlier.now) environment.now.imports.now (table.seen codes.entries)) }
 {
-    let environment = Environment {
-        earlier,
-        needs,
-        imports,
-    };
-    let state = Expansion::start(alloc, name, &environment, codes)?;
+    let state = Expansion::start(alloc, name, environment, codes)?;
     let state = Box::new(alloc, state)?;
     let frame = state.first_frame()?;
     Ok(Expander {
@@ -202,29 +205,43 @@ fn body_of(
 /// As `Expander::top`: only the caller owns the expander.
 fn library_record<N: Ledger, L: Ledger>(
     expander: &mut Expander,
-    forms: Items<Syn>,
-    place: &Span,
-    exports: &[(Symbol, Syn)],
-    version: Items<u64>,
+    body: LibraryBody,
     means: &Means,
     counts: &mut Counts<N, L>,
 ) -> Result<LibRecord, Stop>
-    ensures { Gives (λ r. r) result (library_record expander.old (earlier_in means.now.earlier) version place.now exports.now forms) }
+    ensures { Gives (λ r. r) result (library_record expander.old (earlier_in means.now.earlier) body.entry.version body.entry.place.now body.entry.exports.now body.entry.forms) }
 {
+    let LibraryBody {
+        forms,
+        place,
+        exports,
+        version,
+    } = body;
     let at = body_of(&expander.path, version, &expander.frame, place)?;
-    top(&mut *expander.state, at, exports, forms, means, counts)
+    let body = TopBody { at, exports };
+    top(&mut *expander.state, body, forms, means, counts)
 }
 
 fn lambda_body<N: Ledger, L: Ledger>(
     state: &mut Expansion,
     forms: &[Syn],
-    place: &Span,
-    level: u32,
+    at: &OuterAt,
     means: &Means,
     counts: &mut Counts<N, L>,
 ) -> Result<Core, Stop>
-    ensures { GivesAfter (λ c. c) result state.new (lambda_body (earlier_in means.now.earlier) place.now level forms.now state.old) }
+    ensures { GivesAfter (λ c. c) result state.new (lambda_body (earlier_in means.now.earlier) at.now.place.now at.now.level forms.now state.old) }
 {
     let nowhere = Syn::atom(state.alloc(), Atom::Nil)?;
-    body(state, &nowhere, forms, place, level, 0, means, counts, ROOM)
+    let at = FormAt {
+        place: at.place,
+        level: at.level,
+        depth: 0,
+        room: ROOM,
+        means,
+    };
+    let whole = BodyForm {
+        form: &nowhere,
+        forms,
+    };
+    body(state, &whole, &at, counts)
 }

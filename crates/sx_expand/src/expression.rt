@@ -6,14 +6,15 @@ ghost use Rattle.sx_tree.specs.Changes.{stamp};
 ghost use Rattle.sx_expand.specs.Body.{body, sequence_of};
 ghost use Rattle.sx_expand.specs.Expression.{inside, form_at, perform, in_order, lambda, case_lambda, all_cases, lambda_case, case_in, letrec_form, letrec_in, all_inits, one_init, application, conditional, alternate, set, in_sequence};
 
-use crate::body::body;
+use crate::at::FormAt;
+use crate::body::{BodyForm, body};
 use crate::cores::{
     assignment_of, call_of, letrec_of, one_armed_of, procedure_of_case, procedure_of_cases,
     two_armed_of,
 };
-use crate::keywords::keywords_form;
-use crate::patterns::syntax_case;
-use crate::quasi::quasi_form;
+use crate::keywords::{KeywordsForm, keywords_form};
+use crate::patterns::{PatternForm, syntax_case};
+use crate::quasi::{TemplateForm, quasi_form};
 use crate::settle::{Settled, settle};
 use crate::transformers::Transformers;
 use std::alloc::Global;
@@ -22,7 +23,6 @@ use sx_base::fault::{FaultKind, Stop};
 use sx_base::items::Items;
 use sx_base::memory::Memory;
 use sx_base::name::{CodeNo, FrameNo, Label};
-use sx_base::span::Span;
 use sx_base::steps::Steps;
 use sx_core::code::{Core, CoreNode, Init, Lambda};
 use sx_heads::depth::{MOST_ROUND, deeper};
@@ -32,6 +32,40 @@ use sx_standing::binders::{BinderContext, BoundSpec};
 use sx_standing::expansion::Expansion;
 use sx_standing::means::Counts;
 use sx_syntax::syn::Syn;
+
+/// The parts of an `if`.
+#[derive(Drop)]
+struct Branches<'a> {
+    test: &'a Syn,
+    consequent: &'a Syn,
+    alternate: &'a Option<Syn>,
+}
+
+/// The test and the consequent of an `if`, expanded.
+#[derive(Drop)]
+struct Tested {
+    test: Core,
+    consequent: Core,
+}
+
+/// A form that makes a procedure, and the parts of one of its cases.
+#[derive(Drop)]
+pub struct ProcedureForm<'a> {
+    pub form: &'a Syn,
+    pub ids: &'a FormalIds,
+    /// The body of the case.
+    pub forms: &'a [Syn],
+}
+
+/// A `letrec`, or a `letrec*` where the flag is true, and its parts.
+#[derive(Drop)]
+struct LetrecForm<'a> {
+    form: &'a Syn,
+    star: bool,
+    specs: &'a [BindingSpec],
+    /// Its body.
+    forms: &'a [Syn],
+}
 
 /// A sequence of one is that one.
 #[tactic(auto, using(crate::proofs::Bodies::only_one, crate::proofs::Bodies::not_one))]
@@ -83,19 +117,19 @@ pub(crate) fn stamp_all<N: Ledger>(
 pub fn expression<M: Transformers, N: Ledger, L: Ledger>(
     state: &mut Expansion,
     form: &Syn,
-    place: &Span,
-    level: u32,
-    depth: u16,
-    means: &M,
+    at: &FormAt<M>,
     counts: &mut Counts<N, L>,
-    room: u16,
 ) -> Result<Core, Stop>
-    ensures { GivesAfter (λ c. c) result state.new ((inside (M.records means.now) room).form place.now level depth form.now state.old) }
+    ensures { GivesAfter (λ c. c) result state.new ((inside (M.records at.now.means.now) at.now.room).form at.now.place.now at.now.level at.now.depth form.now state.old) }
 {
-    if room == 0 {
-        return Err(state.fault_form(FaultKind::TooDeep, form, place));
+    if at.room == 0 {
+        return Err(state.fault_form(FaultKind::TooDeep, form, at.place));
     }
-    form_at(state, form, place, level, depth, means, counts, room - 1)
+    let inner = FormAt {
+        room: at.room - 1,
+        ..*at
+    };
+    form_at(state, form, &inner, counts)
 }
 
 /// An expression that a frame is put on.
@@ -104,17 +138,13 @@ pub(crate) fn expression_in<M: Transformers, N: Ledger, L: Ledger>(
     state: &mut Expansion,
     frame: &FrameNo,
     form: &Syn,
-    place: &Span,
-    level: u32,
-    depth: u16,
-    means: &M,
+    at: &FormAt<M>,
     counts: &mut Counts<N, L>,
-    room: u16,
 ) -> Result<Core, Stop>
-    ensures { GivesAfter (λ c. c) result state.new ((inside (M.records means.now) room).form place.now level depth (stamp frame.now form.now) state.old) }
+    ensures { GivesAfter (λ c. c) result state.new ((inside (M.records at.now.means.now) at.now.room).form at.now.place.now at.now.level at.now.depth (stamp frame.now form.now) state.old) }
 {
     let form = form.stamp(state.alloc(), frame.share()?, counts.nodes)?;
-    expression(state, &form, place, level, depth, means, counts, room)
+    expression(state, &form, at, counts)
 }
 
 #[cycle(form)]
@@ -122,22 +152,20 @@ pub(crate) fn expression_in<M: Transformers, N: Ledger, L: Ledger>(
 fn form_at<M: Transformers, N: Ledger, L: Ledger>(
     state: &mut Expansion,
     form: &Syn,
-    place: &Span,
-    level: u32,
-    depth: u16,
-    means: &M,
+    at: &FormAt<M>,
     counts: &mut Counts<N, L>,
-    room: u16,
 ) -> Result<Core, Stop>
-    ensures { GivesAfter (λ c. c) result state.new (form_at (inside (M.records means.now) room) place.now level depth form.now state.old) }
+    ensures { GivesAfter (λ c. c) result state.new (form_at (inside (M.records at.now.means.now) at.now.room) at.now.place.now at.now.level at.now.depth form.now state.old) }
 {
-    if depth > MOST_ROUND {
-        return Err(state.fault_form(FaultKind::TooDeep, form, place));
+    if at.depth > MOST_ROUND {
+        return Err(state.fault_form(FaultKind::TooDeep, form, at.place));
     }
-    let Settled { place, form, plan } = settle(state, form, place, level, means, counts)?;
-    perform(
-        state, &form, plan, &place, level, depth, means, counts, room,
-    )
+    let Settled { place, form, plan } = settle(state, form, at, counts)?;
+    let there = FormAt {
+        place: &place,
+        ..*at
+    };
+    perform(state, &form, plan, &there, counts)
 }
 
 /// What is done with a plan: the code of one that is done is taken out of it.
@@ -147,18 +175,14 @@ fn perform<M: Transformers, N: Ledger, L: Ledger>(
     state: &mut Expansion,
     form: &Syn,
     plan: Plan,
-    place: &Span,
-    level: u32,
-    depth: u16,
-    means: &M,
+    at: &FormAt<M>,
     counts: &mut Counts<N, L>,
-    room: u16,
 ) -> Result<Core, Stop>
-    ensures { GivesAfter (λ c. c) result state.new (perform (inside (M.records means.now) room) place.now level depth form.now plan state.old) }
+    ensures { GivesAfter (λ c. c) result state.new (perform (inside (M.records at.now.means.now) at.now.room) at.now.place.now at.now.level at.now.depth form.now plan state.old) }
 {
     match plan {
         Plan::Done(core) => Ok(core),
-        plan => perform_plan(state, form, &plan, place, level, depth, means, counts, room),
+        plan => perform_plan(state, form, &plan, at, counts),
     }
 }
 
@@ -169,117 +193,77 @@ fn perform_plan<M: Transformers, N: Ledger, L: Ledger>(
     state: &mut Expansion,
     form: &Syn,
     plan: &Plan,
-    place: &Span,
-    level: u32,
-    depth: u16,
-    means: &M,
+    at: &FormAt<M>,
     counts: &mut Counts<N, L>,
-    room: u16,
 ) -> Result<Core, Stop>
-    ensures { GivesAfter (λ c. c) result state.new (perform (inside (M.records means.now) room) place.now level depth form.now plan.now state.old) }
+    ensures { GivesAfter (λ c. c) result state.new (perform (inside (M.records at.now.means.now) at.now.room) at.now.place.now at.now.level at.now.depth form.now plan.now state.old) }
 {
-    let inner = deeper(depth);
+    let inner = FormAt {
+        depth: deeper(at.depth),
+        ..*at
+    };
     match plan {
         // This never comes: the caller has taken the code of a plan that is done.
         Plan::Done(_) => Err(Stop::Memory),
         Plan::Call(operator, operands) => {
-            application(
-                state,
-                operator,
-                operands.as_slice(),
-                place,
-                level,
-                inner,
-                means,
-                counts,
-                room,
-            )
+            application(state, operator, operands.as_slice(), &inner, counts)
         }
-        Plan::Conditional(test, consequent, other) => {
-            conditional(
-                state, test, consequent, other, place, level, inner, means, counts, room,
-            )
+        Plan::Conditional(test, consequent, alternate) => {
+            let parts = Branches {
+                test,
+                consequent,
+                alternate,
+            };
+            conditional(state, &parts, &inner, counts)
         }
-        Plan::Assignment(label, value) => set(
-            state, label, value, place, level, inner, means, counts, room,
-        ),
-        Plan::Sequence(forms) => in_sequence(
-            state,
-            forms.as_slice(),
-            place,
-            level,
-            inner,
-            means,
-            counts,
-            room,
-        ),
-        Plan::Lambda(ids, forms) => lambda(
-            state,
-            form,
-            ids,
-            forms.as_slice(),
-            place,
-            level,
-            inner,
-            means,
-            counts,
-            room,
-        ),
-        Plan::CaseLambda(cases) => case_lambda(
-            state,
-            form,
-            cases.as_slice(),
-            place,
-            level,
-            inner,
-            means,
-            counts,
-            room,
-        ),
-        Plan::Letrec(star, specs, forms) => letrec_form(
-            state,
-            form,
-            *star,
-            specs.as_slice(),
-            forms.as_slice(),
-            place,
-            level,
-            inner,
-            means,
-            counts,
-            room,
-        ),
-        Plan::Matching(subject, literals, clauses, span) => syntax_case(
-            state,
-            subject,
-            literals.as_slice(),
-            clauses.as_slice(),
-            span,
-            place,
-            level,
-            inner,
-            means,
-            counts,
-            room,
-        ),
-        Plan::Keywords(recursive, specs, forms) => keywords_form(
-            state,
-            *recursive,
-            specs.as_slice(),
-            forms.as_slice(),
-            place,
-            level,
-            inner,
-            means,
-            counts,
-            room,
-        ),
-        Plan::Quasi(which, template) => quasi_form(
-            state, form, *which, template, place, level, inner, means, counts, room,
-        ),
+        Plan::Assignment(label, value) => set(state, label, value, &inner, counts),
+        Plan::Sequence(forms) => in_sequence(state, forms.as_slice(), &inner, counts),
+        Plan::Lambda(ids, forms) => {
+            let parts = ProcedureForm {
+                form,
+                ids,
+                forms: forms.as_slice(),
+            };
+            lambda(state, &parts, &inner, counts)
+        }
+        Plan::CaseLambda(cases) => case_lambda(state, form, cases.as_slice(), &inner, counts),
+        Plan::Letrec(star, specs, forms) => {
+            let parts = LetrecForm {
+                form,
+                star: *star,
+                specs: specs.as_slice(),
+                forms: forms.as_slice(),
+            };
+            letrec_form(state, &parts, &inner, counts)
+        }
+        Plan::Matching(subject, literals, cases, span) => {
+            let parts = PatternForm {
+                subject,
+                literals: literals.as_slice(),
+                cases: cases.as_slice(),
+                span,
+            };
+            syntax_case(state, &parts, &inner, counts)
+        }
+        Plan::Keywords(recursive, specs, forms) => {
+            let parts = KeywordsForm {
+                recursive: *recursive,
+                specs: specs.as_slice(),
+                forms: forms.as_slice(),
+            };
+            keywords_form(state, &parts, &inner, counts)
+        }
+        Plan::Quasi(which, template) => {
+            let parts = TemplateForm {
+                form,
+                which: *which,
+                template,
+            };
+            quasi_form(state, &parts, &inner, counts)
+        }
         // No plan of a form that was settled is a use.
-        Plan::Use(_) => Err(state.fault_form(FaultKind::BadForm, form, place)),
-        Plan::SetUse(_, _) => Err(state.fault_form(FaultKind::BadForm, form, place)),
+        Plan::Use(_) => Err(state.fault_form(FaultKind::BadForm, form, at.place)),
+        Plan::SetUse(_, _) => Err(state.fault_form(FaultKind::BadForm, form, at.place)),
     }
 }
 
@@ -290,17 +274,13 @@ fn application<M: Transformers, N: Ledger, L: Ledger>(
     state: &mut Expansion,
     operator: &Syn,
     operands: &[Syn],
-    place: &Span,
-    level: u32,
-    depth: u16,
-    means: &M,
+    at: &FormAt<M>,
     counts: &mut Counts<N, L>,
-    room: u16,
 ) -> Result<Core, Stop>
-    ensures { GivesAfter (λ c. c) result state.new (application (inside (M.records means.now) room) place.now level depth operator.now operands.now state.old) }
+    ensures { GivesAfter (λ c. c) result state.new (application (inside (M.records at.now.means.now) at.now.room) at.now.place.now at.now.level at.now.depth operator.now operands.now state.old) }
 {
-    let operator = expression(state, operator, place, level, depth, means, counts, room)?;
-    let operands = in_order(state, operands, place, level, depth, means, counts, room)?;
+    let operator = expression(state, operator, at, counts)?;
+    let operands = in_order(state, operands, at, counts)?;
     Ok(call_of(state.alloc(), operator, operands)?)
 }
 
@@ -308,44 +288,33 @@ fn application<M: Transformers, N: Ledger, L: Ledger>(
 #[tactic(auto, unfolding(crate::specs::Expression::conditional))]
 fn conditional<M: Transformers, N: Ledger, L: Ledger>(
     state: &mut Expansion,
-    test: &Syn,
-    consequent: &Syn,
-    other: &Option<Syn>,
-    place: &Span,
-    level: u32,
-    depth: u16,
-    means: &M,
+    parts: &Branches,
+    at: &FormAt<M>,
     counts: &mut Counts<N, L>,
-    room: u16,
 ) -> Result<Core, Stop>
-    ensures { GivesAfter (λ c. c) result state.new (conditional (inside (M.records means.now) room) place.now level depth test.now consequent.now other.now state.old) }
+    ensures { GivesAfter (λ c. c) result state.new (conditional (inside (M.records at.now.means.now) at.now.room) at.now.place.now at.now.level at.now.depth parts.now.test.now parts.now.consequent.now parts.now.alternate.now state.old) }
 {
-    let test = expression(state, test, place, level, depth, means, counts, room)?;
-    let consequent = expression(state, consequent, place, level, depth, means, counts, room)?;
-    alternate(
-        state, test, consequent, other, place, level, depth, means, counts, room,
-    )
+    let test = expression(state, parts.test, at, counts)?;
+    let consequent = expression(state, parts.consequent, at, counts)?;
+    let tested = Tested { test, consequent };
+    alternate(state, tested, parts.alternate, at, counts)
 }
 
 #[cycle(form)]
 fn alternate<M: Transformers, N: Ledger, L: Ledger>(
     state: &mut Expansion,
-    test: Core,
-    consequent: Core,
+    tested: Tested,
     other: &Option<Syn>,
-    place: &Span,
-    level: u32,
-    depth: u16,
-    means: &M,
+    at: &FormAt<M>,
     counts: &mut Counts<N, L>,
-    room: u16,
 ) -> Result<Core, Stop>
-    ensures { GivesAfter (λ c. c) result state.new (alternate (inside (M.records means.now) room) place.now level depth test consequent other.now state.old) }
+    ensures { GivesAfter (λ c. c) result state.new (alternate (inside (M.records at.now.means.now) at.now.room) at.now.place.now at.now.level at.now.depth tested.test tested.consequent other.now state.old) }
 {
+    let Tested { test, consequent } = tested;
     match other {
         None => Ok(one_armed_of(state.alloc(), test, consequent)?),
         Some(other) => {
-            let other = expression(state, other, place, level, depth, means, counts, room)?;
+            let other = expression(state, other, at, counts)?;
             Ok(two_armed_of(state.alloc(), test, consequent, other)?)
         }
     }
@@ -357,16 +326,12 @@ fn set<M: Transformers, N: Ledger, L: Ledger>(
     state: &mut Expansion,
     label: &Label,
     value: &Syn,
-    place: &Span,
-    level: u32,
-    depth: u16,
-    means: &M,
+    at: &FormAt<M>,
     counts: &mut Counts<N, L>,
-    room: u16,
 ) -> Result<Core, Stop>
-    ensures { GivesAfter (λ c. c) result state.new (set (inside (M.records means.now) room) place.now level depth label.now value.now state.old) }
+    ensures { GivesAfter (λ c. c) result state.new (set (inside (M.records at.now.means.now) at.now.room) at.now.place.now at.now.level at.now.depth label.now value.now state.old) }
 {
-    let value = expression(state, value, place, level, depth, means, counts, room)?;
+    let value = expression(state, value, at, counts)?;
     Ok(assignment_of(state.alloc(), label, value)?)
 }
 
@@ -375,16 +340,12 @@ fn set<M: Transformers, N: Ledger, L: Ledger>(
 pub(crate) fn in_sequence<M: Transformers, N: Ledger, L: Ledger>(
     state: &mut Expansion,
     forms: &[Syn],
-    place: &Span,
-    level: u32,
-    depth: u16,
-    means: &M,
+    at: &FormAt<M>,
     counts: &mut Counts<N, L>,
-    room: u16,
 ) -> Result<Core, Stop>
-    ensures { GivesAfter (λ c. c) result state.new (in_sequence (inside (M.records means.now) room) place.now level depth forms.now state.old) }
+    ensures { GivesAfter (λ c. c) result state.new (in_sequence (inside (M.records at.now.means.now) at.now.room) at.now.place.now at.now.level at.now.depth forms.now state.old) }
 {
-    let parts = in_order(state, forms, place, level, depth, means, counts, room)?;
+    let parts = in_order(state, forms, at, counts)?;
     Ok(sequence_of(parts))
 }
 
@@ -392,18 +353,14 @@ pub(crate) fn in_sequence<M: Transformers, N: Ledger, L: Ledger>(
 fn in_order<M: Transformers, N: Ledger, L: Ledger>(
     state: &mut Expansion,
     forms: &[Syn],
-    place: &Span,
-    level: u32,
-    depth: u16,
-    means: &M,
+    at: &FormAt<M>,
     counts: &mut Counts<N, L>,
-    room: u16,
 ) -> Result<Vec<Core>, Stop>
-    ensures { GivesAfter (λ c. c.items) result state.new (in_order (inside (M.records means.now) room) place.now level depth forms.now state.old) }
+    ensures { GivesAfter (λ c. c.items) result state.new (in_order (inside (M.records at.now.means.now) at.now.room) at.now.place.now at.now.level at.now.depth forms.now state.old) }
 {
     let mut done = with_room(state.alloc(), forms.len());
     for form in forms {
-        let core = expression(state, form, place, level, depth, means, counts, room)?;
+        let core = expression(state, form, at, counts)?;
         done.push(core)?;
     }
     Ok(done)
@@ -413,22 +370,14 @@ fn in_order<M: Transformers, N: Ledger, L: Ledger>(
 #[tactic(auto, unfolding(crate::specs::Expression::lambda))]
 fn lambda<M: Transformers, N: Ledger, L: Ledger>(
     state: &mut Expansion,
-    form: &Syn,
-    ids: &FormalIds,
-    forms: &[Syn],
-    place: &Span,
-    level: u32,
-    depth: u16,
-    means: &M,
+    parts: &ProcedureForm,
+    at: &FormAt<M>,
     counts: &mut Counts<N, L>,
-    room: u16,
 ) -> Result<Core, Stop>
-    ensures { GivesAfter (λ c. c) result state.new (lambda (inside (M.records means.now) room) place.now level depth form.now ids.now forms.now state.old) }
+    ensures { GivesAfter (λ c. c) result state.new (lambda (inside (M.records at.now.means.now) at.now.room) at.now.place.now at.now.level at.now.depth parts.now.form.now parts.now.ids.now parts.now.forms.now state.old) }
 {
     let number = CodeNo(state.fresh()?);
-    let case = lambda_case(
-        state, form, ids, forms, place, level, depth, means, counts, room,
-    )?;
+    let case = lambda_case(state, parts, at, counts)?;
     Ok(procedure_of_case(state.alloc(), number, case)?)
 }
 
@@ -438,17 +387,13 @@ fn case_lambda<M: Transformers, N: Ledger, L: Ledger>(
     state: &mut Expansion,
     form: &Syn,
     cases: &[LambdaCase],
-    place: &Span,
-    level: u32,
-    depth: u16,
-    means: &M,
+    at: &FormAt<M>,
     counts: &mut Counts<N, L>,
-    room: u16,
 ) -> Result<Core, Stop>
-    ensures { GivesAfter (λ c. c) result state.new (case_lambda (inside (M.records means.now) room) place.now level depth form.now cases.now state.old) }
+    ensures { GivesAfter (λ c. c) result state.new (case_lambda (inside (M.records at.now.means.now) at.now.room) at.now.place.now at.now.level at.now.depth form.now cases.now state.old) }
 {
     let number = CodeNo(state.fresh()?);
-    let cases = all_cases(state, form, cases, place, level, depth, means, counts, room)?;
+    let cases = all_cases(state, form, cases, at, counts)?;
     Ok(procedure_of_cases(state.alloc(), number, cases)?)
 }
 
@@ -457,29 +402,19 @@ fn all_cases<M: Transformers, N: Ledger, L: Ledger>(
     state: &mut Expansion,
     form: &Syn,
     cases: &[LambdaCase],
-    place: &Span,
-    level: u32,
-    depth: u16,
-    means: &M,
+    at: &FormAt<M>,
     counts: &mut Counts<N, L>,
-    room: u16,
 ) -> Result<Vec<Lambda>, Stop>
-    ensures { GivesAfter (λ c. c.items) result state.new (all_cases (inside (M.records means.now) room) place.now level depth form.now cases.now state.old) }
+    ensures { GivesAfter (λ c. c.items) result state.new (all_cases (inside (M.records at.now.means.now) at.now.room) at.now.place.now at.now.level at.now.depth form.now cases.now state.old) }
 {
     let mut done = with_room(state.alloc(), cases.len());
     for case in cases {
-        let one = lambda_case(
-            state,
+        let parts = ProcedureForm {
             form,
-            &case.formals,
-            case.body.as_slice(),
-            place,
-            level,
-            depth,
-            means,
-            counts,
-            room,
-        )?;
+            ids: &case.formals,
+            forms: case.body.as_slice(),
+        };
+        let one = lambda_case(state, &parts, at, counts)?;
         done.push(one)?;
     }
     Ok(done)
@@ -490,23 +425,15 @@ fn all_cases<M: Transformers, N: Ledger, L: Ledger>(
 #[tactic(auto, unfolding(crate::specs::Expression::lambda_case))]
 pub fn lambda_case<M: Transformers, N: Ledger, L: Ledger>(
     state: &mut Expansion,
-    form: &Syn,
-    ids: &FormalIds,
-    forms: &[Syn],
-    place: &Span,
-    level: u32,
-    depth: u16,
-    means: &M,
+    parts: &ProcedureForm,
+    at: &FormAt<M>,
     counts: &mut Counts<N, L>,
-    room: u16,
 ) -> Result<Lambda, Stop>
-    ensures { GivesAfter (λ c. c) result state.new (lambda_case (inside (M.records means.now) room) place.now level depth form.now ids.now forms.now state.old) }
+    ensures { GivesAfter (λ c. c) result state.new (lambda_case (inside (M.records at.now.means.now) at.now.room) at.now.place.now at.now.level at.now.depth parts.now.form.now parts.now.ids.now parts.now.forms.now state.old) }
 {
     let outer = state.in_scope();
     let frame = state.fresh_frame()?;
-    let case = case_in(
-        state, &frame, form, ids, forms, place, level, depth, means, counts, room,
-    )?;
+    let case = case_in(state, &frame, parts, at, counts)?;
     state.cut_scope(outer);
     Ok(case)
 }
@@ -516,58 +443,43 @@ pub fn lambda_case<M: Transformers, N: Ledger, L: Ledger>(
 fn case_in<M: Transformers, N: Ledger, L: Ledger>(
     state: &mut Expansion,
     frame: &FrameNo,
-    form: &Syn,
-    ids: &FormalIds,
-    forms: &[Syn],
-    place: &Span,
-    level: u32,
-    depth: u16,
-    means: &M,
+    parts: &ProcedureForm,
+    at: &FormAt<M>,
     counts: &mut Counts<N, L>,
-    room: u16,
 ) -> Result<Lambda, Stop>
-    ensures { GivesAfter (λ c. c) result state.new (case_in (inside (M.records means.now) room) place.now level depth form.now ids.now forms.now frame.now state.old) }
+    ensures { GivesAfter (λ c. c) result state.new (case_in (inside (M.records at.now.means.now) at.now.room) at.now.place.now at.now.level at.now.depth parts.now.form.now parts.now.ids.now parts.now.forms.now frame.now state.old) }
 {
     let binders = BinderContext {
         frame,
-        place,
-        level,
+        place: at.place,
+        level: at.level,
     };
-    let formals = state.bind_formals(&binders, ids)?;
-    let body = body_under(
-        state, frame, form, forms, place, level, depth, means, counts, room,
-    )?;
+    let formals = state.bind_formals(&binders, parts.ids)?;
+    let whole = BodyForm {
+        form: parts.form,
+        forms: parts.forms,
+    };
+    let body = body_under(state, frame, &whole, at, counts)?;
     Ok(Lambda { formals, body })
 }
 
-/// The body of `form`, on whose forms a frame is put.
+/// A body on whose forms a frame is put.
 #[cycle(form)]
 fn body_under<M: Transformers, N: Ledger, L: Ledger>(
     state: &mut Expansion,
     frame: &FrameNo,
-    form: &Syn,
-    forms: &[Syn],
-    place: &Span,
-    level: u32,
-    depth: u16,
-    means: &M,
+    whole: &BodyForm,
+    at: &FormAt<M>,
     counts: &mut Counts<N, L>,
-    room: u16,
 ) -> Result<Core, Stop>
-    ensures { GivesAfter (λ c. c) result state.new (body (inside (M.records means.now) room) place.now level depth form.now (map (stamp frame.now) forms.now) state.old) }
+    ensures { GivesAfter (λ c. c) result state.new (body (inside (M.records at.now.means.now) at.now.room) at.now.place.now at.now.level at.now.depth whole.now.form.now (map (stamp frame.now) whole.now.forms.now) state.old) }
 {
-    let forms = stamp_all(state.alloc(), frame, forms, counts.nodes)?;
-    body(
-        state,
-        form,
-        forms.as_slice(),
-        place,
-        level,
-        depth,
-        means,
-        counts,
-        room,
-    )
+    let forms = stamp_all(state.alloc(), frame, whole.forms, counts.nodes)?;
+    let stamped = BodyForm {
+        form: whole.form,
+        forms: forms.as_slice(),
+    };
+    body(state, &stamped, at, counts)
 }
 
 /// As `lambda_case`, of a procedure that a definition binds.
@@ -575,57 +487,35 @@ fn body_under<M: Transformers, N: Ledger, L: Ledger>(
 #[tactic(auto, using(crate::proofs::Steps::procedure_step, crate::proofs::Steps::procedure_too_deep))]
 pub fn procedure<M: Transformers, N: Ledger, L: Ledger>(
     state: &mut Expansion,
-    form: &Syn,
-    ids: &FormalIds,
-    forms: &[Syn],
-    place: &Span,
-    level: u32,
-    depth: u16,
-    means: &M,
+    parts: &ProcedureForm,
+    at: &FormAt<M>,
     counts: &mut Counts<N, L>,
-    room: u16,
 ) -> Result<Lambda, Stop>
-    ensures { GivesAfter (λ c. c) result state.new ((inside (M.records means.now) room).procedure place.now level depth form.now ids.now forms.now state.old) }
+    ensures { GivesAfter (λ c. c) result state.new ((inside (M.records at.now.means.now) at.now.room).procedure at.now.place.now at.now.level at.now.depth parts.now.form.now parts.now.ids.now parts.now.forms.now state.old) }
 {
-    if room == 0 {
-        return Err(state.fault_form(FaultKind::TooDeep, form, place));
+    if at.room == 0 {
+        return Err(state.fault_form(FaultKind::TooDeep, parts.form, at.place));
     }
-    lambda_case(
-        state,
-        form,
-        ids,
-        forms,
-        place,
-        level,
-        depth,
-        means,
-        counts,
-        room - 1,
-    )
+    let inner = FormAt {
+        room: at.room - 1,
+        ..*at
+    };
+    lambda_case(state, parts, &inner, counts)
 }
 
 #[cycle(form)]
 #[tactic(auto, unfolding(crate::specs::Expression::letrec_form))]
 fn letrec_form<M: Transformers, N: Ledger, L: Ledger>(
     state: &mut Expansion,
-    form: &Syn,
-    star: bool,
-    specs: &[BindingSpec],
-    forms: &[Syn],
-    place: &Span,
-    level: u32,
-    depth: u16,
-    means: &M,
+    parts: &LetrecForm,
+    at: &FormAt<M>,
     counts: &mut Counts<N, L>,
-    room: u16,
 ) -> Result<Core, Stop>
-    ensures { GivesAfter (λ c. c) result state.new (letrec_form (inside (M.records means.now) room) place.now level depth form.now star specs.now forms.now state.old) }
+    ensures { GivesAfter (λ c. c) result state.new (letrec_form (inside (M.records at.now.means.now) at.now.room) at.now.place.now at.now.level at.now.depth parts.now.form.now parts.now.star parts.now.specs.now parts.now.forms.now state.old) }
 {
     let outer = state.in_scope();
     let frame = state.fresh_frame()?;
-    let core = letrec_in(
-        state, &frame, form, star, specs, forms, place, level, depth, means, counts, room,
-    )?;
+    let core = letrec_in(state, &frame, parts, at, counts)?;
     state.cut_scope(outer);
     Ok(core)
 }
@@ -635,41 +525,26 @@ fn letrec_form<M: Transformers, N: Ledger, L: Ledger>(
 fn letrec_in<M: Transformers, N: Ledger, L: Ledger>(
     state: &mut Expansion,
     frame: &FrameNo,
-    form: &Syn,
-    star: bool,
-    specs: &[BindingSpec],
-    forms: &[Syn],
-    place: &Span,
-    level: u32,
-    depth: u16,
-    means: &M,
+    parts: &LetrecForm,
+    at: &FormAt<M>,
     counts: &mut Counts<N, L>,
-    room: u16,
 ) -> Result<Core, Stop>
-    ensures { GivesAfter (λ c. c) result state.new (letrec_in (inside (M.records means.now) room) place.now level depth form.now star specs.now forms.now frame.now state.old) }
+    ensures { GivesAfter (λ c. c) result state.new (letrec_in (inside (M.records at.now.means.now) at.now.room) at.now.place.now at.now.level at.now.depth parts.now.form.now parts.now.star parts.now.specs.now parts.now.forms.now frame.now state.old) }
 {
     let binders = BinderContext {
         frame,
-        place,
-        level,
+        place: at.place,
+        level: at.level,
     };
-    let bound = state.bind_specs(&binders, specs)?;
-    let inits = all_inits(
-        state,
-        frame,
-        bound.as_slice(),
-        place,
-        level,
-        depth,
-        means,
-        counts,
-        room,
-    )?;
+    let bound = state.bind_specs(&binders, parts.specs)?;
+    let inits = all_inits(state, frame, bound.as_slice(), at, counts)?;
     drop(bound);
-    let body = body_under(
-        state, frame, form, forms, place, level, depth, means, counts, room,
-    )?;
-    Ok(letrec_of(state.alloc(), star, inits, body)?)
+    let whole = BodyForm {
+        form: parts.form,
+        forms: parts.forms,
+    };
+    let body = body_under(state, frame, &whole, at, counts)?;
+    Ok(letrec_of(state.alloc(), parts.star, inits, body)?)
 }
 
 #[cycle(form)]
@@ -677,18 +552,14 @@ fn all_inits<M: Transformers, N: Ledger, L: Ledger>(
     state: &mut Expansion,
     frame: &FrameNo,
     bound: &[BoundSpec],
-    place: &Span,
-    level: u32,
-    depth: u16,
-    means: &M,
+    at: &FormAt<M>,
     counts: &mut Counts<N, L>,
-    room: u16,
 ) -> Result<Vec<Init>, Stop>
-    ensures { GivesAfter (λ c. c.items) result state.new (all_inits (inside (M.records means.now) room) place.now level depth frame.now bound.now state.old) }
+    ensures { GivesAfter (λ c. c.items) result state.new (all_inits (inside (M.records at.now.means.now) at.now.room) at.now.place.now at.now.level at.now.depth frame.now bound.now state.old) }
 {
     let mut done = with_room(state.alloc(), bound.len());
     for one in bound {
-        let init = one_init(state, frame, one, place, level, depth, means, counts, room)?;
+        let init = one_init(state, frame, one, at, counts)?;
         done.push(init)?;
     }
     Ok(done)
@@ -700,26 +571,12 @@ fn one_init<M: Transformers, N: Ledger, L: Ledger>(
     state: &mut Expansion,
     frame: &FrameNo,
     bound: &BoundSpec,
-    place: &Span,
-    level: u32,
-    depth: u16,
-    means: &M,
+    at: &FormAt<M>,
     counts: &mut Counts<N, L>,
-    room: u16,
 ) -> Result<Init, Stop>
-    ensures { GivesAfter (λ i. i) result state.new (one_init (inside (M.records means.now) room) place.now level depth frame.now bound.now state.old) }
+    ensures { GivesAfter (λ i. i) result state.new (one_init (inside (M.records at.now.means.now) at.now.room) at.now.place.now at.now.level at.now.depth frame.now bound.now state.old) }
 {
     let label = bound.label.share()?;
-    let value = expression_in(
-        state,
-        frame,
-        &bound.init,
-        place,
-        level,
-        depth,
-        means,
-        counts,
-        room,
-    )?;
+    let value = expression_in(state, frame, &bound.init, at, counts)?;
     Ok(Init { label, value })
 }

@@ -6,6 +6,7 @@ ghost use Rattle.sx_standing.specs.InScope.{apart};
 ghost use Rattle.sx_expand.specs.Expression.{inside, keywords_form};
 ghost use Rattle.sx_expand.specs.Keywords.{keyword, seen_in, keyword_in, all_keywords, keywords, with_keywords, define_syntax};
 
+use crate::at::{FormAt, ItemAt};
 use crate::expression::{expression, in_sequence, stamp_all};
 use crate::transformers::Transformers;
 use std::alloc::Global;
@@ -14,34 +15,52 @@ use sx_base::fault::Stop;
 use sx_base::items::Items;
 use sx_base::memory::Memory;
 use sx_base::name::FrameNo;
-use sx_base::span::Span;
 use sx_base::steps::Steps;
 use sx_core::code::Core;
 use sx_heads::items::define_keyword;
-use sx_heads::taken::{BodyAt, Taken};
+use sx_heads::taken::Taken;
 use sx_shapes::at::place_of;
 use sx_shapes::shape::BindingSpec;
 use sx_standing::binders::{BinderContext, BoundSpec};
 use sx_standing::expansion::Expansion;
 use sx_standing::means::Counts;
+use sx_standing::uses::KeywordAt;
 use sx_syntax::syn::Syn;
+
+/// `let-syntax`, or `letrec-syntax` where it is recursive: its keywords, and the forms in which they stand.
+#[derive(Drop)]
+pub(crate) struct KeywordsForm<'a> {
+    pub recursive: bool,
+    pub specs: &'a [BindingSpec],
+    pub forms: &'a [Syn],
+}
+
+/// The frame of the keywords of `let-syntax`, or of `letrec-syntax` where it is recursive.
+#[derive(Drop)]
+struct KeywordFrame<'a> {
+    recursive: bool,
+    frame: &'a FrameNo,
+}
+
+/// A form of a body that defines a keyword, and the keyword with its expression.
+#[derive(Drop)]
+pub(crate) struct KeywordDefinition<'a> {
+    pub form: &'a Syn,
+    pub spec: &'a BindingSpec,
+}
 
 /// An expression with nothing in scope.
 #[cycle(form)]
 fn expression_apart<M: Transformers, N: Ledger, L: Ledger>(
     state: &mut Expansion,
     form: &Syn,
-    place: &Span,
-    level: u32,
-    depth: u16,
-    means: &M,
+    at: &FormAt<M>,
     counts: &mut Counts<N, L>,
-    room: u16,
 ) -> Result<Core, Stop>
-    ensures { GivesAfter (λ c. c) result state.new (apart ((inside (M.records means.now) room).form place.now level depth form.now) state.old) }
+    ensures { GivesAfter (λ c. c) result state.new (apart ((inside (M.records at.now.means.now) at.now.room).form at.now.place.now at.now.level at.now.depth form.now) state.old) }
 {
     let scope = state.take_scope();
-    let core = expression(state, form, place, level, depth, means, counts, room)?;
+    let core = expression(state, form, at, counts)?;
     state.restore_scope(scope);
     Ok(core)
 }
@@ -52,21 +71,22 @@ fn expression_apart<M: Transformers, N: Ledger, L: Ledger>(
 fn keyword<M: Transformers, N: Ledger, L: Ledger>(
     state: &mut Expansion,
     bound: &BoundSpec,
-    place: &Span,
-    level: u32,
-    depth: u16,
-    means: &M,
+    at: &FormAt<M>,
     counts: &mut Counts<N, L>,
-    room: u16,
 ) -> Result<(), Stop>
-    ensures { GivesAfter (λ _. tt) result state.new (keyword (inside (M.records means.now) room) place.now level depth bound.now state.old) }
+    ensures { GivesAfter (λ _. tt) result state.new (keyword (inside (M.records at.now.means.now) at.now.room) at.now.place.now at.now.level at.now.depth bound.now state.old) }
 {
-    let Some(up) = level.checked_add(1) else {
+    let Some(up) = at.level.checked_add(1) else {
         return Err(Stop::Memory);
     };
-    let at = place_of(&bound.init, place)?;
-    let core = expression_apart(state, &bound.init, place, up, depth, means, counts, room)?;
-    means.finish_keyword(state, &at, &bound.label, core, counts)
+    let place = place_of(&bound.init, at.place)?;
+    let above = FormAt { level: up, ..*at };
+    let core = expression_apart(state, &bound.init, &above, counts)?;
+    let waiting = KeywordAt {
+        label: &bound.label,
+        place: &place,
+    };
+    at.means.finish_keyword(state, &waiting, core, counts)
 }
 
 /// The expressions of `letrec-syntax` see its keywords.
@@ -91,41 +111,35 @@ fn seen_in<N: Ledger>(
 #[cycle(form)]
 fn keyword_in<M: Transformers, N: Ledger, L: Ledger>(
     state: &mut Expansion,
-    recursive: bool,
-    frame: &FrameNo,
+    scope: &KeywordFrame,
     bound: &BoundSpec,
-    place: &Span,
-    level: u32,
-    depth: u16,
-    means: &M,
+    at: &FormAt<M>,
     counts: &mut Counts<N, L>,
-    room: u16,
 ) -> Result<(), Stop>
-    ensures { GivesAfter (λ _. tt) result state.new (keyword_in (inside (M.records means.now) room) place.now level depth recursive frame.now tt bound.now state.old) }
+    ensures { GivesAfter (λ _. tt) result state.new (keyword_in (inside (M.records at.now.means.now) at.now.room) at.now.place.now at.now.level at.now.depth scope.now.recursive scope.now.frame.now tt bound.now state.old) }
 {
-    let bound = seen_in(state.alloc(), recursive, frame, bound, counts.nodes)?;
-    keyword(state, &bound, place, level, depth, means, counts, room)
+    let bound = seen_in(
+        state.alloc(),
+        scope.recursive,
+        scope.frame,
+        bound,
+        counts.nodes,
+    )?;
+    keyword(state, &bound, at, counts)
 }
 
 #[cycle(form)]
 fn all_keywords<M: Transformers, N: Ledger, L: Ledger>(
     state: &mut Expansion,
-    recursive: bool,
-    frame: &FrameNo,
+    scope: &KeywordFrame,
     bound: &[BoundSpec],
-    place: &Span,
-    level: u32,
-    depth: u16,
-    means: &M,
+    at: &FormAt<M>,
     counts: &mut Counts<N, L>,
-    room: u16,
 ) -> Result<(), Stop>
-    ensures { GivesAfter (λ _. tt) result state.new (all_keywords (inside (M.records means.now) room) place.now level depth recursive frame.now bound.now state.old) }
+    ensures { GivesAfter (λ _. tt) result state.new (all_keywords (inside (M.records at.now.means.now) at.now.room) at.now.place.now at.now.level at.now.depth scope.now.recursive scope.now.frame.now bound.now state.old) }
 {
     for one in bound {
-        keyword_in(
-            state, recursive, frame, one, place, level, depth, means, counts, room,
-        )?;
+        keyword_in(state, scope, one, at, counts)?;
     }
     Ok(())
 }
@@ -135,59 +149,39 @@ fn all_keywords<M: Transformers, N: Ledger, L: Ledger>(
 #[tactic(auto, unfolding(crate::specs::Keywords::keywords))]
 fn keywords<M: Transformers, N: Ledger, L: Ledger>(
     state: &mut Expansion,
-    recursive: bool,
-    frame: &FrameNo,
+    scope: &KeywordFrame,
     specs: &[BindingSpec],
-    place: &Span,
-    level: u32,
-    depth: u16,
-    means: &M,
+    at: &FormAt<M>,
     counts: &mut Counts<N, L>,
-    room: u16,
 ) -> Result<(), Stop>
-    ensures { GivesAfter (λ _. tt) result state.new (keywords (inside (M.records means.now) room) place.now level depth recursive specs.now frame.now state.old) }
+    ensures { GivesAfter (λ _. tt) result state.new (keywords (inside (M.records at.now.means.now) at.now.room) at.now.place.now at.now.level at.now.depth scope.now.recursive specs.now scope.now.frame.now state.old) }
 {
     let binders = BinderContext {
-        frame,
-        place,
-        level,
+        frame: scope.frame,
+        place: at.place,
+        level: at.level,
     };
     let bound = state.bind_keywords(&binders, specs)?;
-    all_keywords(
-        state,
-        recursive,
-        frame,
-        bound.as_slice(),
-        place,
-        level,
-        depth,
-        means,
-        counts,
-        room,
-    )
+    all_keywords(state, scope, bound.as_slice(), at, counts)
 }
 
 /// The forms among the keywords of `let-syntax` or `letrec-syntax`, which are evaluated.
 #[cycle(form)]
 pub(crate) fn with_keywords<M: Transformers, N: Ledger, L: Ledger>(
     state: &mut Expansion,
-    recursive: bool,
-    specs: &[BindingSpec],
-    forms: &[Syn],
-    place: &Span,
-    level: u32,
-    depth: u16,
-    means: &M,
+    parts: &KeywordsForm,
+    at: &FormAt<M>,
     counts: &mut Counts<N, L>,
-    room: u16,
 ) -> Result<Items<Syn>, Stop>
-    ensures { GivesAfter (λ ts. ts) result state.new (with_keywords (inside (M.records means.now) room) place.now level depth recursive specs.now forms.now state.old) }
+    ensures { GivesAfter (λ ts. ts) result state.new (with_keywords (inside (M.records at.now.means.now) at.now.room) at.now.place.now at.now.level at.now.depth parts.now.recursive parts.now.specs.now parts.now.forms.now state.old) }
 {
     let frame = state.fresh_frame()?;
-    keywords(
-        state, recursive, &frame, specs, place, level, depth, means, counts, room,
-    )?;
-    Ok(stamp_all(state.alloc(), &frame, forms, counts.nodes)?)
+    let scope = KeywordFrame {
+        recursive: parts.recursive,
+        frame: &frame,
+    };
+    keywords(state, &scope, parts.specs, at, counts)?;
+    Ok(stamp_all(state.alloc(), &frame, parts.forms, counts.nodes)?)
 }
 
 /// Expressions among the keywords of `let-syntax` or `letrec-syntax`.
@@ -195,31 +189,14 @@ pub(crate) fn with_keywords<M: Transformers, N: Ledger, L: Ledger>(
 #[tactic(auto, unfolding(crate::specs::Expression::keywords_form))]
 pub(crate) fn keywords_form<M: Transformers, N: Ledger, L: Ledger>(
     state: &mut Expansion,
-    recursive: bool,
-    specs: &[BindingSpec],
-    forms: &[Syn],
-    place: &Span,
-    level: u32,
-    depth: u16,
-    means: &M,
+    parts: &KeywordsForm,
+    at: &FormAt<M>,
     counts: &mut Counts<N, L>,
-    room: u16,
 ) -> Result<Core, Stop>
-    ensures { GivesAfter (λ c. c) result state.new (keywords_form (inside (M.records means.now) room) place.now level depth recursive specs.now forms.now state.old) }
+    ensures { GivesAfter (λ c. c) result state.new (keywords_form (inside (M.records at.now.means.now) at.now.room) at.now.place.now at.now.level at.now.depth parts.now.recursive parts.now.specs.now parts.now.forms.now state.old) }
 {
-    let forms = with_keywords(
-        state, recursive, specs, forms, place, level, depth, means, counts, room,
-    )?;
-    in_sequence(
-        state,
-        forms.as_slice(),
-        place,
-        level,
-        depth,
-        means,
-        counts,
-        room,
-    )
+    let forms = with_keywords(state, parts, at, counts)?;
+    in_sequence(state, forms.as_slice(), at, counts)
 }
 
 /// A keyword that a form of a body defines.
@@ -227,19 +204,20 @@ pub(crate) fn keywords_form<M: Transformers, N: Ledger, L: Ledger>(
 #[tactic(auto, unfolding(crate::specs::Keywords::define_syntax))]
 pub(crate) fn define_syntax<M: Transformers, N: Ledger, L: Ledger>(
     state: &mut Expansion,
-    at: &BodyAt,
-    depth: u16,
+    at: &ItemAt<M>,
     taken: &Taken,
-    form: &Syn,
-    spec: &BindingSpec,
-    means: &M,
+    definition: &KeywordDefinition,
     counts: &mut Counts<N, L>,
-    room: u16,
 ) -> Result<(), Stop>
-    ensures { GivesAfter (λ _. tt) result state.new (define_syntax (inside (M.records means.now) room) at.now depth taken.now form.now spec.now state.old) }
+    ensures { GivesAfter (λ _. tt) result state.new (define_syntax (inside (M.records at.now.means.now) at.now.room) at.now.body.now at.now.depth taken.now definition.now.form.now definition.now.spec.now state.old) }
 {
-    let bound = define_keyword(state, at, taken, form, spec)?;
-    keyword(
-        state, &bound, &at.place, at.level, depth, means, counts, room,
-    )
+    let bound = define_keyword(state, at.body, taken, definition.form, definition.spec)?;
+    let keyword_at = FormAt {
+        place: &at.body.place,
+        level: at.body.level,
+        depth: at.depth,
+        room: at.room,
+        means: at.means,
+    };
+    keyword(state, &bound, &keyword_at, counts)
 }

@@ -15,6 +15,7 @@
 //! Here stand the core forms, and uses of keywords: those that programs and libraries define, and the forms of records.
 #![tactic(auto)]
 
+pub mod at;
 pub mod body;
 mod cores;
 pub mod expander;

@@ -5,6 +5,7 @@ ghost use Rattle.sx_base.specs.Act.{GivesAfter, after, give};
 ghost use Rattle.sx_tree.specs.Changes.{stamp};
 ghost use Rattle.sx_expand.specs.Expression.{inside, fender, clause_in, pattern_clause, all_clauses, syntax_case};
 
+use crate::at::FormAt;
 use crate::cores::matching_of;
 use crate::expression::{expression, expression_in};
 use crate::transformers::Transformers;
@@ -21,24 +22,36 @@ use sx_standing::expansion::Expansion;
 use sx_standing::means::Counts;
 use sx_syntax::syn::Syn;
 
+/// The parts of a `syntax-case`, and where it stands.
+#[derive(Drop)]
+pub(crate) struct PatternForm<'a> {
+    pub subject: &'a Syn,
+    pub literals: &'a [Syn],
+    pub cases: &'a [PatternCase],
+    pub span: &'a Span,
+}
+
+/// A clause, and the frame of the variables of its pattern.
+#[derive(Drop)]
+struct FramedCase<'a> {
+    frame: &'a FrameNo,
+    case: &'a PatternCase,
+}
+
 #[cycle(form)]
 fn fender<M: Transformers, N: Ledger, L: Ledger>(
     state: &mut Expansion,
     frame: &FrameNo,
     form: &Option<Syn>,
-    place: &Span,
-    level: u32,
-    depth: u16,
-    means: &M,
+    at: &FormAt<M>,
     counts: &mut Counts<N, L>,
-    room: u16,
 ) -> Result<Option<Core>, Stop>
-    ensures { GivesAfter (λ c. c) result state.new (fender (inside (M.records means.now) room) place.now level depth frame.now form.now state.old) }
+    ensures { GivesAfter (λ c. c) result state.new (fender (inside (M.records at.now.means.now) at.now.room) at.now.place.now at.now.level at.now.depth frame.now form.now state.old) }
 {
     match form {
         None => Ok(None),
         Some(form) => {
-            let core = expression_in(state, frame, form, place, level, depth, means, counts, room)?;
+            let core = expression_in(state, frame, form, at, counts)?;
             Ok(Some(core))
         }
     }
@@ -51,20 +64,18 @@ fn pattern_clause<M: Transformers, N: Ledger, L: Ledger>(
     state: &mut Expansion,
     literals: &[Syn],
     case: &PatternCase,
-    place: &Span,
-    level: u32,
-    depth: u16,
-    means: &M,
+    at: &FormAt<M>,
     counts: &mut Counts<N, L>,
-    room: u16,
 ) -> Result<Clause, Stop>
-    ensures { GivesAfter (λ c. c) result state.new (pattern_clause (inside (M.records means.now) room) place.now level depth literals.now case.now state.old) }
+    ensures { GivesAfter (λ c. c) result state.new (pattern_clause (inside (M.records at.now.means.now) at.now.room) at.now.place.now at.now.level at.now.depth literals.now case.now state.old) }
 {
     let outer = state.in_scope();
     let frame = state.fresh_frame()?;
-    let clause = clause_in(
-        state, &frame, literals, case, place, level, depth, means, counts, room,
-    )?;
+    let framed = FramedCase {
+        frame: &frame,
+        case,
+    };
+    let clause = clause_in(state, literals, &framed, at, counts)?;
     state.cut_scope(outer);
     Ok(clause)
 }
@@ -73,69 +84,37 @@ fn pattern_clause<M: Transformers, N: Ledger, L: Ledger>(
 #[cycle(form)]
 fn clause_in<M: Transformers, N: Ledger, L: Ledger>(
     state: &mut Expansion,
-    frame: &FrameNo,
     literals: &[Syn],
-    case: &PatternCase,
-    place: &Span,
-    level: u32,
-    depth: u16,
-    means: &M,
+    framed: &FramedCase,
+    at: &FormAt<M>,
     counts: &mut Counts<N, L>,
-    room: u16,
 ) -> Result<Clause, Stop>
-    ensures { GivesAfter (λ c. c) result state.new (clause_in (inside (M.records means.now) room) place.now level depth literals.now case.now frame.now state.old) }
+    ensures { GivesAfter (λ c. c) result state.new (clause_in (inside (M.records at.now.means.now) at.now.room) at.now.place.now at.now.level at.now.depth literals.now framed.now.case.now framed.now.frame.now state.old) }
 {
-    let Compiled { pattern, variables } = state.pattern(&case.pattern, literals, place)?;
+    let Compiled { pattern, variables } = state.pattern(&framed.case.pattern, literals, at.place)?;
     let binders = BinderContext {
-        frame,
-        place,
-        level,
+        frame: framed.frame,
+        place: at.place,
+        level: at.level,
     };
     state.bind_pattern(&binders, variables.as_slice())?;
     drop(variables);
-    clause_of(
-        state, frame, pattern, case, place, level, depth, means, counts, room,
-    )
+    clause_of(state, framed, pattern, at, counts)
 }
 
 /// A clause whose pattern is compiled, and its variables bound.
 #[cycle(form)]
 fn clause_of<M: Transformers, N: Ledger, L: Ledger>(
     state: &mut Expansion,
-    frame: &FrameNo,
+    framed: &FramedCase,
     pattern: Pattern,
-    case: &PatternCase,
-    place: &Span,
-    level: u32,
-    depth: u16,
-    means: &M,
+    at: &FormAt<M>,
     counts: &mut Counts<N, L>,
-    room: u16,
 ) -> Result<Clause, Stop>
-    ensures { GivesAfter (λ c. c) result state.new (after (fender (inside (M.records means.now) room) place.now level depth frame.now case.now.fender state.old) (λ f s. after ((inside (M.records means.now) room).form place.now level depth (stamp frame.now case.now.output) s) (λ o. give (record { pattern = pattern; fender = f; output = o })))) }
+    ensures { GivesAfter (λ c. c) result state.new (after (fender (inside (M.records at.now.means.now) at.now.room) at.now.place.now at.now.level at.now.depth framed.now.frame.now framed.now.case.now.fender state.old) (λ f s. after ((inside (M.records at.now.means.now) at.now.room).form at.now.place.now at.now.level at.now.depth (stamp framed.now.frame.now framed.now.case.now.output) s) (λ o. give (record { pattern = pattern; fender = f; output = o })))) }
 {
-    let fender = fender(
-        state,
-        frame,
-        &case.fender,
-        place,
-        level,
-        depth,
-        means,
-        counts,
-        room,
-    )?;
-    let output = expression_in(
-        state,
-        frame,
-        &case.output,
-        place,
-        level,
-        depth,
-        means,
-        counts,
-        room,
-    )?;
+    let fender = fender(state, framed.frame, &framed.case.fender, at, counts)?;
+    let output = expression_in(state, framed.frame, &framed.case.output, at, counts)?;
     Ok(Clause {
         pattern,
         fender,
@@ -148,20 +127,14 @@ fn all_clauses<M: Transformers, N: Ledger, L: Ledger>(
     state: &mut Expansion,
     literals: &[Syn],
     cases: &[PatternCase],
-    place: &Span,
-    level: u32,
-    depth: u16,
-    means: &M,
+    at: &FormAt<M>,
     counts: &mut Counts<N, L>,
-    room: u16,
 ) -> Result<Vec<Clause>, Stop>
-    ensures { GivesAfter (λ c. c.items) result state.new (all_clauses (inside (M.records means.now) room) place.now level depth literals.now cases.now state.old) }
+    ensures { GivesAfter (λ c. c.items) result state.new (all_clauses (inside (M.records at.now.means.now) at.now.room) at.now.place.now at.now.level at.now.depth literals.now cases.now state.old) }
 {
     let mut done = Vec::new(state.alloc());
     for case in cases {
-        let one = pattern_clause(
-            state, literals, case, place, level, depth, means, counts, room,
-        )?;
+        let one = pattern_clause(state, literals, case, at, counts)?;
         done.push(one)?;
     }
     Ok(done)
@@ -172,23 +145,14 @@ fn all_clauses<M: Transformers, N: Ledger, L: Ledger>(
 #[tactic(auto, unfolding(crate::specs::Expression::syntax_case))]
 pub(crate) fn syntax_case<M: Transformers, N: Ledger, L: Ledger>(
     state: &mut Expansion,
-    subject: &Syn,
-    literals: &[Syn],
-    cases: &[PatternCase],
-    span: &Span,
-    place: &Span,
-    level: u32,
-    depth: u16,
-    means: &M,
+    parts: &PatternForm,
+    at: &FormAt<M>,
     counts: &mut Counts<N, L>,
-    room: u16,
 ) -> Result<Core, Stop>
-    ensures { GivesAfter (λ c. c) result state.new (syntax_case (inside (M.records means.now) room) place.now level depth subject.now literals.now cases.now span.now state.old) }
+    ensures { GivesAfter (λ c. c) result state.new (syntax_case (inside (M.records at.now.means.now) at.now.room) at.now.place.now at.now.level at.now.depth parts.now.subject.now parts.now.literals.now parts.now.cases.now parts.now.span.now state.old) }
 {
-    let subject = expression(state, subject, place, level, depth, means, counts, room)?;
-    state.check_literals(literals, place)?;
-    let clauses = all_clauses(
-        state, literals, cases, place, level, depth, means, counts, room,
-    )?;
-    Ok(matching_of(state.alloc(), subject, clauses, span)?)
+    let subject = expression(state, parts.subject, at, counts)?;
+    state.check_literals(parts.literals, at.place)?;
+    let clauses = all_clauses(state, parts.literals, parts.cases, at, counts)?;
+    Ok(matching_of(state.alloc(), subject, clauses, parts.span)?)
 }

@@ -6,11 +6,11 @@ ghost use Rattle.sx_quasi_code.specs.Form.{parts_of};
 ghost use Rattle.sx_expand.specs.Expression.{inside};
 ghost use Rattle.sx_expand.specs.Quasi.{parts_in_order, quasi_form};
 
+use crate::at::FormAt;
 use crate::expression::expression;
 use crate::transformers::Transformers;
 use std::sync::ledger::Ledger;
 use sx_base::fault::Stop;
-use sx_base::span::Span;
 use sx_core::code::Core;
 use sx_heads::context::FormContext;
 use sx_quasi::word::Family;
@@ -20,23 +20,31 @@ use sx_standing::expansion::Expansion;
 use sx_standing::means::Counts;
 use sx_syntax::syn::Syn;
 
+/// A `quasiquote` or `quasisyntax`, and its template.
+#[derive(Drop)]
+pub(crate) struct TemplateForm<'a> {
+    pub form: &'a Syn,
+    pub which: Family,
+    pub template: &'a Syn,
+}
+
+/// The parts in order, each at its own depth.
 #[cycle(form)]
 fn parts_in_order<M: Transformers, N: Ledger, L: Ledger>(
     state: &mut Expansion,
     parts: &[Part],
-    place: &Span,
-    level: u32,
-    means: &M,
+    at: &FormAt<M>,
     counts: &mut Counts<N, L>,
-    room: u16,
 ) -> Result<Vec<Core>, Stop>
-    ensures { GivesAfter (λ c. c.items) result state.new (parts_in_order (inside (M.records means.now) room) place.now level parts.now state.old) }
+    ensures { GivesAfter (λ c. c.items) result state.new (parts_in_order (inside (M.records at.now.means.now) at.now.room) at.now.place.now at.now.level parts.now state.old) }
 {
     let mut done = Vec::new(state.alloc());
     for part in parts {
-        let core = expression(
-            state, &part.form, place, level, part.depth, means, counts, room,
-        )?;
+        let inner = FormAt {
+            depth: part.depth,
+            ..*at
+        };
+        let core = expression(state, &part.form, &inner, counts)?;
         done.push(core)?;
     }
     Ok(done)
@@ -48,17 +56,13 @@ fn cores_of<M: Transformers, N: Ledger, L: Ledger>(
     state: &mut Expansion,
     form: &Syn,
     quasi: &QuasiForm,
-    place: &Span,
-    level: u32,
-    depth: u16,
-    means: &M,
+    at: &FormAt<M>,
     counts: &mut Counts<N, L>,
-    room: u16,
 ) -> Result<Vec<Core>, Stop>
-    ensures { GivesAfter (λ c. c.items) result state.new (parts_in_order (inside (M.records means.now) room) place.now level (parts_of form.now depth quasi.now) state.old) }
+    ensures { GivesAfter (λ c. c.items) result state.new (parts_in_order (inside (M.records at.now.means.now) at.now.room) at.now.place.now at.now.level (parts_of form.now at.now.depth quasi.now) state.old) }
 {
-    let parts = parts_of(state.alloc(), form, quasi, depth)?;
-    parts_in_order(state, parts.as_slice(), place, level, means, counts, room)
+    let parts = parts_of(state.alloc(), form, quasi, at.depth)?;
+    parts_in_order(state, parts.as_slice(), at, counts)
 }
 
 /// What the template comes to, its parts in order, and the code of them all.
@@ -66,22 +70,19 @@ fn cores_of<M: Transformers, N: Ledger, L: Ledger>(
 #[tactic(auto, unfolding(crate::specs::Quasi::quasi_form))]
 pub(crate) fn quasi_form<M: Transformers, N: Ledger, L: Ledger>(
     state: &mut Expansion,
-    form: &Syn,
-    which: Family,
-    template: &Syn,
-    place: &Span,
-    level: u32,
-    depth: u16,
-    means: &M,
+    parts: &TemplateForm,
+    at: &FormAt<M>,
     counts: &mut Counts<N, L>,
-    room: u16,
 ) -> Result<Core, Stop>
-    ensures { GivesAfter (λ c. c) result state.new (quasi_form (inside (M.records means.now) room) place.now level depth form.now which template.now state.old) }
+    ensures { GivesAfter (λ c. c) result state.new (quasi_form (inside (M.records at.now.means.now) at.now.room) at.now.place.now at.now.level at.now.depth parts.now.form.now parts.now.which parts.now.template.now state.old) }
 {
-    let quasi = form_of(state, form, which, template, place)?;
-    let cores = cores_of(
-        state, form, &quasi, place, level, depth, means, counts, room,
-    )?;
-    let context = FormContext { form, place, level };
+    let form = parts.form;
+    let quasi = form_of(state, form, parts.which, parts.template, at.place)?;
+    let cores = cores_of(state, form, &quasi, at, counts)?;
+    let context = FormContext {
+        form,
+        place: at.place,
+        level: at.level,
+    };
     code_of(state, &context, &quasi, cores, counts.nodes)
 }

@@ -4,6 +4,7 @@ ghost use Rattle.std.specs.Prelude.{◌≡◌, IfOk};
 ghost use Rattle.sx_base.specs.Act.{GivesAfter};
 ghost use Rattle.sx_expand.specs.Settle.{used_form, next_form, set_step, step_of, step, settle, at_use, set_item_step, item_step_of, item_step, settle_item};
 
+use crate::at::{FormAt, ItemAt, ItemForm};
 use crate::transformers::Transformers;
 use std::sync::ledger::Ledger;
 use sx_base::fault::{FaultKind, Stop};
@@ -50,24 +51,43 @@ pub struct SettledItem {
     pub item: Item,
 }
 
+/// A use of a keyword.
+#[derive(Drop)]
+struct KeywordForm<'a> {
+    form: &'a Syn,
+    keyword: &'a KeywordUse,
+    /// That of the body, where the use stands in one.
+    frame: Option<FrameNo>,
+    /// Where a form without a span stands.
+    place: &'a Span,
+}
+
+/// The target of an assignment to a keyword, and what it stands for.
+#[derive(Drop)]
+struct Target {
+    label: Label,
+    id: Syn,
+}
+
 /// The form that a use gives, of a keyword with a transformer or of a record form.
 fn used_form<M: Transformers, N: Ledger, L: Ledger>(
     state: &mut Expansion,
-    form: &Syn,
-    keyword: &KeywordUse,
-    frame: Option<FrameNo>,
-    place: &Span,
+    used: KeywordForm,
     means: &M,
     counts: &mut Counts<N, L>,
 ) -> Result<Syn, Stop>
-    ensures { GivesAfter (λ t. t) result state.new (used_form (M.records means.now) place.now form.now keyword.now frame state.old) }
+    ensures { GivesAfter (λ t. t) result state.new (used_form (M.records means.now) used.entry.place.now used.entry.form.now used.entry.keyword.now used.entry.frame state.old) }
 {
+    let KeywordForm {
+        form,
+        keyword,
+        frame,
+        place,
+    } = used;
+    let used = UsedForm { form, frame, place };
     match keyword {
-        KeywordUse::Macro(label) => means.use_keyword(state, form, place, label, frame, counts),
-        KeywordUse::Record(which) => {
-            let used = UsedForm { form, frame, place };
-            state.use_record(used, *which, counts.nodes)
-        }
+        KeywordUse::Macro(label) => means.use_keyword(state, used, label, counts),
+        KeywordUse::Record(which) => state.use_record(used, *which, counts.nodes),
     }
 }
 
@@ -76,52 +96,60 @@ fn used_form<M: Transformers, N: Ledger, L: Ledger>(
 fn next_form<M: Transformers, N: Ledger, L: Ledger>(
     state: &mut Expansion,
     left: u32,
-    form: &Syn,
-    keyword: &KeywordUse,
-    frame: Option<FrameNo>,
-    place: &Span,
+    used: KeywordForm,
     means: &M,
     counts: &mut Counts<N, L>,
 ) -> Result<Syn, Stop>
-    ensures { GivesAfter (λ t. t) result state.new (next_form (M.records means.now) left place.now form.now keyword.now frame state.old) }
+    ensures { GivesAfter (λ t. t) result state.new (next_form (M.records means.now) left used.entry.place.now used.entry.form.now used.entry.keyword.now used.entry.frame state.old) }
 {
     state.leave_uses(left);
+    let KeywordForm {
+        form,
+        keyword,
+        frame,
+        place,
+    } = used;
     let at = place_of(form, place)?;
-    used_form(state, form, keyword, frame, &at, means, counts)
+    let used = KeywordForm {
+        form,
+        keyword,
+        frame,
+        place: &at,
+    };
+    used_form(state, used, means, counts)
 }
 
 fn set_step(
     state: &mut Expansion,
     form: &Syn,
-    label: Label,
-    id: &Syn,
+    target: Target,
     is_use: bool,
     place: &Span,
 ) -> Result<Step, Stop>
-    ensures { GivesAfter (λ x. x) result state.new (set_step place.now form.now label id.now is_use state.old) }
+    ensures { GivesAfter (λ x. x) result state.new (set_step place.now form.now target.label target.id is_use state.old) }
 {
     if is_use {
-        return Ok(Step::Use(KeywordUse::Macro(label)));
+        return Ok(Step::Use(KeywordUse::Macro(target.label)));
     }
-    Err(state.fault_word(FaultKind::KeywordMisuse, id, form, place))
+    Err(state.fault_word(FaultKind::KeywordMisuse, &target.id, form, place))
 }
 
 fn step_of<M: Transformers, N: Ledger, L: Ledger>(
     state: &mut Expansion,
     form: &Syn,
     plan: Plan,
-    place: &Span,
-    means: &M,
+    at: &FormAt<M>,
     counts: &mut Counts<N, L>,
 ) -> Result<Step, Stop>
-    ensures { GivesAfter (λ x. x) result state.new (step_of (M.records means.now) place.now form.now plan state.old) }
+    ensures { GivesAfter (λ x. x) result state.new (step_of (M.records at.now.means.now) at.now.place.now form.now plan state.old) }
 {
     match plan {
         Plan::Use(keyword) => Ok(Step::Use(keyword)),
         Plan::SetUse(label, id) => {
-            let at = place_of(form, place)?;
-            let is_use = means.asks_variable(state, &at, &label, counts)?;
-            set_step(state, form, label, &id, is_use, place)
+            let place = place_of(form, at.place)?;
+            let is_use = at.means.asks_variable(state, &place, &label, counts)?;
+            let target = Target { label, id };
+            set_step(state, form, target, is_use, at.place)
         }
         plan => Ok(Step::Plan(plan)),
     }
@@ -131,15 +159,13 @@ fn step_of<M: Transformers, N: Ledger, L: Ledger>(
 fn next_step<M: Transformers, N: Ledger, L: Ledger>(
     state: &mut Expansion,
     form: &Syn,
-    place: &Span,
-    level: u32,
-    means: &M,
+    at: &FormAt<M>,
     counts: &mut Counts<N, L>,
 ) -> Result<Step, Stop>
-    ensures { GivesAfter (λ x. x) result state.new (step (M.records means.now) place.now level form.now state.old) }
+    ensures { GivesAfter (λ x. x) result state.new (step (M.records at.now.means.now) at.now.place.now at.now.level form.now state.old) }
 {
-    let plan = plan_of(state, form, place, level)?;
-    step_of(state, form, plan, place, means, counts)
+    let plan = plan_of(state, form, at.place, at.level)?;
+    step_of(state, form, plan, at, counts)
 }
 
 /// What is to be done with the form that comes of the uses of keywords that a form begins with. What comes of a
@@ -147,18 +173,20 @@ fn next_step<M: Transformers, N: Ledger, L: Ledger>(
 pub(crate) fn settle<M: Transformers, N: Ledger, L: Ledger>(
     state: &mut Expansion,
     form: &Syn,
-    place: &Span,
-    level: u32,
-    means: &M,
+    at: &FormAt<M>,
     counts: &mut Counts<N, L>,
 ) -> Result<Settled, Stop>
-    ensures { GivesAfter (λ d. d) result state.new (settle (M.records means.now) place.now level form.now state.old) }
+    ensures { GivesAfter (λ d. d) result state.new (settle (M.records at.now.means.now) at.now.place.now at.now.level form.now state.old) }
 {
     let mut left = state.uses_left();
     let mut form = form.share()?;
-    let mut place = place.share()?;
+    let mut place = at.place.share()?;
     loop {
-        let keyword = match next_step(state, &form, &place, level, means, counts)? {
+        let here = FormAt {
+            place: &place,
+            ..*at
+        };
+        let keyword = match next_step(state, &form, &here, counts)? {
             Step::Plan(plan) => return Ok(Settled { place, form, plan }),
             Step::Use(keyword) => keyword,
         };
@@ -166,7 +194,13 @@ pub(crate) fn settle<M: Transformers, N: Ledger, L: Ledger>(
             return Err(state.fault_form(FaultKind::TooManyExpansions, &form, &place));
         }
         left -= 1;
-        let next = next_form(state, left, &form, &keyword, None, &place, means, counts)?;
+        let used = KeywordForm {
+            form: &form,
+            keyword: &keyword,
+            frame: None,
+            place: &place,
+        };
+        let next = next_form(state, left, used, at.means, counts)?;
         place = place_of(&form, &place)?;
         form = next;
     }
@@ -204,42 +238,37 @@ fn share_at(at: &BodyAt) -> Result<BodyAt, Memory>
     })
 }
 
-fn set_item_step(
+fn set_item_step<M>(
     state: &mut Expansion,
-    at: &BodyAt,
-    depth: u16,
+    one: &ItemForm<M>,
     taken: &mut Taken,
-    form: &Syn,
     label: Label,
     is_use: bool,
 ) -> Result<ItemStep, Stop>
-    ensures { GivesAfter (λ x. (taken.new, x)) result state.new (set_item_step at.now depth taken.old form.now label is_use state.old) }
+    ensures { GivesAfter (λ x. (taken.new, x)) result state.new (set_item_step one.now.body.now one.now.depth taken.old one.now.form.now label is_use state.old) }
 {
     if is_use {
         return Ok(ItemStep::Use(KeywordUse::Macro(label)));
     }
-    wait(state, at, depth, taken, form)?;
+    wait(state, one.body, one.depth, taken, one.form)?;
     Ok(ItemStep::Item(Item::Nothing))
 }
 
 fn item_step_of<M: Transformers, N: Ledger, L: Ledger>(
     state: &mut Expansion,
-    at: &BodyAt,
-    depth: u16,
+    one: &ItemForm<M>,
     taken: &mut Taken,
-    form: &Syn,
     item: Item,
-    means: &M,
     counts: &mut Counts<N, L>,
 ) -> Result<ItemStep, Stop>
-    ensures { GivesAfter (λ x. (taken.new, x)) result state.new (item_step_of (M.records means.now) at.now depth form.now taken.old item state.old) }
+    ensures { GivesAfter (λ x. (taken.new, x)) result state.new (item_step_of (M.records one.now.means.now) one.now.body.now one.now.depth one.now.form.now taken.old item state.old) }
 {
     match item {
         Item::Use(keyword) => Ok(ItemStep::Use(keyword)),
         Item::SetUse(label) => {
-            let place = place_of(form, &at.place)?;
-            let is_use = means.asks_variable(state, &place, &label, counts)?;
-            set_item_step(state, at, depth, taken, form, label, is_use)
+            let place = place_of(one.form, &one.body.place)?;
+            let is_use = one.means.asks_variable(state, &place, &label, counts)?;
+            set_item_step(state, one, taken, label, is_use)
         }
         item => Ok(ItemStep::Item(item)),
     }
@@ -248,55 +277,59 @@ fn item_step_of<M: Transformers, N: Ledger, L: Ledger>(
 #[tactic(auto, unfolding(crate::specs::Settle::item_step))]
 fn item_step<M: Transformers, N: Ledger, L: Ledger>(
     state: &mut Expansion,
-    at: &BodyAt,
-    depth: u16,
+    one: &ItemForm<M>,
     taken: &mut Taken,
-    form: &Syn,
-    means: &M,
     counts: &mut Counts<N, L>,
 ) -> Result<ItemStep, Stop>
-    ensures { GivesAfter (λ x. (taken.new, x)) result state.new (item_step (M.records means.now) at.now depth taken.old form.now state.old) }
+    ensures { GivesAfter (λ x. (taken.new, x)) result state.new (item_step (M.records one.now.means.now) one.now.body.now one.now.depth taken.old one.now.form.now state.old) }
 {
-    let item = item_plan(state, at, depth, taken, form)?;
-    item_step_of(state, at, depth, taken, form, item, means, counts)
+    let item = item_plan(state, one.body, one.depth, taken, one.form)?;
+    item_step_of(state, one, taken, item, counts)
 }
 
 /// As `settle`, of a form of a body. A use gets the frame of the body, so that what comes of it can bind in it.
 pub(crate) fn settle_item<M: Transformers, N: Ledger, L: Ledger>(
     state: &mut Expansion,
-    at: &BodyAt,
-    depth: u16,
+    at: &ItemAt<M>,
     taken: &mut Taken,
     form: &Syn,
-    means: &M,
     counts: &mut Counts<N, L>,
 ) -> Result<SettledItem, Stop>
-    ensures { GivesAfter (λ d. (taken.new, d)) result state.new (settle_item (M.records means.now) at.now depth taken.old form.now state.old) }
+    ensures { GivesAfter (λ d. (taken.new, d)) result state.new (settle_item (M.records at.now.means.now) at.now.body.now at.now.depth taken.old form.now state.old) }
 {
     let mut left = state.uses_left();
     let mut form = form.share()?;
-    let mut at = share_at(at)?;
+    let mut body = share_at(at.body)?;
     loop {
-        let keyword = match item_step(state, &at, depth, taken, &form, means, counts)? {
-            ItemStep::Item(item) => return Ok(SettledItem { at, form, item }),
+        let one = ItemForm {
+            form: &form,
+            body: &body,
+            depth: at.depth,
+            means: at.means,
+        };
+        let keyword = match item_step(state, &one, taken, counts)? {
+            ItemStep::Item(item) => {
+                return Ok(SettledItem {
+                    at: body,
+                    form,
+                    item,
+                });
+            }
             ItemStep::Use(keyword) => keyword,
         };
         if left == 0 {
-            return Err(state.fault_form(FaultKind::TooManyExpansions, &form, &at.place));
+            return Err(state.fault_form(FaultKind::TooManyExpansions, &form, &body.place));
         }
         left -= 1;
-        let frame = at.frame.share()?;
-        let next = next_form(
-            state,
-            left,
-            &form,
-            &keyword,
-            Some(frame),
-            &at.place,
-            means,
-            counts,
-        )?;
-        at = at_use(at, &form)?;
+        let frame = body.frame.share()?;
+        let used = KeywordForm {
+            form: &form,
+            keyword: &keyword,
+            frame: Some(frame),
+            place: &body.place,
+        };
+        let next = next_form(state, left, used, at.means, counts)?;
+        body = at_use(body, &form)?;
         form = next;
     }
 }

@@ -8,6 +8,7 @@ ghost use Rattle.sx_expand.specs.Body.{finish_one, finish_all, splice};
 ghost use Rattle.sx_expand.specs.Expression.{inside, full_room};
 ghost use Rattle.sx_expand.specs.Top.{export, all_exports, exports, with_label_of, with_labels_of, code_of, with_lines_of, refs_of, record_of, record_in, kind_of, body_at, first_pass, finished, top};
 
+use crate::at::{FormAt, ItemAt};
 use crate::body::{begun, finish_one, item};
 use crate::expression::{stamp_all, with_room};
 use crate::inside::ROOM;
@@ -41,6 +42,14 @@ pub struct TopAt {
     pub frame: FrameNo,
     /// Where a form without a span stands.
     pub place: Span,
+}
+
+/// A body of a library or program: what it has besides its forms, and its exports, which are external names, each with
+/// the identifier that it stands for.
+#[derive(Drop)]
+pub struct TopBody<'a> {
+    pub at: TopAt,
+    pub exports: &'a [(Symbol, Syn)],
 }
 
 /// The label that an export stands for, with its external name.
@@ -182,12 +191,12 @@ fn kind_of(library: &LibName) -> BodyKind
 fn finish_next<N: Ledger, L: Ledger>(
     state: &mut Expansion,
     one: Waiting,
-    means: &Means,
+    at: &FormAt<Means>,
     counts: &mut Counts<N, L>,
 ) -> Result<Line, Stop>
-    ensures { GivesAfter (λ l. l) result state.new (finish_one (inside (earlier_in means.now.earlier) full_room) 0 one state.old) }
+    ensures { GivesAfter (λ l. l) result state.new (finish_one (inside (earlier_in at.now.means.now.earlier) at.now.room) at.now.level one state.old) }
 {
-    finish_one(state, &one, 0, means, counts, ROOM)
+    finish_one(state, &one, at, counts)
 }
 
 /// The second pass. What has waited goes as soon as it is done: the forms of a long body and their core code aren't kept
@@ -196,16 +205,16 @@ fn finish_next<N: Ledger, L: Ledger>(
 fn finish_each<N: Ledger, L: Ledger>(
     state: &mut Expansion,
     waiting: Items<Waiting>,
-    means: &Means,
+    at: &FormAt<Means>,
     counts: &mut Counts<N, L>,
 ) -> Result<Vec<Line>, Stop>
-    ensures { GivesAfter (λ v. v.items) result state.new (finish_all (inside (earlier_in means.now.earlier) full_room) 0 waiting state.old) }
+    ensures { GivesAfter (λ v. v.items) result state.new (finish_all (inside (earlier_in at.now.means.now.earlier) at.now.room) at.now.level waiting state.old) }
 {
     let waiting = waiting.into_vec();
     let mut lines = with_room(state.alloc(), waiting.len());
     let mut left = waiting.into_iter();
     while let Some(one) = left.next() {
-        let line = finish_next(state, one, means, counts)?;
+        let line = finish_next(state, one, at, counts)?;
         lines.push(line)?;
     }
     Ok(lines)
@@ -215,18 +224,25 @@ fn finish_each<N: Ledger, L: Ledger>(
 #[tactic(auto, unfolding(crate::specs::Top::finished))]
 fn finished<N: Ledger, L: Ledger>(
     state: &mut Expansion,
-    at: TopAt,
-    list: &[(Symbol, Syn)],
+    body: TopBody,
     taken: Taken,
     means: &Means,
     counts: &mut Counts<N, L>,
 ) -> Result<LibRecord, Stop>
-    ensures { Gives (λ r. r) result (record_in (finished (inside (earlier_in means.now.earlier) full_room) at list.now taken state.old)) }
+    ensures { Gives (λ r. r) result (record_in (finished (inside (earlier_in means.now.earlier) full_room) body.entry.at body.entry.exports.now taken state.old)) }
 {
+    let TopBody { at, exports: list } = body;
     let exports = exports(state, &at, list, counts.nodes)?;
     let Taken { waiting, kept, .. } = taken;
     drop(kept);
-    let lines = finish_each(state, waiting, means, counts)?;
+    let second = FormAt {
+        place: &at.place,
+        level: 0,
+        depth: 0,
+        room: ROOM,
+        means,
+    };
+    let lines = finish_each(state, waiting, &second, counts)?;
     Ok(record_of(state, at, exports, lines)?)
 }
 
@@ -248,17 +264,16 @@ fn body_at(state: &Expansion, at: &TopAt) -> Result<BodyAt, Memory>
 #[tactic(auto, using(crate::proofs::Taking::gather_none))]
 fn splice_each<N: Ledger, L: Ledger>(
     state: &mut Expansion,
-    at: &BodyAt,
+    at: &ItemAt<Means>,
     taken: &mut Taken,
     forms: Items<Syn>,
-    means: &Means,
     counts: &mut Counts<N, L>,
 ) -> Result<(), Stop>
-    ensures { GivesAfter (λ _. taken.new) result state.new (splice (inside (earlier_in means.now.earlier) full_room) at.now 0 taken.old forms state.old) }
+    ensures { GivesAfter (λ _. taken.new) result state.new (splice (inside (earlier_in at.now.means.now.earlier) at.now.room) at.now.body.now at.now.depth taken.old forms state.old) }
 {
     let mut left = forms.into_vec().into_iter();
     while let Some(form) = left.next() {
-        item(state, at, 0, taken, &form, means, counts, ROOM)?;
+        item(state, at, taken, &form, counts)?;
     }
     Ok(())
 }
@@ -278,7 +293,13 @@ fn first_pass<N: Ledger, L: Ledger>(
     drop(forms);
     let body = body_at(state, at)?;
     let mut taken = begun(state.alloc());
-    splice_each(state, &body, &mut taken, stamped, means, counts)?;
+    let items = ItemAt {
+        body: &body,
+        depth: 0,
+        room: ROOM,
+        means,
+    };
+    splice_each(state, &items, &mut taken, stamped, counts)?;
     Ok(taken)
 }
 
@@ -286,14 +307,13 @@ fn first_pass<N: Ledger, L: Ledger>(
 #[tactic(auto, unfolding(crate::specs::Top::top))]
 pub fn top<N: Ledger, L: Ledger>(
     state: &mut Expansion,
-    at: TopAt,
-    list: &[(Symbol, Syn)],
+    body: TopBody,
     forms: Items<Syn>,
     means: &Means,
     counts: &mut Counts<N, L>,
 ) -> Result<LibRecord, Stop>
-    ensures { Gives (λ r. r) result (record_in (top (inside (earlier_in means.now.earlier) full_room) at list.now forms state.old)) }
+    ensures { Gives (λ r. r) result (record_in (top (inside (earlier_in means.now.earlier) full_room) body.entry.at body.entry.exports.now forms state.old)) }
 {
-    let taken = first_pass(state, &at, forms, means, counts)?;
-    finished(state, at, list, taken, means, counts)
+    let taken = first_pass(state, &body.at, forms, means, counts)?;
+    finished(state, body, taken, means, counts)
 }

@@ -8,7 +8,7 @@ ghost use Rattle.sx_standing.specs.Uses.{use_keyword, asks_variable, finish_keyw
 
 use std::sync::ledger::Ledger;
 use sx_base::fault::Stop;
-use sx_base::name::{FrameNo, Label};
+use sx_base::name::Label;
 use sx_base::span::Span;
 use sx_core::code::Core;
 use sx_standing::expansion::Expansion;
@@ -23,18 +23,15 @@ pub trait Transformers {
     /// The records before the library.
     ghost records: { Self → List LibRecord };
 
-    /// What comes of a use of a keyword, with the frame of a body where it stands in one. Faults of evaluation
-    /// stand at the place.
+    /// What comes of a use of a keyword. Faults of evaluation stand at its place.
     fn use_keyword<N: Ledger, L: Ledger>(
         &self,
         state: &mut Expansion,
-        form: &Syn,
-        place: &Span,
+        used: UsedForm,
         label: &Label,
-        frame: Option<FrameNo>,
         counts: &mut Counts<N, L>,
     ) -> Result<Syn, Stop>
-        ensures { GivesAfter (λ t. t) result state.new (use_keyword (records self.now) place.now form.now label.now frame state.old) };
+        ensures { GivesAfter (λ t. t) result state.new (use_keyword (records self.now) used.entry.place.now used.entry.form.now label.now used.entry.frame state.old) };
 
     /// Whether an assignment to a keyword is a use of it.
     fn asks_variable<N: Ledger, L: Ledger>(
@@ -46,16 +43,15 @@ pub trait Transformers {
     ) -> Result<bool, Stop>
         ensures { GivesAfter (λ b. b) result state.new (asks_variable (records self.now) place.now label.now state.old) };
 
-    /// Evaluates the expression of a keyword, which stands at the place, and keeps what it gives.
+    /// Evaluates the expression of a keyword, and keeps what it gives.
     fn finish_keyword<N: Ledger, L: Ledger>(
         &self,
         state: &mut Expansion,
-        place: &Span,
-        label: &Label,
+        keyword: &KeywordAt,
         code: Core,
         counts: &mut Counts<N, L>,
     ) -> Result<(), Stop>
-        ensures { GivesAfter (λ _. tt) result state.new (finish_keyword (records self.now) place.now label.now code state.old) };
+        ensures { GivesAfter (λ _. tt) result state.new (finish_keyword (records self.now) keyword.now.place.now keyword.now.label.now code state.old) };
 }
 
 impl<'a> Transformers for Means<'a> {
@@ -64,13 +60,10 @@ impl<'a> Transformers for Means<'a> {
     fn use_keyword<N: Ledger, L: Ledger>(
         &self,
         state: &mut Expansion,
-        form: &Syn,
-        place: &Span,
+        used: UsedForm,
         label: &Label,
-        frame: Option<FrameNo>,
         counts: &mut Counts<N, L>,
     ) -> Result<Syn, Stop> {
-        let used = UsedForm { form, frame, place };
         state.use_keyword(used, label, self, counts)
     }
 
@@ -87,12 +80,10 @@ impl<'a> Transformers for Means<'a> {
     fn finish_keyword<N: Ledger, L: Ledger>(
         &self,
         state: &mut Expansion,
-        place: &Span,
-        label: &Label,
+        keyword: &KeywordAt,
         code: Core,
         counts: &mut Counts<N, L>,
     ) -> Result<(), Stop> {
-        let keyword = KeywordAt { label, place };
-        state.finish_keyword(&keyword, code, self, counts)
+        state.finish_keyword(keyword, code, self, counts)
     }
 }

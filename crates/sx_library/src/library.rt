@@ -25,7 +25,7 @@ use sx_base::symbol::Symbol;
 use sx_core::code::Code;
 use sx_core::record::LibRecord;
 use sx_derived::implementation::Implementation;
-use sx_expand::expander::Expander;
+use sx_expand::expander::{Expander, LibraryBody};
 use sx_forms::form::LibraryForm;
 use sx_import::names::rows;
 use sx_import::set::NameAt;
@@ -35,6 +35,7 @@ use sx_prims::table::PrimTable;
 use sx_stage::earlier::Earlier;
 use sx_standing::means::{Counts, Means};
 use sx_standing::share::share_library;
+use sx_standing::start::Environment;
 use sx_syntax::syn::Syn;
 use sx_tree::marks::Marks;
 
@@ -52,16 +53,6 @@ pub struct Unexpanded {
     pub path: Symbol,
     pub form: LibraryForm,
     pub body: Body,
-}
-
-// What stands in the record of a library beside what the forms of its body give, and these forms.
-#[derive(Drop)]
-struct Text<'a> {
-    /// Of the library's name.
-    place: &'a Span,
-    version: Items<u64>,
-    exports: &'a [(Symbol, Syn)],
-    forms: Items<Syn>,
 }
 
 // Where a library comes from: its name, and the path of its file.
@@ -105,13 +96,13 @@ pub fn expand_body<N: Ledger, L: Ledger>(
     let begun = expander_of(alloc, &implementation.prelude, needed, &unexpanded)?;
     let Unexpanded { form, body, .. } = unexpanded;
     let Body { forms, .. } = body;
-    let text = Text {
-        place: &form.name_span,
-        version,
-        exports: exports.as_slice(),
+    let body = LibraryBody {
         forms,
+        place: &form.name_span,
+        exports: exports.as_slice(),
+        version,
     };
-    record_behind(begun, needed, text, implementation.primitives, counts)
+    record_behind(begun, needed, body, implementation.primitives, counts)
 }
 
 // An expander behind the records that are marked, which knows what the procedures mean that are texts.
@@ -141,25 +132,19 @@ fn expander_of(
 fn record_behind<N: Ledger, L: Ledger>(
     begun: Expander,
     needed: &Needed,
-    text: Text,
+    body: LibraryBody,
     prims: &PrimTable,
     counts: &mut Counts<N, L>,
 ) -> Result<LibRecord, Stop>
     requires { begun.failed ≡ false }
-    ensures { Gives (λ r. r) result (library_record begun (needed_records needed.now.records.now needed.now.marks.now) text.entry.version text.entry.place.now text.entry.exports.now text.entry.forms) }
+    ensures { Gives (λ r. r) result (library_record begun (needed_records needed.now.records.now needed.now.marks.now) body.entry.version body.entry.place.now body.entry.exports.now body.entry.forms) }
 {
-    let Text {
-        place,
-        version,
-        exports,
-        forms,
-    } = text;
     let earlier = Earlier {
         records: needed.records.ready().as_slice(),
         needs: needed.marks,
     };
     let means = Means { earlier, prims };
-    begun.top(forms, place, exports, version, &means, counts)
+    begun.top(body, &means, counts)
 }
 
 // An expander behind the records that are marked.
@@ -174,7 +159,12 @@ fn expander_behind(
 {
     let Origin { name, path } = origin;
     let ready = needed.records.ready();
-    Expander::new(alloc, name, path, ready, needed.marks, names, codes)
+    let environment = Environment {
+        earlier: ready,
+        needs: needed.marks,
+        imports: names,
+    };
+    Expander::new(alloc, name, path, &environment, codes)
 }
 
 fn share_version(alloc: Global, version: &[u64]) -> Result<Items<u64>, Memory>

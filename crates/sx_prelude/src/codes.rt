@@ -30,10 +30,12 @@ use sx_builtin::exports::exports;
 use sx_builtin::prelude::prelude_source;
 use sx_core::code::{Code, Core, Lambda};
 use sx_core::formals::Formals;
+use sx_expand::at::OuterAt;
 use sx_expand::expander::Expander;
 use sx_reader::read::read_all;
 use sx_standing::means::{Counts, Means};
 use sx_standing::ready::ReadyRecords;
+use sx_standing::start::Environment;
 use sx_syntax::syn::Syn;
 
 // The procedures that have a text, in the order of their codes.
@@ -203,7 +205,11 @@ fn text_code<N: Ledger, L: Ledger>(
     let place = place_of(alloc, op)?;
     let tree = tree_in(alloc, *op, &place)?;
     let tree = tree.stamp(alloc, frame(alloc)?, counts.nodes)?;
-    let core = expander.expression(&tree, &place, 0, means, counts)?;
+    let at = OuterAt {
+        place: &place,
+        level: 0,
+    };
+    let core = expander.expression(&tree, &at, means, counts)?;
     Ok(procedure_of(alloc, *op, core)?)
 }
 
@@ -214,15 +220,13 @@ fn start(alloc: Global) -> Result<Expander, Stop>
     let records = ReadyRecords::new(alloc)?;
     let names = names(alloc)?;
     let path = Symbol::new(alloc, "(prelude)")?;
-    Expander::new(
-        alloc,
-        LibName::Prelude,
-        path,
-        &records,
-        &[],
-        names.as_slice(),
-        IndexMap::new(alloc),
-    )
+    let environment = Environment {
+        earlier: &records,
+        needs: &[],
+        imports: names.as_slice(),
+    };
+    let codes = IndexMap::new(alloc);
+    Expander::new(alloc, LibName::Prelude, path, &environment, codes)
 }
 
 /// The codes of all texts, in the order of `PROCEDURES`. `means` has no records; its primitives are asked for nothing.

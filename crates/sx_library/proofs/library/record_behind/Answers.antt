@@ -8,5 +8,5 @@ use Rattle.sx_library.proofs.library.record_behind.Goals as goal
 
 pub returns : goal.returns
 returns g c =
-    subst (λ (rs : List LibRecord). Gives (λ (r : LibRecord). r) c.top.result (library_record c.args.begun rs c.args.text.version c.args.text.place.now c.args.text.exports.now c.args.text.forms))
+    subst (λ (rs : List LibRecord). Gives (λ (r : LibRecord). r) c.top.result (library_record c.args.begun rs c.args.body.version c.args.body.place.now c.args.body.exports.now c.args.body.forms))
     (ap (needed_records c.args.needed.now.marks.now) (c.as_slice.ensures ∙ c.ready.ensures) ∙ at_stage c.args.needed.now.marks.now c.args.needed.now.records.now) c.top.ensures
