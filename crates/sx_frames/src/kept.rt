@@ -12,7 +12,7 @@ ghost use Rattle.sx_frames.specs.Scope.{has_frame, label_by, bound, adopted, are
 
 use crate::joined::JoinedFrames;
 use crate::key::Key;
-use crate::memo::{Answer, Memo};
+use crate::memo::{Answer, Memo, Question};
 use crate::shared::SharedFrames;
 use std::alloc::Global;
 use std::marker::Model;
@@ -204,37 +204,29 @@ impl KeptFrames {
         self.frames.label_by(symbol, stamps)
     }
 
-    fn recall(
-        &self,
-        symbol: &Symbol,
-        marks: &Marks,
-        stamps: &Items<Stamp>,
-    ) -> Result<Option<Option<Label>>, Memory>
-        ensures { IfOk result (λ o. IfSome o (λ l. l ≡ label_by self.now symbol.now stamps.now)) }
+    fn recall(&self, question: &Question) -> Result<Option<Option<Label>>, Memory>
+        ensures { IfOk result (λ o. IfSome o (λ l. l ≡ label_by self.now question.now.symbol question.now.stamps)) }
     {
-        let Some(answer) = self.memo.find(symbol, marks, stamps)? else {
+        let Some(answer) = self.memo.find(question)? else {
             return Ok(None);
         };
-        if !have_sizes(&self.frames, stamps.as_slice(), answer.sizes.as_slice()) {
+        let stamps = question.stamps.as_slice();
+        if !have_sizes(&self.frames, stamps, answer.sizes.as_slice()) {
             return Ok(None);
         }
         let label = share_label(answer.label.as_ref())?;
         Ok(Some(label))
     }
 
-    fn find_and_keep(
-        &mut self,
-        symbol: Symbol,
-        marks: Marks,
-        stamps: Items<Stamp>,
-    ) -> Result<Option<Label>, Memory>
-        ensures label { IfOk result (λ l. l ≡ label_by self.old symbol stamps) }
+    fn find_and_keep(&mut self, question: Question) -> Result<Option<Label>, Memory>
+        ensures label { IfOk result (λ l. l ≡ label_by self.old question.symbol question.stamps) }
         ensures unchanged { self.new ≡ self.old }
     {
-        let asked = symbol.share()?;
-        let answer = look(self.alloc, &self.frames, asked, stamps.as_slice())?;
+        let asked = question.symbol.share()?;
+        let stamps = question.stamps.as_slice();
+        let answer = look(self.alloc, &self.frames, asked, stamps)?;
         let label = share_label(answer.label.as_ref())?;
-        self.memo.keep(self.alloc, symbol, marks, stamps, answer)?;
+        self.memo.keep(self.alloc, question, answer)?;
         Ok(label)
     }
 
@@ -250,9 +242,14 @@ impl KeptFrames {
         ensures unchanged { self.new ≡ self.old }
     {
         let stamps = Items::from_vec(stamps);
-        if let Some(label) = self.recall(&symbol, &marks, &stamps)? {
+        let question = Question {
+            symbol,
+            marks,
+            stamps,
+        };
+        if let Some(label) = self.recall(&question)? {
             return Ok(label);
         }
-        self.find_and_keep(symbol, marks, stamps)
+        self.find_and_keep(question)
     }
 }

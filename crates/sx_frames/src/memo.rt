@@ -13,6 +13,14 @@ use sx_base::symbol::Symbol;
 use sx_tree::marks::Marks;
 use sx_tree::stamp::Stamp;
 
+/// What is asked of frames: the symbol of a leaf, its marks and its stamps.
+#[derive(Drop)]
+pub struct Question {
+    pub symbol: Symbol,
+    pub marks: Marks,
+    pub stamps: Items<Stamp>,
+}
+
 /// What was asked: a symbol, and the numbers of the leaf's marks and stamps.
 #[derive(PartialEq, Eq, Hash, Drop)]
 pub struct Asked {
@@ -67,22 +75,17 @@ impl Memo {
         }
     }
 
-    /// What was kept for this symbol, these marks and these stamps.
-    pub fn find(
-        &self,
-        symbol: &Symbol,
-        marks: &Marks,
-        stamps: &Items<Stamp>,
-    ) -> Result<Option<&Answer>, Memory>
-        ensures { IfOk result (λ o. IfSome o (λ a. Has (kept symbol.now stamps.now a.now) self.now)) }
+    /// What was kept for this question.
+    pub fn find(&self, question: &Question) -> Result<Option<&Answer>, Memory>
+        ensures { IfOk result (λ o. IfSome o (λ a. Has (kept question.now.symbol question.now.stamps a.now) self.now)) }
     {
-        let Some(m) = self.marks.get_index_of(marks) else {
+        let Some(m) = self.marks.get_index_of(&question.marks) else {
             return Ok(None);
         };
-        let Some(t) = self.stamps.get_index_of(stamps) else {
+        let Some(t) = self.stamps.get_index_of(&question.stamps) else {
             return Ok(None);
         };
-        let symbol = symbol.share()?;
+        let symbol = question.symbol.share()?;
         let asked = Asked {
             symbol,
             marks: m,
@@ -92,15 +95,14 @@ impl Memo {
     }
 
     /// Keeps an answer, in the place of an older one.
-    fn put(
-        &mut self,
-        symbol: Symbol,
-        marks: Marks,
-        stamps: Items<Stamp>,
-        answer: Answer,
-    ) -> Result<(), Memory>
-        ensures { (k : Kept) → Has k self.new → Has k self.old ⊎ (k ≡ kept symbol stamps answer) }
+    fn put(&mut self, question: Question, answer: Answer) -> Result<(), Memory>
+        ensures { (k : Kept) → Has k self.new → Has k self.old ⊎ (k ≡ kept question.symbol question.stamps answer) }
     {
+        let Question {
+            symbol,
+            marks,
+            stamps,
+        } = question;
         let Ok((m, _)) = self.marks.insert_full(marks) else {
             return Err(Memory);
         };
@@ -128,17 +130,10 @@ impl Memo {
     }
 
     /// As `put`. A memo that is full forgets first, so that it stays small however much is asked.
-    pub fn keep(
-        &mut self,
-        alloc: Global,
-        symbol: Symbol,
-        marks: Marks,
-        stamps: Items<Stamp>,
-        answer: Answer,
-    ) -> Result<(), Memory>
-        ensures { (k : Kept) → Has k self.new → Has k self.old ⊎ (k ≡ kept symbol stamps answer) }
+    pub fn keep(&mut self, alloc: Global, question: Question, answer: Answer) -> Result<(), Memory>
+        ensures { (k : Kept) → Has k self.new → Has k self.old ⊎ (k ≡ kept question.symbol question.stamps answer) }
     {
         self.make_room(alloc);
-        self.put(symbol, marks, stamps, answer)
+        self.put(question, answer)
     }
 }

@@ -6,6 +6,7 @@ ghost use Rattle.sx_base.specs.Gives.{Gives};
 ghost use Rattle.sx_lexer.specs.Characters.{named, hex_character, long_character, character_to, character_with, character_end, character_at};
 
 use crate::faults::refuse;
+use crate::text::Text;
 use crate::token::{Lexeme, Token};
 use std::alloc::Global;
 use sx_base::atom::Atom;
@@ -45,7 +46,8 @@ fn character_with(
         return refuse(alloc, file, FaultKind::BadUtf8, from + 2, from + 3);
     };
     let to = character_end(bytes, from, first.size);
-    let c = character_to(alloc, file, bytes, from, c, first.size, to)?;
+    let text = Text { bytes, from, to };
+    let c = character_to(alloc, file, &text, c, first.size)?;
     Ok(Lexeme {
         token: Token::Atom(Atom::Char(c)),
         from,
@@ -62,28 +64,26 @@ fn character_end(bytes: &[u8], from: u32, size: usize) -> u32
     run_end(behind(bytes, 2 + size), from + 2 + size as u32)
 }
 
-/// The character that the bytes up to `to` spell, of which `c` is the first.
+/// The character that a text spells whose first character behind `#\` is `c`.
 fn character_to(
     alloc: Global,
     file: &Symbol,
-    bytes: &[u8],
-    from: u32,
+    text: &Text,
     c: char,
     size: usize,
-    to: u32,
 ) -> Result<char, Stop>
-    requires within { (from + 2 + size ≤ to) × (to ≤ from + length bytes.now) }
-    requires fits { from + length bytes.now < 2 ^ 32 }
-    ensures { Gives (λ x. x) result (character_to file.now bytes.now from c size to) }
+    requires within { (text.now.from + 2 + size ≤ text.now.to) × (text.now.to ≤ text.now.from + length text.now.bytes.now) }
+    requires fits { text.now.from + length text.now.bytes.now < 2 ^ 32 }
+    ensures { Gives (λ x. x) result (character_to file.now text.now.bytes.now text.now.from c size text.now.to) }
 {
-    let (text, after) = bytes.split_at((to - from) as usize);
+    let (spelling, after) = text.bytes.split_at((text.to - text.from) as usize);
     if !is_delimited(after) {
-        return refuse(alloc, file, FaultKind::BadToken, from, to);
+        return refuse(alloc, file, FaultKind::BadToken, text.from, text.to);
     }
-    if to == from + 2 + size as u32 {
+    if text.to == text.from + 2 + size as u32 {
         return Ok(c);
     }
-    long_character(alloc, file, from, to, behind(text, 2))
+    long_character(alloc, file, text.from, text.to, behind(spelling, 2))
 }
 
 /// The character that a text of more than one character spells.

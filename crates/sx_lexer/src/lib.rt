@@ -25,5 +25,6 @@ mod gap;
 pub mod laws;
 pub mod start;
 mod strings;
+mod text;
 pub mod token;
 pub mod tokens;

@@ -6,6 +6,7 @@ ghost use Rattle.sx_base.specs.Gives.{Gives};
 ghost use Rattle.sx_base.specs.Place.{line_end};
 ghost use Rattle.sx_spelling.specs.Numbers.{digits_size};
 ghost use Rattle.sx_spelling.specs.Source.{characters, piece};
+ghost use Rattle.sx_lexer.specs.Faults.{refused};
 ghost use Rattle.sx_lexer.specs.Strings.{char_here, simple_escape, hex_part, line_part, escape_part, line_or_char, string_part, char_text, string_at};
 
 use crate::faults::refuse;
@@ -20,6 +21,22 @@ use sx_spelling::numbers::digits_size;
 use sx_spelling::source::{Piece, behind, byte_at, front};
 use sx_spelling::whitespace::blanks_end;
 
+/// The string that is read: the file that spans and faults name, and the offset of the opening quote.
+#[derive(Drop)]
+struct StringContext<'a> {
+    alloc: Global,
+    file: &'a Symbol,
+    quote: u32,
+}
+
+impl<'a> StringContext<'a> {
+    fn refuse(&self, kind: FaultKind, from: u32, to: u32) -> Result<Piece, Stop>
+        ensures { Gives (λ p. piece p.char p.size) result (refused self.now.file.now kind from to) }
+    {
+        refuse(self.alloc, self.file, kind, from, to)
+    }
+}
+
 /// The string whose opening quote is the first of the bytes.
 pub fn string_at(alloc: Global, file: &Symbol, bytes: &[u8], from: u32) -> Result<Lexeme, Stop>
     requires some { 0 < length bytes.now }
@@ -30,6 +47,11 @@ pub fn string_at(alloc: Global, file: &Symbol, bytes: &[u8], from: u32) -> Resul
     let mut text = String::new(alloc);
     let (_, mut rest) = bytes.split_at(1);
     let mut at = from + 1;
+    let context = StringContext {
+        alloc,
+        file,
+        quote: from,
+    };
     loop {
         if byte_at(rest, 0) == b'"' {
             let text = Symbol::from_string(text)?;
@@ -39,7 +61,7 @@ pub fn string_at(alloc: Global, file: &Symbol, bytes: &[u8], from: u32) -> Resul
                 to: at + 1,
             });
         }
-        let part = string_part(alloc, file, from, rest, at)?;
+        let part = string_part(&context, rest, at)?;
         push_char(&mut text, part.char)?;
         let (_, after) = rest.split_at(part.size);
         rest = after;
@@ -59,24 +81,18 @@ fn push_char(text: &mut String, char: Option<char>) -> Result<(), AllocError>
 /// What the string goes on with at `at`: the character that it stands for, if any, and how many
 /// bytes it takes.
 #[tactic(auto, unfolding(crate::specs::Strings::string_part))]
-fn string_part(
-    alloc: Global,
-    file: &Symbol,
-    quote: u32,
-    bytes: &[u8],
-    at: u32,
-) -> Result<Piece, Stop>
-    requires quoted { quote < at }
+fn string_part(context: &StringContext, bytes: &[u8], at: u32) -> Result<Piece, Stop>
+    requires quoted { context.now.quote < at }
     requires fits { at + length bytes.now < 2 ^ 32 }
-    ensures gives { Gives (λ p. piece p.char p.size) result (string_part file.now quote bytes.now at) }
+    ensures gives { Gives (λ p. piece p.char p.size) result (string_part context.now.file.now context.now.quote bytes.now at) }
     ensures size { IfOk result (λ p. (0 < p.size) × (p.size ≤ length bytes.now)) }
 {
     if byte_at(bytes, 0) == b'\\' {
-        return escape_part(alloc, file, quote, bytes, at);
+        return escape_part(context, bytes, at);
     }
     let size = line_end(bytes);
     if size == 0 {
-        return char_here(alloc, file, quote, bytes, at);
+        return char_here(context, bytes, at);
     }
     Ok(Piece {
         char: Some('\n'),
@@ -85,10 +101,10 @@ fn string_part(
 }
 
 /// The character with which the string goes on at `at`.
-fn char_here(alloc: Global, file: &Symbol, quote: u32, bytes: &[u8], at: u32) -> Result<Piece, Stop>
-    requires quoted { quote < at }
+fn char_here(context: &StringContext, bytes: &[u8], at: u32) -> Result<Piece, Stop>
+    requires quoted { context.now.quote < at }
     requires fits { at + length bytes.now < 2 ^ 32 }
-    ensures gives { Gives (λ p. piece p.char p.size) result (char_here file.now quote at (characters bytes.now)) }
+    ensures gives { Gives (λ p. piece p.char p.size) result (char_here context.now.file.now context.now.quote at (characters bytes.now)) }
     ensures size { IfOk result (λ p. (0 < p.size) × (p.size ≤ length bytes.now)) }
 {
     match front(bytes) {
@@ -106,8 +122,8 @@ fn char_here(alloc: Global, file: &Symbol, quote: u32, bytes: &[u8], at: u32) ->
                 char: None,
                 size: _,
             },
-        ) => refuse(alloc, file, FaultKind::BadUtf8, at, at + 1),
-        None => refuse(alloc, file, FaultKind::Unclosed, quote, quote + 1),
+        ) => context.refuse(FaultKind::BadUtf8, at, at + 1),
+        None => context.refuse(FaultKind::Unclosed, context.quote, context.quote + 1),
     }
 }
 
@@ -130,17 +146,11 @@ fn simple_escape(b: u8) -> Option<char>
 }
 
 /// What the backslash at `at` begins, which is the first of the bytes.
-fn escape_part(
-    alloc: Global,
-    file: &Symbol,
-    quote: u32,
-    bytes: &[u8],
-    at: u32,
-) -> Result<Piece, Stop>
+fn escape_part(context: &StringContext, bytes: &[u8], at: u32) -> Result<Piece, Stop>
     requires some { 0 < length bytes.now }
-    requires quoted { quote < at }
+    requires quoted { context.now.quote < at }
     requires fits { at + length bytes.now < 2 ^ 32 }
-    ensures gives { Gives (λ p. piece p.char p.size) result (escape_part file.now quote bytes.now at (simple_escape (slice_index bytes.now 1))) }
+    ensures gives { Gives (λ p. piece p.char p.size) result (escape_part context.now.file.now context.now.quote bytes.now at (simple_escape (slice_index bytes.now 1))) }
     ensures size { IfOk result (λ p. (0 < p.size) × (p.size ≤ length bytes.now)) }
 {
     let b = byte_at(bytes, 1);
@@ -151,64 +161,43 @@ fn escape_part(
         });
     }
     if b == b'x' {
-        return hex_part(
-            alloc,
-            file,
-            quote,
-            digits_size(16, behind(bytes, 2)),
-            bytes,
-            at,
-        );
+        return hex_part(context, digits_size(16, behind(bytes, 2)), bytes, at);
     }
     let here = blanks_end(behind(bytes, 1), at + 1);
     let (_, rest) = bytes.split_at((here - at) as usize);
-    line_part(alloc, file, quote, at, rest, here)
+    line_part(context, at, rest, here)
 }
 
 /// The escape `\xHEX;` at `at`, which has `n` digits.
-fn hex_part(
-    alloc: Global,
-    file: &Symbol,
-    quote: u32,
-    n: usize,
-    bytes: &[u8],
-    at: u32,
-) -> Result<Piece, Stop>
+fn hex_part(context: &StringContext, n: usize, bytes: &[u8], at: u32) -> Result<Piece, Stop>
     requires digits { n + 2 ≤ length bytes.now }
-    requires quoted { quote < at }
+    requires quoted { context.now.quote < at }
     requires fits { at + length bytes.now < 2 ^ 32 }
-    ensures gives { Gives (λ p. piece p.char p.size) result (hex_part file.now quote at n bytes.now) }
+    ensures gives { Gives (λ p. piece p.char p.size) result (hex_part context.now.file.now context.now.quote at n bytes.now) }
     ensures size { IfOk result (λ p. (0 < p.size) × (p.size ≤ length bytes.now)) }
 {
-    let _end = char_here(alloc, file, quote, behind(bytes, 2 + n), at + 2 + n as u32)?;
+    let _end = char_here(context, behind(bytes, 2 + n), at + 2 + n as u32)?;
     match escape(bytes) {
         Some(letter) => Ok(Piece {
             char: Some(letter.char),
             size: letter.size,
         }),
-        None => refuse(alloc, file, FaultKind::BadEscape, quote, at),
+        None => context.refuse(FaultKind::BadEscape, context.quote, at),
     }
 }
 
 /// Behind a backslash at `at` and blanks: a line end and blanks, which stand for nothing.
-fn line_part(
-    alloc: Global,
-    file: &Symbol,
-    quote: u32,
-    at: u32,
-    rest: &[u8],
-    here: u32,
-) -> Result<Piece, Stop>
-    requires quoted { quote < at }
+fn line_part(context: &StringContext, at: u32, rest: &[u8], here: u32) -> Result<Piece, Stop>
+    requires quoted { context.now.quote < at }
     requires forward { at < here }
     requires fits { here + length rest.now < 2 ^ 32 }
-    ensures gives { Gives (λ p. piece p.char p.size) result (line_part file.now quote at here (line_end rest.now) rest.now) }
+    ensures gives { Gives (λ p. piece p.char p.size) result (line_part context.now.file.now context.now.quote at here (line_end rest.now) rest.now) }
     ensures size { IfOk result (λ p. (0 < p.size) × (at + p.size ≤ here + length rest.now)) }
 {
-    let _end = char_here(alloc, file, quote, rest, here)?;
+    let _end = char_here(context, rest, here)?;
     let n = line_end(rest);
     if n == 0 {
-        return refuse(alloc, file, FaultKind::BadEscape, quote, at);
+        return context.refuse(FaultKind::BadEscape, context.quote, at);
     }
     let to = blanks_end(behind(rest, n), here + n as u32);
     Ok(Piece {

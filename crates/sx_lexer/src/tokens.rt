@@ -9,6 +9,7 @@ use crate::characters::character_at;
 use crate::faults::refuse;
 use crate::gap::gap_end;
 use crate::strings::string_at;
+use crate::text::Text;
 use crate::token::{Abbreviation, Bracket, Lexeme, Token};
 use std::alloc::Global;
 use sx_base::atom::Atom;
@@ -197,43 +198,33 @@ fn marked_at(alloc: Global, file: &Symbol, bytes: &[u8], from: u32) -> Result<Le
     ensures gives { Gives (λ x. x) result (marked_at file.now bytes.now from) }
     ensures forward { IfOk result (λ l. (l.from ≡ from) × (from < l.to) × (l.to ≤ from + length bytes.now)) }
 {
-    let to = bare_end(
+    let context = BareContext {
         alloc,
         file,
-        FaultKind::BadNumber,
+        bad: FaultKind::BadNumber,
         from,
-        behind(bytes, 2),
-        from + 2,
-    )?;
+    };
+    let to = bare_end(&context, behind(bytes, 2), from + 2)?;
     let (text, _) = bytes.split_at((to - from) as usize);
-    let token = integer_in(
-        alloc,
-        file,
-        radix(byte_at(bytes, 1)),
-        behind(text, 2),
+    let digits = Text {
+        bytes: behind(text, 2),
         from,
         to,
-    )?;
+    };
+    let token = integer_in(alloc, file, radix(byte_at(bytes, 1)), &digits)?;
     Ok(lexeme(token, from, to))
 }
 
 /// The integer that a text spells in a base.
-fn integer_in(
-    alloc: Global,
-    file: &Symbol,
-    base: u8,
-    text: &[u8],
-    from: u32,
-    to: u32,
-) -> Result<Token, Stop>
-    ensures { Gives (λ x. x) result (integer_in file.now base text.now from to) }
+fn integer_in(alloc: Global, file: &Symbol, base: u8, text: &Text) -> Result<Token, Stop>
+    ensures { Gives (λ x. x) result (integer_in file.now base text.now.bytes.now text.now.from text.now.to) }
 {
-    if base == 0 || !is_integer(base, text) {
-        return refuse(alloc, file, FaultKind::BadNumber, from, to);
+    if base == 0 || !is_integer(base, text.bytes) {
+        return refuse(alloc, file, FaultKind::BadNumber, text.from, text.to);
     }
-    match integer_of(base, text) {
+    match integer_of(base, text.bytes) {
         Some(n) => Ok(Token::Atom(Atom::Int(n))),
-        None => refuse(alloc, file, FaultKind::BadNumber, from, to),
+        None => refuse(alloc, file, FaultKind::BadNumber, text.from, text.to),
     }
 }
 
@@ -244,33 +235,46 @@ fn bare_at(alloc: Global, file: &Symbol, bytes: &[u8], from: u32) -> Result<Lexe
     ensures gives { Gives (λ x. x) result (bare_at file.now bytes.now from) }
     ensures forward { IfOk result (λ l. (l.from ≡ from) × (from < l.to) × (l.to ≤ from + length bytes.now)) }
 {
-    let to = bare_end(alloc, file, FaultKind::BadEscape, from, bytes, from)?;
+    let context = BareContext {
+        alloc,
+        file,
+        bad: FaultKind::BadEscape,
+        from,
+    };
+    let to = bare_end(&context, bytes, from)?;
     if to == from {
         return refuse(alloc, file, FaultKind::BadUtf8, from, from + 1);
     }
     let (text, _) = bytes.split_at((to - from) as usize);
-    let token = bare(alloc, file, text, from, to)?;
+    let text = Text {
+        bytes: text,
+        from,
+        to,
+    };
+    let token = bare(alloc, file, &text)?;
     Ok(lexeme(token, from, to))
 }
 
-/// The offset behind the bare token that begins at `from`, where the bytes at `at` are what is left. A backslash that
-/// begins no escape is the fault `bad`.
-fn bare_end(
+/// The bare token whose end is sought: the file that spans and faults name, and where the token begins.
+#[derive(Drop)]
+struct BareContext<'a> {
     alloc: Global,
-    file: &Symbol,
+    file: &'a Symbol,
+    /// What a backslash is that begins no escape.
     bad: FaultKind,
     from: u32,
-    bytes: &[u8],
-    at: u32,
-) -> Result<u32, Stop>
+}
+
+/// The offset behind the bare token, where the bytes at `at` are what is left.
+fn bare_end(context: &BareContext, bytes: &[u8], at: u32) -> Result<u32, Stop>
     requires { at + length bytes.now < 2 ^ 32 }
-    ensures gives { Gives (λ x. x) result (bare_end file.now bad from bytes.now at) }
+    ensures gives { Gives (λ x. x) result (bare_end context.now.file.now context.now.bad context.now.from bytes.now at) }
     ensures within { IfOk result (λ to. (at ≤ to) × (to ≤ at + length bytes.now)) }
 {
     let mut rest = bytes;
     let mut here = at;
     loop {
-        let to = bare_step(alloc, file, bad, from, rest, here)?;
+        let to = bare_step(context, rest, here)?;
         if to == here {
             return Ok(here);
         }
@@ -282,16 +286,9 @@ fn bare_end(
 
 /// The offset behind an escape, or behind a character that is no delimiter.
 #[tactic(auto, unfolding(crate::specs::Tokens::bare_step))]
-fn bare_step(
-    alloc: Global,
-    file: &Symbol,
-    bad: FaultKind,
-    from: u32,
-    bytes: &[u8],
-    at: u32,
-) -> Result<u32, Stop>
+fn bare_step(context: &BareContext, bytes: &[u8], at: u32) -> Result<u32, Stop>
     requires { at + length bytes.now < 2 ^ 32 }
-    ensures gives { Gives (λ x. x) result (bare_step file.now bad from bytes.now at) }
+    ensures gives { Gives (λ x. x) result (bare_step context.now.file.now context.now.bad context.now.from bytes.now at) }
     ensures within { IfOk result (λ to. (at ≤ to) × (to ≤ at + length bytes.now)) }
 {
     if byte_at(bytes, 0) != b'\\' {
@@ -299,7 +296,7 @@ fn bare_step(
     }
     match escape(bytes) {
         Some(letter) => Ok(at + letter.size as u32),
-        None => refuse(alloc, file, bad, from, at),
+        None => refuse(context.alloc, context.file, context.bad, context.from, at),
     }
 }
 
@@ -322,15 +319,15 @@ fn char_end(bytes: &[u8], at: u32) -> u32
 }
 
 /// The token that a bare text spells.
-fn bare(alloc: Global, file: &Symbol, text: &[u8], from: u32, to: u32) -> Result<Token, Stop>
-    ensures { Gives (λ x. x) result (bare file.now text.now from to) }
+fn bare(alloc: Global, file: &Symbol, text: &Text) -> Result<Token, Stop>
+    ensures { Gives (λ x. x) result (bare file.now text.now.bytes.now text.now.from text.now.to) }
 {
-    if is_dot(text) {
+    if is_dot(text.bytes) {
         return Ok(Token::Dot);
     }
-    match identifier_of(alloc, text)? {
+    match identifier_of(alloc, text.bytes)? {
         Some(name) => Ok(Token::Symbol(name)),
-        None => no_identifier(alloc, file, text, from, to),
+        None => no_identifier(alloc, file, text),
     }
 }
 
@@ -340,19 +337,13 @@ fn is_dot(text: &[u8]) -> bool
     text.len() == 1 && text[0] == b'.'
 }
 
-fn no_identifier(
-    alloc: Global,
-    file: &Symbol,
-    text: &[u8],
-    from: u32,
-    to: u32,
-) -> Result<Token, Stop>
-    ensures { Gives (λ x. x) result (no_identifier file.now text.now from to) }
+fn no_identifier(alloc: Global, file: &Symbol, text: &Text) -> Result<Token, Stop>
+    ensures { Gives (λ x. x) result (no_identifier file.now text.now.bytes.now text.now.from text.now.to) }
 {
-    if begins_number(byte_at(text, 0)) {
-        number_of(alloc, file, text, from, to)
+    if begins_number(byte_at(text.bytes, 0)) {
+        number_of(alloc, file, text)
     } else {
-        refuse(alloc, file, FaultKind::BadToken, from, to)
+        refuse(alloc, file, FaultKind::BadToken, text.from, text.to)
     }
 }
 
@@ -363,17 +354,17 @@ fn begins_number(b: u8) -> bool
 }
 
 /// The number that a text spells: an integer, or a ratio or a decimal as it is spelt.
-fn number_of(alloc: Global, file: &Symbol, text: &[u8], from: u32, to: u32) -> Result<Token, Stop>
-    ensures { Gives (λ x. x) result (number_of file.now text.now from to) }
+fn number_of(alloc: Global, file: &Symbol, text: &Text) -> Result<Token, Stop>
+    ensures { Gives (λ x. x) result (number_of file.now text.now.bytes.now text.now.from text.now.to) }
 {
-    if is_integer(10, text) {
-        return match integer_of(10, text) {
+    if is_integer(10, text.bytes) {
+        return match integer_of(10, text.bytes) {
             Some(n) => Ok(Token::Atom(Atom::Int(n))),
-            None => refuse(alloc, file, FaultKind::BadNumber, from, to),
+            None => refuse(alloc, file, FaultKind::BadNumber, text.from, text.to),
         };
     }
-    match spelt(alloc, text)? {
-        Some(text) => Ok(Token::Atom(Atom::Spelt(text))),
-        None => refuse(alloc, file, FaultKind::BadNumber, from, to),
+    match spelt(alloc, text.bytes)? {
+        Some(spelling) => Ok(Token::Atom(Atom::Spelt(spelling))),
+        None => refuse(alloc, file, FaultKind::BadNumber, text.from, text.to),
     }
 }

@@ -20,6 +20,7 @@ pub mod laws;
 pub mod made;
 pub mod parts;
 pub mod perform;
+pub mod prim_call;
 pub mod primitive;
 pub mod relation;
 pub mod rows;

@@ -109,107 +109,96 @@ impl Kept {
     }
 }
 
+/// How trees grow from data: whether they take the spans of the data, and what their leaves and lists take.
+#[derive(Drop)]
+pub(crate) struct Growth<'a> {
+    pub(crate) alloc: Global,
+    pub(crate) spans: Spans,
+    pub(crate) sample: &'a Sample,
+}
+
 /// The tree of a datum. It is `TooDeep` where it would pass a limit.
 #[cycle(from_datum)]
-pub(crate) fn from_datum(
-    alloc: Global,
-    spans: Spans,
-    sample: &Sample,
-    datum: &Datum,
-) -> Result<Kept, BareStop>
-    ensures tree { IfOk result (λ k. k ≡ grown_tree spans sample.now datum.now) }
-    ensures refused { IfErr result (λ e. Refuses e (Fits (grown_tree spans sample.now datum.now))) }
+pub(crate) fn from_datum(growth: &Growth, datum: &Datum) -> Result<Kept, BareStop>
+    ensures tree { IfOk result (λ k. k ≡ grown_tree growth.now.spans growth.now.sample.now datum.now) }
+    ensures refused { IfErr result (λ e. Refuses e (Fits (grown_tree growth.now.spans growth.now.sample.now datum.now))) }
 {
-    let span = spans.share(&datum.span)?;
+    let span = growth.spans.share(&datum.span)?;
     match &datum.node {
         datum::Node::Atom(atom) => {
             let atom = atom.share()?;
-            let kept = Kept::new(alloc, Wrap::none(), span, Shape::Atom(atom))?;
+            let kept = Kept::new(growth.alloc, Wrap::none(), span, Shape::Atom(atom))?;
             Ok(kept)
         }
         datum::Node::Symbol(symbol) => {
-            let kept = sample.leaf(alloc, span, symbol)?;
+            let kept = growth.sample.leaf(growth.alloc, span, symbol)?;
             Ok(kept)
         }
-        datum::Node::List(items, tail) => from_list(alloc, spans, sample, span, items, tail),
-        datum::Node::Vector(items) => from_vector(alloc, spans, sample, span, items),
+        datum::Node::List(items, tail) => from_list(growth, span, items, tail),
+        datum::Node::Vector(items) => from_vector(growth, span, items),
     }
 }
 
 /// The list of these data before this tail, with this span.
 #[cycle(from_datum)]
 fn from_list(
-    alloc: Global,
-    spans: Spans,
-    sample: &Sample,
+    growth: &Growth,
     span: Option<Span>,
     items: &[Datum],
     tail: &Datum,
 ) -> Result<Kept, BareStop>
     requires some { 0 < length items.now }
     requires tail { IsTrue (is_tail tail.now) }
-    ensures tree { IfOk result (λ k. k ≡ spanned span (chain (map (grown_tree spans sample.now) items.now) (grown_tree spans sample.now tail.now))) }
-    ensures refused { IfErr result (λ e. Refuses e (Fits (chain (map (grown_tree spans sample.now) items.now) (grown_tree spans sample.now tail.now)))) }
+    ensures tree { IfOk result (λ k. k ≡ spanned span (chain (map (grown_tree growth.now.spans growth.now.sample.now) items.now) (grown_tree growth.now.spans growth.now.sample.now tail.now))) }
+    ensures refused { IfErr result (λ e. Refuses e (Fits (chain (map (grown_tree growth.now.spans growth.now.sample.now) items.now) (grown_tree growth.now.spans growth.now.sample.now tail.now)))) }
 {
-    let end = from_end(alloc, spans, sample, tail)?;
-    let rest = data_before(alloc, spans, sample, &items[1..], end)?;
-    let first = from_datum(alloc, spans, sample, &items[0])?;
-    first.before(alloc, span, rest)
+    let end = from_end(growth, tail)?;
+    let rest = data_before(growth, &items[1..], end)?;
+    let first = from_datum(growth, &items[0])?;
+    first.before(growth.alloc, span, rest)
 }
 
 /// The vector of these data, with this span.
 #[cycle(from_datum)]
-fn from_vector(
-    alloc: Global,
-    spans: Spans,
-    sample: &Sample,
-    span: Option<Span>,
-    items: &[Datum],
-) -> Result<Kept, BareStop>
-    ensures tree { IfOk result (λ k. k ≡ vector span (chain (map (grown_tree spans sample.now) items.now) nil)) }
-    ensures refused { IfErr result (λ e. Refuses e (Fits (chain (map (grown_tree spans sample.now) items.now) nil))) }
+fn from_vector(growth: &Growth, span: Option<Span>, items: &[Datum]) -> Result<Kept, BareStop>
+    ensures tree { IfOk result (λ k. k ≡ vector span (chain (map (grown_tree growth.now.spans growth.now.sample.now) items.now) nil)) }
+    ensures refused { IfErr result (λ e. Refuses e (Fits (chain (map (grown_tree growth.now.spans growth.now.sample.now) items.now) nil))) }
 {
-    let end = sample.end.share()?;
-    let list = data_before(alloc, spans, sample, items, end)?;
-    let kept = list.into_vector(alloc, span)?;
+    let end = growth.sample.end.share()?;
+    let list = data_before(growth, items, end)?;
+    let kept = list.into_vector(growth.alloc, span)?;
     Ok(kept)
 }
 
 /// What ends a list.
 #[cycle(from_datum)]
-fn from_end(alloc: Global, spans: Spans, sample: &Sample, tail: &Datum) -> Result<Kept, BareStop>
+fn from_end(growth: &Growth, tail: &Datum) -> Result<Kept, BareStop>
     requires { IsTrue (is_tail tail.now) }
-    ensures tree { IfOk result (λ k. k ≡ grown_tree spans sample.now tail.now) }
+    ensures tree { IfOk result (λ k. k ≡ grown_tree growth.now.spans growth.now.sample.now tail.now) }
     ensures rest { IfOk result (λ k. IsRest k) }
-    ensures refused { IfErr result (λ e. Refuses e (Fits (grown_tree spans sample.now tail.now))) }
+    ensures refused { IfErr result (λ e. Refuses e (Fits (grown_tree growth.now.spans growth.now.sample.now tail.now))) }
 {
     if tail.is_nil() {
-        let nil = sample.end.share()?;
+        let nil = growth.sample.end.share()?;
         return Ok(nil);
     }
-    from_datum(alloc, spans, sample, tail)
+    from_datum(growth, tail)
 }
 
 /// The trees of all of these before a rest.
 #[cycle(from_datum)]
-fn data_before(
-    alloc: Global,
-    spans: Spans,
-    sample: &Sample,
-    items: &[Datum],
-    rest: Kept,
-) -> Result<Kept, BareStop>
+fn data_before(growth: &Growth, items: &[Datum], rest: Kept) -> Result<Kept, BareStop>
     requires { IsRest rest }
-    ensures tree { IfOk result (λ k. k ≡ chain (map (grown_tree spans sample.now) items.now) rest) }
+    ensures tree { IfOk result (λ k. k ≡ chain (map (grown_tree growth.now.spans growth.now.sample.now) items.now) rest) }
     ensures rest { IfOk result (λ k. IsRest k) }
-    ensures refused { IfErr result (λ e. Refuses e (Fits (chain (map (grown_tree spans sample.now) items.now) rest))) }
+    ensures refused { IfErr result (λ e. Refuses e (Fits (chain (map (grown_tree growth.now.spans growth.now.sample.now) items.now) rest))) }
 {
     let mut list = rest;
     let mut at = items.len();
     while 0 < at {
         at -= 1;
-        let tree = from_datum(alloc, spans, sample, &items[at])?;
-        match tree.before(alloc, None, list) {
+        let tree = from_datum(growth, &items[at])?;
+        match tree.before(growth.alloc, None, list) {
             Ok(longer) => list = longer,
             Err(stop) => return Err(stop),
         }

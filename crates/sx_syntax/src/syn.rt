@@ -15,7 +15,7 @@ ghost use Rattle.sx_syntax.specs.Refuses.{Refuses};
 
 use crate::base::{Base, LeafStamps};
 use crate::kept::{Kept, Node, Shape};
-use crate::leaves::{Sample, Spans, from_datum};
+use crate::leaves::{Growth, Sample, Spans, from_datum};
 use crate::pairs::empty_list;
 use crate::wrap::Wrap;
 use std::alloc::Global;
@@ -101,7 +101,12 @@ fn pair_of(alloc: Global, first: &Kept, rest: &Kept, wrap: &Wrap) -> Result<Open
 fn grown(alloc: Global, spans: Spans, sample: &Sample, datum: &Datum) -> Result<Syn, BareStop>
     ensures { BareGives (λ t. t) result (within (grown_tree spans sample.now datum.now)) }
 {
-    let kept = from_datum(alloc, spans, sample, datum)?;
+    let growth = Growth {
+        alloc,
+        spans,
+        sample,
+    };
+    let kept = from_datum(&growth, datum)?;
     kept.within();
     Ok(Syn { kept })
 }

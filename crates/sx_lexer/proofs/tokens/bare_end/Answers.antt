@@ -9,12 +9,12 @@ loop-to-init c = record { forward = omega arith; fits = refl; same = (suc (lengt
 
 pub returns-then-to-here-clause-gives : goal.returns-then-to-here-clause-gives
 returns-then-to-here-clause-gives c =
-    stays (bare_step c.args.file.now c.args.bad c.args.from) c.loop-to.rest.now c.loop-to.here _ (rw c.if-to-here.true at c.in_ok-to.ensures.gives) c.loop-to.invariant.same
+    stays (bare_step c.args.context.now.file.now c.args.context.now.bad c.args.context.now.from) c.loop-to.rest.now c.loop-to.here _ (rw c.if-to-here.true at c.in_ok-to.ensures.gives) c.loop-to.invariant.same
 
 pub returns-in_err-to-clause-gives : goal.returns-in_err-to-clause-gives
 returns-in_err-to-clause-gives c =
     let p = err_from_is_err_and c.from_residual.result c.from_residual.ensures.1 in
-    rw (p.1, p.2) (halts (bare_step c.args.file.now c.args.bad c.args.from) c.loop-to.rest.now c.loop-to.here _ _ c.in_err-to.ensures.gives c.loop-to.invariant.same)
+    rw (p.1, p.2) (halts (bare_step c.args.context.now.file.now c.args.context.now.bad c.args.context.now.from) c.loop-to.rest.now c.loop-to.here _ _ c.in_err-to.ensures.gives c.loop-to.invariant.same)
 
 pub loop-to-preserved : goal.loop-to-preserved
 loop-to-preserved c =
@@ -24,6 +24,6 @@ loop-to-preserved c =
     record {
       forward = omega (arith, at_least);
       fits = omega (arith, c.split_at.ensures.back_len, at_least, at_most);
-      same = turn (bare_step c.args.file.now c.args.bad c.args.from) c.loop-to.rest.now _ c.loop-to.here c.in_ok-to.to _ forward at_most
+      same = turn (bare_step c.args.context.now.file.now c.args.context.now.bad c.args.context.now.from) c.loop-to.rest.now _ c.loop-to.here c.in_ok-to.to _ forward at_most
           c.in_ok-to.ensures.gives c.split_at.ensures.back c.loop-to.invariant.same;
     }

@@ -7,7 +7,7 @@ abbrev pub invariant-loop-to : goal.invariant-loop-to
 invariant-loop-to l = record {
   forward : l.at ≤ l.here;
   fits : l.here + length l.rest ≡ l.at + length l.bytes;
-  same : GoesOn (bare_step l.file l.bad l.from) l.rest l.here (bare_end l.file l.bad l.from l.bytes l.at);
+  same : GoesOn (bare_step l.context.file.now l.context.bad l.context.from) l.rest l.here (bare_end l.context.file.now l.context.bad l.context.from l.bytes l.at);
 }
 
 abbrev pub decreases-loop-to : goal.decreases-loop-to

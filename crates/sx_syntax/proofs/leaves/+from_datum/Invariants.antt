@@ -24,7 +24,7 @@ decreases-data_before l = 3 * datum_size (datum.chain l.items.now nil) - 2
 abbrev pub invariant-data_before-loop-at : goal.invariant-data_before-loop-at
 invariant-data_before-loop-at l = record {
   within : l.at ≤ length l.items;
-  list : l.list ≡ chain (map (grown_tree l.spans l.sample) (drop l.at l.items)) l.fn.rest;
+  list : l.list ≡ chain (map (grown_tree l.growth.spans l.growth.sample.now) (drop l.at l.items)) l.fn.rest;
   rest : IsRest l.list;
 }
 
