@@ -1,7 +1,6 @@
 use std::alloc::Global;
 use sx_base::fault::BareStop;
 use sx_base::memory::Memory;
-use sx_base::op::Op;
 use sx_ops::basics::basics;
 use sx_ops::characters::characters;
 use sx_ops::data::{data, trees};
@@ -13,16 +12,14 @@ use sx_ops::raised::raising;
 use sx_ops::strings::{number_strings, string_comparisons, strings};
 use sx_ops::syntax::{identifiers, temporaries};
 use sx_prims::made::Made;
+use sx_prims::prim_call::PrimCall;
 use sx_prims::rows::{
     APPENDED, BASICS, CHARACTERS, DATA, EQUALITY, GATHERED, IDENTIFIERS, INDEXED, LISTS,
     NUMBER_STRINGS, NUMBERS, PARTS, RAISING, STRING_COMPARISONS, STRINGS, TEMPORARIES, TREES,
     UNPACKED,
 };
 use sx_prims::table::{PrimRow, PrimTable};
-use sx_region::region::Region;
 use sx_scope::scope::Frames;
-use sx_value::cell::Cell;
-use sx_value::value::Value;
 
 fn first_rows(alloc: Global, rows: &mut Vec<PrimRow>) -> Result<(), Memory> {
     rows.push(PrimRow::new(BASICS, Box::new(alloc, basics)?))?;
@@ -70,13 +67,7 @@ pub fn full_table(alloc: Global) -> Result<Option<PrimTable>, Memory> {
 }
 
 /// A call, of whose answer nothing is promised here: its definition would be carried along.
-pub fn called(
-    alloc: Global,
-    table: &PrimTable,
-    op: Op,
-    args: &[Value],
-    cells: &Region<Cell>,
-) -> Result<Made, BareStop> {
+pub fn called(alloc: Global, table: &PrimTable, call: &PrimCall) -> Result<Made, BareStop> {
     let frames = Frames::new(alloc);
-    table.call(alloc, op, args, cells, &frames)
+    table.call(alloc, call, &frames)
 }

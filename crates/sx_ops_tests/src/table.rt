@@ -7,6 +7,7 @@ use sx_base::fault::BareStop;
 use sx_base::memory::Memory;
 use sx_base::op::{Op, names};
 use sx_prims::made::Made;
+use sx_prims::prim_call::PrimCall;
 use sx_prims::table::PrimTable;
 use sx_region::region::Region;
 use sx_value::cell::Cell;
@@ -124,7 +125,12 @@ fn price_of(alloc: Global, table: &PrimTable, price: Price) -> Result<u64, Memor
     }
     let args = ones(alloc, price.count)?;
     let cells: Region<Cell> = Region::new(alloc);
-    table.cost(alloc, Op(price.op), &args, &cells, price.limit)
+    let call = PrimCall {
+        op: Op(price.op),
+        args: &args,
+        cells: &cells,
+    };
+    table.cost(alloc, &call, price.limit)
 }
 
 fn check_prices(
@@ -221,7 +227,12 @@ fn tail_arguments(alloc: Global, tail: Tail) -> Result<Vec<Value>, Memory> {
 fn tail_cost(alloc: Global, table: &PrimTable, tail: Tail) -> Result<u64, Memory> {
     let args = tail_arguments(alloc, tail)?;
     let cells: Region<Cell> = Region::new(alloc);
-    table.cost(alloc, Op(tail.op), &args, &cells, 1_000_000_000)
+    let call = PrimCall {
+        op: Op(tail.op),
+        args: &args,
+        cells: &cells,
+    };
+    table.cost(alloc, &call, 1_000_000_000)
 }
 
 fn is_refused(outcome: &Result<Made, BareStop>) -> bool {
@@ -235,7 +246,12 @@ fn is_refused(outcome: &Result<Made, BareStop>) -> bool {
 fn tail_is_refused(alloc: Global, table: &PrimTable, tail: Tail) -> Result<bool, Memory> {
     let args = tail_arguments(alloc, tail)?;
     let cells: Region<Cell> = Region::new(alloc);
-    let outcome = called(alloc, table, Op(tail.op), &args, &cells);
+    let call = PrimCall {
+        op: Op(tail.op),
+        args: &args,
+        cells: &cells,
+    };
+    let outcome = called(alloc, table, &call);
     Ok(is_refused(&outcome))
 }
 
