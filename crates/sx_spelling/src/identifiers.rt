@@ -29,6 +29,18 @@ pub fn identifier_of(alloc: Global, text: &[u8]) -> Result<Option<Symbol>, Memor
     }
 }
 
+/// The text, where it is an identifier that is its own text: ASCII without escapes.
+pub fn plain_identifier(text: &[u8]) -> Option<&str>
+    ensures { IfSome result (λ s. identifier text.now ≡ Some s.now) }
+{
+    let class = if is_peculiar(text) {
+        Class::Subsequent
+    } else {
+        Class::Initial
+    };
+    plain_name(class, text)
+}
+
 fn name(alloc: Global, class: Class, text: &[u8]) -> Result<Option<Symbol>, Memory>
     ensures { IfOk result (λ s. s ≡ name class text.now) }
 {
