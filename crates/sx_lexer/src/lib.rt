@@ -23,6 +23,7 @@ mod characters;
 mod faults;
 mod gap;
 pub mod laws;
+pub mod names;
 pub mod start;
 mod strings;
 mod text;

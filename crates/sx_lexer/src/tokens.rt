@@ -2,28 +2,31 @@
 
 ghost use Rattle.std.specs.Prelude.{◌≡◌, ◌+◌, ◌-◌, ◌<◌, ◌≤◌, ◌^◌, length, take, drop, IfOk, IfSome, slice_index, true};
 ghost use Rattle.sx_base.specs.Gives.{Gives};
+ghost use Rattle.sx_spelling.specs.Identifiers.{identifier};
 ghost use Rattle.sx_spelling.specs.Source.{characters};
 ghost use Rattle.sx_lexer.specs.Tokens.{next_lexeme, lexeme_at, hash_at, word_at, marked_at, integer_in, radix, is_number_mark, unquoting, bare_at, bare_to, bare, bare_end, bare_step, char_end, no_identifier, number_of, begins_number, is_dot, is_true, is_false, lexeme};
 
 use crate::characters::character_at;
 use crate::faults::refuse;
 use crate::gap::gap_end;
+use crate::names::Names;
 use crate::strings::string_at;
 use crate::text::Text;
 use crate::token::{Abbreviation, Bracket, Lexeme, Token};
 use std::alloc::Global;
 use sx_base::atom::Atom;
 use sx_base::fault::{FaultKind, Stop};
+use sx_base::memory::Memory;
 use sx_base::symbol::Symbol;
 use sx_spelling::escapes::escape;
-use sx_spelling::identifiers::identifier_of;
+use sx_spelling::identifiers::{identifier_of, plain_identifier};
 use sx_spelling::numbers::{integer_of, is_integer, spelt};
 use sx_spelling::source::{behind, byte_at, front};
 use sx_spelling::whitespace::{is_delimited, run_end, runs_on};
 
 /// The lexeme behind the gap at `at`, or none where the source ends there.
 pub fn next_lexeme(
-    alloc: Global,
+    names: &mut Names,
     file: &Symbol,
     bytes: &[u8],
     at: u32,
@@ -34,16 +37,16 @@ pub fn next_lexeme(
     ensures forward { IfOk result (λ found. IfSome found (λ l. (at ≤ l.from) × (l.from < l.to) × (l.to ≤ length bytes.now))) }
 {
     let (_, rest) = bytes.split_at(at as usize);
-    let from = gap_end(alloc, file, rest, at)?;
+    let from = gap_end(names.alloc(), file, rest, at)?;
     let (_, rest) = bytes.split_at(from as usize);
     if rest.is_empty() {
         return Ok(None);
     }
-    let lexeme = lexeme_at(alloc, file, rest, from)?;
+    let lexeme = lexeme_at(names, file, rest, from)?;
     Ok(Some(lexeme))
 }
 
-fn lexeme_at(alloc: Global, file: &Symbol, bytes: &[u8], from: u32) -> Result<Lexeme, Stop>
+fn lexeme_at(names: &mut Names, file: &Symbol, bytes: &[u8], from: u32) -> Result<Lexeme, Stop>
     requires some { 0 < length bytes.now }
     requires fits { from + length bytes.now < 2 ^ 32 }
     ensures gives { Gives (λ x. x) result (lexeme_at file.now bytes.now from) }
@@ -67,9 +70,9 @@ fn lexeme_at(alloc: Global, file: &Symbol, bytes: &[u8], from: u32) -> Result<Le
             Abbreviation::Unquote,
             Abbreviation::UnquoteSplicing,
         )),
-        b'"' => string_at(alloc, file, bytes, from),
-        b'#' => hash_at(alloc, file, bytes, from),
-        _ => bare_at(alloc, file, bytes, from),
+        b'"' => string_at(names.alloc(), file, bytes, from),
+        b'#' => hash_at(names.alloc(), file, bytes, from),
+        _ => bare_at(names, file, bytes, from),
     }
 }
 
@@ -229,12 +232,13 @@ fn integer_in(alloc: Global, file: &Symbol, base: u8, text: &Text) -> Result<Tok
 }
 
 /// A token that runs up to a delimiter.
-fn bare_at(alloc: Global, file: &Symbol, bytes: &[u8], from: u32) -> Result<Lexeme, Stop>
+fn bare_at(names: &mut Names, file: &Symbol, bytes: &[u8], from: u32) -> Result<Lexeme, Stop>
     requires some { 0 < length bytes.now }
     requires fits { from + length bytes.now < 2 ^ 32 }
     ensures gives { Gives (λ x. x) result (bare_at file.now bytes.now from) }
     ensures forward { IfOk result (λ l. (l.from ≡ from) × (from < l.to) × (l.to ≤ from + length bytes.now)) }
 {
+    let alloc = names.alloc();
     let context = BareContext {
         alloc,
         file,
@@ -251,7 +255,7 @@ fn bare_at(alloc: Global, file: &Symbol, bytes: &[u8], from: u32) -> Result<Lexe
         from,
         to,
     };
-    let token = bare(alloc, file, &text)?;
+    let token = bare(names, file, &text)?;
     Ok(lexeme(token, from, to))
 }
 
@@ -319,15 +323,28 @@ fn char_end(bytes: &[u8], at: u32) -> u32
 }
 
 /// The token that a bare text spells.
-fn bare(alloc: Global, file: &Symbol, text: &Text) -> Result<Token, Stop>
+fn bare(names: &mut Names, file: &Symbol, text: &Text) -> Result<Token, Stop>
     ensures { Gives (λ x. x) result (bare file.now text.now.bytes.now text.now.from text.now.to) }
 {
     if is_dot(text.bytes) {
         return Ok(Token::Dot);
     }
-    match identifier_of(alloc, text.bytes)? {
+    match identifier_in(names, text.bytes)? {
         Some(name) => Ok(Token::Symbol(name)),
-        None => no_identifier(alloc, file, text),
+        None => no_identifier(names.alloc(), file, text),
+    }
+}
+
+/// The identifier that the text spells, if it spells one, with the text that the first one of its name had.
+fn identifier_in(names: &mut Names, text: &[u8]) -> Result<Option<Symbol>, Memory>
+    ensures { IfOk result (λ s. s ≡ identifier text.now) }
+{
+    if let Some(plain) = plain_identifier(text) {
+        return Ok(Some(names.named(plain)?));
+    }
+    match identifier_of(names.alloc(), text)? {
+        Some(name) => Ok(Some(names.shared(name)?)),
+        None => Ok(None),
     }
 }
 

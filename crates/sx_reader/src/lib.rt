@@ -11,5 +11,4 @@
 //! This is where bytes become data; all further crates speak of data.
 #![tactic(auto)]
 
-mod names;
 pub mod read;

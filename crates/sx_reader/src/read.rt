@@ -8,11 +8,11 @@ ghost use Rattle.sx_reader.specs.FirstFault.{OnFault, IsFaultOf};
 ghost use Rattle.sx_reader.specs.Read.{data_of, file_nesting, most_nesting};
 ghost use Rattle.sx_reader.specs.Spells.{Spells};
 
-use crate::names::Names;
 use std::alloc::Global;
 use sx_base::datum::Datum;
 use sx_base::fault::Stop;
 use sx_base::symbol::Symbol;
+use sx_lexer::names::Names;
 use sx_lexer::start::start_of;
 use sx_lexer::tokens::next_lexeme;
 use sx_machine::context::SourceContext;
@@ -95,11 +95,10 @@ fn read_sharing(
     let mut state = State::new(context.alloc);
     let mut at = start_of(context.alloc, context.file, bytes)?;
     loop {
-        let Some(lexeme) = next_lexeme(context.alloc, context.file, bytes, at)? else {
+        let Some(lexeme) = next_lexeme(names, context.file, bytes, at)? else {
             return finish(context, state);
         };
         at = lexeme.to;
-        let shared = names.with_shared(lexeme)?;
-        state = step(context, state, shared)?;
+        state = step(context, state, lexeme)?;
     }
 }

@@ -1,11 +1,11 @@
 //! Identifiers (R6RS 4.2.4).
 
-ghost use Rattle.std.specs.Prelude.{◌≡◌, ◌<◌, ◌≤◌, length, IfOk, IfSome};
+ghost use Rattle.std.specs.Prelude.{◌≡◌, ◌<◌, ◌≤◌, length, Some, IfOk, IfSome};
 ghost use Rattle.std.specs.String.{string_bytes};
 ghost use Rattle.sx_spelling.specs.Identifiers.{is_ascii_letter, is_special_initial, is_initial_category, is_later_category, is_initial, is_special_subsequent, is_later, is_of, char_letter, letter_here, name, is_peculiar, identifier};
 
 use crate::escapes::{Letter, escape};
-use crate::source::{byte_at, front};
+use crate::source::{behind, byte_at, front};
 use std::alloc::Global;
 use sx_base::memory::Memory;
 use sx_base::symbol::Symbol;
@@ -29,7 +29,52 @@ pub fn identifier_of(alloc: Global, text: &[u8]) -> Result<Option<Symbol>, Memor
     }
 }
 
+/// The text, where it is an identifier that is its own text: ASCII without escapes.
+pub fn plain_identifier(text: &[u8]) -> Option<&str>
+    ensures { IfSome result (λ s. identifier text.now ≡ Some s.now) }
+{
+    let class = if is_peculiar(text) {
+        Class::Subsequent
+    } else {
+        Class::Initial
+    };
+    plain_name(class, text)
+}
+
 fn name(alloc: Global, class: Class, text: &[u8]) -> Result<Option<Symbol>, Memory>
+    ensures { IfOk result (λ s. s ≡ name class text.now) }
+{
+    match plain_name(class, text) {
+        Some(plain) => Ok(Some(Symbol::new(alloc, plain)?)),
+        None => spelt_name(alloc, class, text),
+    }
+}
+
+/// The text, where it is a name of ASCII characters without escapes: such a name is its own text.
+fn plain_name(class: Class, text: &[u8]) -> Option<&str>
+    ensures { IfSome result (λ s. name class text.now ≡ Some s.now) }
+{
+    let mut at = 0;
+    let mut class = class;
+    while at < text.len() {
+        let rest = behind(text, at);
+        let Some(letter) = letter_here(class, rest) else {
+            return None;
+        };
+        if letter.size != 1 || letter.char as u32 >= 0x80 || letter.char as u32 != text[at] as u32 {
+            return None;
+        }
+        at += 1;
+        class = Class::Subsequent;
+    }
+    match str::from_utf8(text) {
+        Ok(plain) => Some(plain),
+        Err(_) => None,
+    }
+}
+
+/// The name that a text spells, letter by letter.
+fn spelt_name(alloc: Global, class: Class, text: &[u8]) -> Result<Option<Symbol>, Memory>
     ensures { IfOk result (λ s. s ≡ name class text.now) }
 {
     let mut name = String::new(alloc);

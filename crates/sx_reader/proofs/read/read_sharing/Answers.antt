@@ -52,10 +52,10 @@ returns-in_err-state c =
     let so = c.loop-state.invariant in
     rw (p.1, p.2) (record {
       gives = passes_on c.in_err-state.field-0.0 _ _
-          (λ f e. sticks c.args.context.now.file.now c.args.context.now.nesting _ _ c.loop-state.state c.loop-state.at _ so.inside c.in-Some.lexeme f found.gives e so.comes) (rw c.in_ok-shared.ensures at c.in_err-state.ensures);
+          (λ f e. sticks c.args.context.now.file.now c.args.context.now.nesting _ _ c.loop-state.state c.loop-state.at _ so.inside c.in-Some.lexeme f found.gives e so.comes) c.in_err-state.ensures;
       spelled = tt;
       refused = on_fault c.in_err-state.field-0.0 _ _
-          (λ f e. refused_token c.args.context.now.file.now c.args.bytes.now c.args.context.now.nesting c.in_ok-at.at c.loop-state.at c.loop-state.state so.begins so.taken c.in-Some.lexeme f found.gives e) (rw c.in_ok-shared.ensures at c.in_err-state.ensures);
+          (λ f e. refused_token c.args.context.now.file.now c.args.bytes.now c.args.context.now.nesting c.in_ok-at.at c.loop-state.at c.loop-state.state so.begins so.taken c.in-Some.lexeme f found.gives e) c.in_err-state.ensures;
     })
 
 pub loop-state-preserved : goal.loop-state-preserved
@@ -66,6 +66,6 @@ loop-state-preserved c =
     record {
       inside = found.forward.2;
       begins = so.begins;
-      taken = taken_on c.args.context.now.file.now c.args.context.now.nesting c.in_ok-state.state c.in-Some.lexeme so.taken found.gives (rw c.in_ok-shared.ensures at c.in_ok-state.ensures);
-      comes = turn c.args.context.now.file.now c.args.context.now.nesting _ _ c.loop-state.state c.loop-state.at _ so.inside c.in-Some.lexeme c.in_ok-state.state found.gives (rw c.in_ok-shared.ensures at c.in_ok-state.ensures) goes_on so.comes;
+      taken = taken_on c.args.context.now.file.now c.args.context.now.nesting c.in_ok-state.state c.in-Some.lexeme so.taken found.gives c.in_ok-state.ensures;
+      comes = turn c.args.context.now.file.now c.args.context.now.nesting _ _ c.loop-state.state c.loop-state.at _ so.inside c.in-Some.lexeme c.in_ok-state.state found.gives c.in_ok-state.ensures goes_on so.comes;
     }

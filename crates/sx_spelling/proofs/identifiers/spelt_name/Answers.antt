@@ -1,7 +1,7 @@
 use Rattle.std.proofs.Common.{◌≡◌, ◌<◌, length, Some, arith, sym, ap, ◌∙◌}
 use Rattle.std.proofs.lemmas.Bool.Decides.{nat_tests}
 use Rattle.sx_spelling.proofs.NameTurns.{name_turn, name_none, name_done}
-use Rattle.sx_spelling.proofs.identifiers.name.Goals as goal
+use Rattle.sx_spelling.proofs.identifiers.spelt_name.Goals as goal
 
 pub returns-in_default : goal.returns-in_default
 returns-in_default c =

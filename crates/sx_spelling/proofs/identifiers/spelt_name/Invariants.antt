@@ -2,7 +2,7 @@ use Rattle.std.proofs.Common.{length}
 use Rattle.std.specs.String.{string_bytes}
 use Rattle.sx_spelling.specs.Identifiers.{name}
 use Rattle.sx_spelling.proofs.NameTurns.{NameGoesOn}
-use Rattle.sx_spelling.proofs.identifiers.name.Given as goal
+use Rattle.sx_spelling.proofs.identifiers.spelt_name.Given as goal
 
 abbrev pub invariant-loop-rest : goal.invariant-loop-rest
 invariant-loop-rest l = NameGoesOn l.class (string_bytes l.name) l.rest (name l.fn.class l.text)
