@@ -1,6 +1,6 @@
 //! Lists of labels, each once.
 
-ghost use Rattle.std.specs.Prelude.{◌≡◌, [], IfOk, OnOk};
+ghost use Rattle.std.specs.Prelude.{◌≡◌, ◌++◌, [], IfOk, OnOk};
 ghost use Rattle.sx_core.specs.Labels.{has_label, with_label, with_labels, without};
 
 use indexmap::IndexSet;
@@ -9,19 +9,44 @@ use std::marker::Model;
 use sx_base::memory::Memory;
 use sx_base::name::Label;
 
+/// So many labels are looked through one by one. Most lists have one or two, for which a table would take more memory
+/// than they do.
+const FEW: usize = 8;
+
 /// Labels, each once, in the order of coming.
 #[derive(Drop)]
 pub struct Labels {
-    set: IndexSet<Label>,
+    first: Vec<Label>,
+    later: IndexSet<Label>,
 }
 
 impl Model for Labels {
-    ghost use Rattle.std.specs.Prelude.{List};
+    ghost use Rattle.std.specs.Prelude.{List, ◌++◌};
     ghost use Rattle.sx_base.specs.declared.name.Label.{Label};
 
     ghost Value = { List Label };
 
-    ghost view = { λ l. l.set.keys };
+    ghost view = { λ l. l.first.items ++ l.later.keys };
+}
+
+/// Whether the label is one of these, which are looked through one by one.
+fn is_among(labels: &[Label], label: &Label) -> bool
+    ensures { result ≡ has_label labels.now label.now }
+{
+    labels.contains(label)
+}
+
+/// Puts at the end of a list those labels that aren't among the others.
+fn put_without(left: &mut Vec<Label>, labels: &[Label], others: &Labels) -> Result<(), Memory>
+    ensures { OnOk result (left.new.items ≡ left.old.items ++ without others.now labels.now) }
+{
+    for label in labels {
+        if !others.has(label) {
+            let label = label.share()?;
+            left.push(label)?;
+        }
+    }
+    Ok(())
 }
 
 impl Labels {
@@ -30,7 +55,8 @@ impl Labels {
         ensures { result ≡ [] }
     {
         Labels {
-            set: IndexSet::new(alloc),
+            first: Vec::new(alloc),
+            later: IndexSet::new(alloc),
         }
     }
 
@@ -38,18 +64,23 @@ impl Labels {
     pub fn has(&self, label: &Label) -> bool
         ensures { result ≡ has_label self.now label.now }
     {
-        self.set.contains(label)
+        is_among(&self.first, label) || self.later.contains(label)
     }
 
     /// Puts the label at the end, where it isn't there.
     pub fn add(&mut self, label: &Label) -> Result<(), Memory>
         ensures { OnOk result (self.new ≡ with_label self.old label.now) }
     {
-        let label = label.share()?;
-        match self.set.insert(label) {
-            Ok(_) => Ok(()),
-            Err(_) => Err(Memory),
+        if is_among(&self.first, label) {
+            return Ok(());
         }
+        let label = label.share()?;
+        if self.first.len() < FEW && self.later.is_empty() {
+            self.first.push(label)?;
+            return Ok(());
+        }
+        self.later.insert(label)?;
+        Ok(())
     }
 
     /// Puts each of the labels at the end, where it isn't there.
@@ -63,16 +94,13 @@ impl Labels {
     }
 
     /// The labels that aren't among these.
+    #[tactic(auto, using(crate::proofs::MemberLemmas::without_joined))]
     pub fn without(&self, alloc: Global, others: &Labels) -> Result<Vec<Label>, Memory>
         ensures { IfOk result (λ ls. ls.items ≡ without others.now self.now) }
     {
         let mut left = Vec::new(alloc);
-        for label in self.set.as_slice() {
-            if !others.has(label) {
-                let label = label.share()?;
-                left.push(label)?;
-            }
-        }
+        put_without(&mut left, &self.first, others)?;
+        put_without(&mut left, self.later.as_slice(), others)?;
         Ok(left)
     }
 }

@@ -1,9 +1,9 @@
 //! The rows of one frame, indexed by symbol and marks.
 
-ghost use Rattle.std.specs.Option.{option_copied, option_map};
-ghost use Rattle.std.specs.Prelude.{◌≡◌, List, [], length, slice_get, Err, IfOk, OnErr};
+ghost use Rattle.std.specs.Option.{option_copied};
+ghost use Rattle.std.specs.Prelude.{◌≡◌, List, [], ◌∷◌, ◌++◌, length, Err, IfOk, OnOk, OnErr};
 ghost use Rattle.sx_base.specs.Gives.{BareGives, BareStops};
-ghost use Rattle.sx_frames.specs.Rows.{Row, label_in, row_of, put_row, second_binder};
+ghost use Rattle.sx_frames.specs.Rows.{Row, label_in, row_of, rows_of, put_row, second_binder};
 ghost use Rattle.sx_frames.specs.Listed.{row_from, rows_from};
 
 use crate::key::Key;
@@ -17,14 +17,19 @@ use sx_base::name::{FrameNo, Label};
 use sx_base::symbol::Symbol;
 use sx_tree::frame_row::FrameRow;
 
+/// So many rows are looked through one by one. Most frames have one, for which an index would take more memory than it
+/// does.
+const FEW: usize = 4;
+
 /// The rows of one frame, seen as a list in the order of binding.
 #[derive(Drop)]
 pub struct Table {
-    rows: IndexMap<Key, Label>,
+    first: Vec<(Key, Label)>,
+    later: IndexMap<Key, Label>,
 }
 
 impl Model for Table {
-    ghost use Rattle.std.specs.Prelude.{List};
+    ghost use Rattle.std.specs.Prelude.{List, ◌++◌};
     ghost use Rattle.std.specs.Coded.{coded_list};
     ghost use Rattle.sx_frames.specs.Rows.{Row, row_code, rows_of};
 
@@ -32,7 +37,7 @@ impl Model for Table {
 
     ghost coded = { coded_list row_code };
 
-    ghost view = { λ t. rows_of t.rows.entries };
+    ghost view = { λ t. rows_of (t.first.items ++ t.later.entries) };
 }
 
 /// The fault of a binder that is there already.
@@ -49,13 +54,79 @@ fn duplicate(alloc: Global, symbol: Symbol) -> BareStop
     }
 }
 
+/// The label of the first row with this key, which is looked for row by row.
+fn find_among<'a>(rows: &'a [(Key, Label)], key: &Key) -> Option<&'a Label>
+    ensures { option_copied result ≡ label_in (rows_of rows.now) key.now.symbol key.now.marks }
+{
+    for row in rows {
+        if *key == row.0 {
+            return Some(&row.1);
+        }
+    }
+    None
+}
+
+/// Puts a row at the end of a list. A refusal changes nothing. Most frames have one row, for which a list that grows
+/// by itself would keep room for four.
+fn push_row(rows: &mut Vec<(Key, Label)>, key: Key, label: Label) -> Result<(), Memory>
+    ensures ok { OnOk result (rows.new.items ≡ rows.old.items ++ (key, label) ∷ []) }
+    ensures err { OnErr result (rows.new.items ≡ rows.old.items) }
+{
+    if rows.is_empty() {
+        rows.reserve_exact(1)?;
+    }
+    rows.push((key, label))?;
+    Ok(())
+}
+
+fn copy(alloc: Global, frame: &FrameNo, key: &Key, label: &Label) -> Result<FrameRow, Memory>
+    ensures { IfOk result (λ r. r ≡ row_from frame.now (row_of (key.now, label.now))) }
+{
+    let frame = frame.share()?;
+    let symbol = key.symbol.share()?;
+    let marks = key.marks.share(alloc)?;
+    let label = label.share()?;
+    Ok(FrameRow {
+        frame,
+        symbol,
+        marks,
+        label,
+    })
+}
+
+/// Puts copies of rows at the end of a list.
+fn put_first(list: &mut Vec<FrameRow>, alloc: Global, frame: &FrameNo, rows: &[(Key, Label)]) -> Result<(), Memory>
+    ensures { OnOk result (list.new.items ≡ list.old.items ++ rows_from frame.now (rows_of rows.now)) }
+{
+    for row in rows {
+        let row = copy(alloc, frame, &row.0, &row.1)?;
+        list.push(row)?;
+    }
+    Ok(())
+}
+
+/// Puts copies of rows at the end of a list.
+fn put_later(list: &mut Vec<FrameRow>, alloc: Global, frame: &FrameNo, rows: &IndexMap<Key, Label>) -> Result<(), Memory>
+    ensures { OnOk result (list.new.items ≡ list.old.items ++ rows_from frame.now (rows_of rows.now.entries)) }
+{
+    for i in 0..rows.len() {
+        let Some((key, label)) = rows.get_index(i) else {
+            return Err(Memory);
+        };
+        let row = copy(alloc, frame, key, label)?;
+        list.push(row)?;
+    }
+    Ok(())
+}
+
 impl Table {
     /// No rows. It takes no memory.
     pub fn new(alloc: Global) -> Table
         ensures { result ≡ [] }
     {
         Table {
-            rows: IndexMap::new(alloc),
+            first: Vec::new(alloc),
+            later: IndexMap::new(alloc),
         }
     }
 
@@ -63,22 +134,16 @@ impl Table {
     pub fn size(&self) -> usize
         ensures { result ≡ length self.now }
     {
-        self.rows.len()
+        self.first.len() + self.later.len()
     }
 
     /// The label of the row with this symbol and these marks. It takes no memory.
     pub fn find(&self, key: &Key) -> Option<&Label>
         ensures { option_copied result ≡ label_in self.now key.now.symbol key.now.marks }
     {
-        self.rows.get(key)
-    }
-
-    /// Gives back the room for others behind a first row. Most frames have no other, and a table would keep room for nine.
-    fn tighten(&mut self)
-        ensures { self.new ≡ self.old }
-    {
-        if self.rows.len() == 1 {
-            self.rows.shrink_to_fit();
+        match find_among(&self.first, key) {
+            Some(label) => Some(label),
+            None => self.later.get(key),
         }
     }
 
@@ -91,31 +156,16 @@ impl Table {
         if self.find(&key).is_some() {
             return Err(duplicate(alloc, key.symbol));
         }
-        match self.rows.insert(key, label) {
-            Ok(_) => {
-                self.tighten();
-                Ok(())
-            }
+        if self.first.len() < FEW && self.later.is_empty() {
+            return match push_row(&mut self.first, key, label) {
+                Ok(()) => Ok(()),
+                Err(_) => Err(BareStop::Memory),
+            };
+        }
+        match self.later.insert(key, label) {
+            Ok(_) => Ok(()),
             Err(_) => Err(BareStop::Memory),
         }
-    }
-
-    fn copy_at(&self, alloc: Global, frame: &FrameNo, i: usize) -> Result<Option<FrameRow>, Memory>
-        ensures { IfOk result (λ o. o ≡ option_map (row_from frame.now) (slice_get self.now i)) }
-    {
-        let Some((key, label)) = self.rows.get_index(i) else {
-            return Ok(None);
-        };
-        let frame = frame.share()?;
-        let symbol = key.symbol.share()?;
-        let marks = key.marks.share(alloc)?;
-        let label = label.share()?;
-        Ok(Some(FrameRow {
-            frame,
-            symbol,
-            marks,
-            label,
-        }))
     }
 
     /// The rows, with their frame.
@@ -123,12 +173,8 @@ impl Table {
         ensures { IfOk result (λ rs. rs ≡ rows_from frame.now self.now) }
     {
         let mut list = Vec::with_capacity(alloc, self.size())?;
-        for i in 0..self.size() {
-            let Some(row) = self.copy_at(alloc, frame, i)? else {
-                return Err(Memory);
-            };
-            list.push(row)?;
-        }
+        put_first(&mut list, alloc, frame, &self.first)?;
+        put_later(&mut list, alloc, frame, &self.later)?;
         Ok(Items::from_vec(list))
     }
 }

@@ -1,14 +1,17 @@
-use Rattle.std.proofs.Common.{sym, ap, ◌∙◌, ◌++◌, List, ◌<◌, arith, drop, length, ◌+◌}
+use Rattle.std.proofs.Common.{sym, ap, ◌∙◌, ◌++◌, List}
+use Rattle.sx_base.specs.declared.name.Label.{Label}
 use Rattle.sx_tree.specs.declared.frame_row.FrameRow.{FrameRow}
+use Rattle.sx_frames.specs.declared.key.Key.{Key}
+use Rattle.sx_frames.specs.Rows.{Row, rows_of}
 use Rattle.sx_frames.specs.Listed.{rows_from}
-use Rattle.sx_frames.proofs.ListedLemmas.{copied_more}
+use Rattle.sx_frames.proofs.TableLemmas.{rows_from-both}
 use Rattle.sx_frames.proofs.table.Table.copies.Goals as goal
 
-pub loop-i-preserved : goal.loop-i-preserved
-loop-i-preserved c =
+pub returns : goal.returns
+returns c =
     let f = c.args.frame.now in
-    let rs = c.args.self.now in
-    let i = c.loop-i.i in
-    let below : i < length rs = omega (arith, c.size-i-end.ensures) in
-    ap (λ (xs : List FrameRow). xs ++ rows_from f (drop (i + 1) rs)) c.in_ok-push.ensures.items
-    ∙ copied_more f rs i c.in-Some.row c.loop-i.list.items (rows_from f rs) below (sym c.in-Some.is ∙ c.in_ok-row.ensures) c.loop-i.invariant
+    let later = rows_from f (rows_of c.self.inside.later.entries) in
+    c.from_vec.ensures ∙ c.in_ok-put_later.ensures
+    ∙ ap (λ (rs : List FrameRow). rs ++ later) (c.in_ok-put_first.ensures ∙ ap (λ (rs : List FrameRow). rs ++ rows_from f (rows_of c.deref.result.now)) c.in_ok-list.ensures.items
+    ∙ ap (λ (es : List (Key × Label)). rows_from f (rows_of es)) c.deref.ensures.value)
+    ∙ sym (rows_from-both f c.self.inside.first.items c.self.inside.later.entries) ∙ ap (λ (rs : List Row). rows_from f rs) c.self.view_is
