@@ -8,7 +8,7 @@ ghost use Rattle.sx_frames.specs.Listed.{rows_in};
 ghost use Rattle.sx_frames.specs.Right.{sizes_before, same_sizes};
 ghost use Rattle.sx_frames.specs.Given.{flat};
 ghost use Rattle.sx_frames.specs.Needed.{needed_parts, AreApart};
-ghost use Rattle.sx_frames.specs.Scope.{has_frame, label_by, bound, adopted, are_new};
+ghost use Rattle.sx_frames.specs.Scope.{has_frame, label_at, label_by, bound, adopted, are_new};
 
 use crate::joined::JoinedFrames;
 use crate::key::Key;
@@ -194,6 +194,13 @@ impl KeptFrames {
         ensures { IfSome result (λ gs. OnlyOfLibrary self.now symbol.now library.now.value gs.now) }
     {
         self.frames.binders(symbol, library)
+    }
+
+    /// The label that the frame has for a symbol and marks. It takes no memory.
+    pub fn find(&self, frame: &FrameNo, key: &Key) -> Option<&Label>
+        ensures { option_copied result ≡ label_at self.now frame.now key.now.symbol key.now.marks }
+    {
+        self.frames.find(frame, key)
     }
 
     /// The label that the first stamp gives for which its frame has the symbol and the marks at

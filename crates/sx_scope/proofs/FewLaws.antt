@@ -1,6 +1,6 @@
 -- Where few frames of a library bind a symbol, its other frames find nothing.
 use Rattle.std.specs.Prelude.{◌≡◌, ℕ, Bool, true, false, cond, filter, List, [], ◌∷◌, Option, None, refl}
-use Rattle.std.proofs.Common.{sym, ◌∙◌, ap}
+use Rattle.std.proofs.Common.{sym, ◌∙◌, ap, subst}
 use Rattle.std.specs.List.{list_any}
 use Rattle.sx_base.specs.Same.{same_library, same_name}
 use Rattle.sx_base.specs.declared.library.LibName.{LibName}
@@ -29,7 +29,7 @@ few_find fs s l gs only (t ∷ ts) = by (same_library t.frame.0.library l) refl 
         (λ i. label_by fs s (cond (cond (e i) (k i) true) (t ∷ rest) rest)) ∙ h
         ∙ sym (ap (λ o. or_else o (label_by fs s ts)) (only.none t.frame t.marks e k))
 
-pub few_are_enough : (fs all : Scope) (s t : List ℕ) (k l : LibName) (gs : List FrameNo) (ts few : List Stamp) (o : Option Label) → fs ≡ all → t ≡ s → k ≡ l → OnlyOfLibrary fs s l gs
-    → few ≡ filter (is_for k gs) ts → o ≡ label_by fs t few → o ≡ label_by all s ts
-few_are_enough fs all s t k l gs ts few o view same lib only is found =
-    found ∙ (λ i. label_by fs (same i) (is i)) ∙ ap (λ x. label_by fs s (filter (is_for x gs) ts)) lib ∙ few_find fs s l gs only ts ∙ ap (λ (x : Scope). label_by x s ts) view
+pub few_are_enough : (fs all : Scope) (s : List ℕ) (k l : LibName) (gs : List FrameNo) (ts : List Stamp) (o : Option Label) → fs ≡ all → k ≡ l → OnlyOfLibrary fs s l gs
+    → o ≡ label_by all s (filter (is_for k gs) ts) → o ≡ label_by all s ts
+few_are_enough fs all s k l gs ts o view lib only found =
+    found ∙ ap (λ x. label_by all s (filter (is_for x gs) ts)) lib ∙ few_find all s l gs (subst (λ (x : Scope). OnlyOfLibrary x s l gs) view only) ts

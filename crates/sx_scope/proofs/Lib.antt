@@ -1,3 +1,2 @@
 pub mod SameLaws
-pub mod SoonLaws
 pub mod FewLaws

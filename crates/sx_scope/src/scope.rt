@@ -1,6 +1,6 @@
 //! Frames of bindings, and what leaves stand for in them.
 
-ghost use Rattle.std.specs.Prelude.{◌≡◌, ◌∷◌, ◌++◌, [], true, false, Some, IfOk, IfSome, OnOk, OnErr};
+ghost use Rattle.std.specs.Prelude.{◌≡◌, ◌∷◌, ◌++◌, [], filter, true, false, Some, IfOk, IfSome, OnOk, OnErr};
 ghost use Rattle.sx_base.specs.Gives.{BareGives};
 ghost use Rattle.sx_frames.specs.Given.{flat};
 ghost use Rattle.sx_frames.specs.Listed.{rows_in};
@@ -8,6 +8,7 @@ ghost use Rattle.sx_frames.specs.Needed.{needed_parts, AreApart};
 ghost use Rattle.sx_frames.specs.Scope.{has_frame, label_by, bound, adopted, are_new};
 ghost use Rattle.sx_scope.specs.Same.{same_binding};
 ghost use Rattle.sx_scope.specs.Stands.{row_for, stands, is_for};
+ghost use Rattle.sx_syntax.specs.Among as among;
 
 use crate::same::symbol_of;
 use std::alloc::Global;
@@ -20,10 +21,13 @@ use sx_base::memory::Memory;
 use sx_base::name::{FrameNo, Label};
 use sx_base::symbol::Symbol;
 use sx_frames::kept::KeptFrames;
+use sx_frames::key::Key;
 use sx_frames::shared::SharedFrames;
 use sx_syntax::base::LeafStamps;
 use sx_syntax::syn::Syn;
 use sx_tree::frame_row::FrameRow;
+use sx_tree::marks::Marks;
+use sx_tree::stamp::Stamp;
 
 /// So many of a leaf's newest stamps are asked first where many frames bind its symbol: most such leaves are bound
 /// close to where they stand.
@@ -118,6 +122,33 @@ impl Frames {
         self.frames.bind(&frame, symbol, marks, label)
     }
 
+    /// The label that those of the stamps find which are of other libraries than this one or have one of these
+    /// frames.
+    fn found_among(
+        &self,
+        symbol: &Symbol,
+        stamps: &LeafStamps,
+        library: &LibName,
+        frames: &[FrameNo],
+    ) -> Result<Option<Label>, Memory>
+        ensures { IfOk result (λ l. l ≡ label_by self.now symbol.now (filter (among.is_for library.now frames.now) stamps.now)) }
+    {
+        let symbol = symbol.share()?;
+        let marks = Marks::new(self.alloc);
+        let mut key = Key { symbol, marks };
+        let mut left = stamps.share()?;
+        while let Some((stamp, behind)) = left.split_among(self.alloc, library, frames)? {
+            let Stamp { frame, marks } = stamp;
+            key.marks = marks;
+            if let Some(label) = self.frames.find(&frame, &key) {
+                let label = label.share()?;
+                return Ok(Some(label));
+            }
+            left = behind;
+        }
+        Ok(None)
+    }
+
     /// The label that the stamps find, where few frames bind the symbol. Then the stamps of the newest one's
     /// library that have other frames find nothing, and aren't looked up.
     fn found_by_few(
@@ -134,14 +165,11 @@ impl Frames {
         let Some(binders) = self.frames.binders(symbol, library) else {
             return Ok(None);
         };
-        let stamps = stamps.among(self.alloc, library, binders)?;
-        let symbol = symbol.share()?;
-        let label = self.frames.label_by(symbol, stamps)?;
+        let label = self.found_among(symbol, stamps, library, binders)?;
         Ok(Some(label))
     }
 
     /// The label that the stamps find, where one of so many of the newest gives it.
-    #[tactic(auto, using(crate::proofs::SoonLaws::soon_is))]
     fn found_soon(
         &self,
         symbol: &Symbol,
@@ -151,8 +179,22 @@ impl Frames {
         ensures { IfOk result (λ o. IfSome o (λ l. label_by self.now symbol.now stamps.now ≡ Some l)) }
     {
         let symbol = symbol.share()?;
-        let stamps = stamps.newest(self.alloc, count)?;
-        self.frames.label_by(symbol, stamps)
+        let marks = Marks::new(self.alloc);
+        let mut key = Key { symbol, marks };
+        let mut left = stamps.share()?;
+        for _ in 0..count {
+            let Some((stamp, behind)) = left.split_first(self.alloc)? else {
+                return Ok(None);
+            };
+            let Stamp { frame, marks } = stamp;
+            key.marks = marks;
+            if let Some(label) = self.frames.find(&frame, &key) {
+                let label = label.share()?;
+                return Ok(Some(label));
+            }
+            left = behind;
+        }
+        Ok(None)
     }
 
     /// The label that a leaf stands for: that of the first of its stamps whose frame has a row with

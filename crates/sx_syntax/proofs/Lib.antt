@@ -4,4 +4,3 @@ pub mod ListLemmas
 pub mod GivesLemmas
 pub mod StripLemmas
 pub mod GrownLemmas
-pub mod AmongLemmas

@@ -1,6 +1,6 @@
 //! Bases: the marks and stamps that leaves have, as lists that share their ends.
 
-ghost use Rattle.std.specs.Prelude.{◌≡◌, ◌++◌, [], ◌∷◌, filter, take, map, option_map, slice_get, IfOk, OnOk, IsTrue};
+ghost use Rattle.std.specs.Prelude.{◌≡◌, [], ◌∷◌, filter, map, option_map, slice_get, IfOk, IfSome, IfNone, IsTrue};
 ghost use Rattle.sx_syntax.specs.Among.{is_for};
 ghost use Rattle.sx_tree.specs.Context.{blank, act, entered, stamped, unmarked, left};
 ghost use Rattle.sx_tree.specs.Marks.{is_first};
@@ -149,24 +149,6 @@ fn is_for(library: &LibName, frames: &[FrameNo], held: &Held) -> bool
     frames.contains(&held.frame)
 }
 
-/// Puts a stamp at the end, where it is of another library than this one or has one of these frames.
-fn push_for(
-    alloc: Global,
-    library: &LibName,
-    frames: &[FrameNo],
-    held: &Held,
-    stamps: &mut Vec<Stamp>,
-) -> Result<(), Memory>
-    ensures { OnOk result (stamps.new.items ≡ stamps.old.items ++ filter (is_for library.now frames.now) (held.now ∷ [])) }
-{
-    if !is_for(library, frames, held) {
-        return Ok(());
-    }
-    let stamp = held.stamp(alloc)?;
-    stamps.push(stamp)?;
-    Ok(())
-}
-
 impl LeafStamps {
     /// The frame of the newest stamp. It takes no memory.
     pub fn newest_frame(&self) -> Option<&FrameNo>
@@ -186,31 +168,48 @@ impl LeafStamps {
         stamps_of(alloc, held.as_slice())
     }
 
-    /// The newest ones, at most so many.
-    pub fn newest(&self, alloc: Global, count: usize) -> Result<Vec<Stamp>, Memory>
-        ensures { IfOk result (λ v. v.items ≡ take count self.now) }
+    /// Another owner of the same stamps. It takes no memory.
+    pub fn share(&self) -> Result<LeafStamps, Memory>
+        ensures { IfOk result (λ s. s ≡ self.now) }
     {
-        let held = self.stamps.firsts(alloc, count)?;
-        stamps_of(alloc, held.as_slice())
+        let stamps = self.stamps.share()?;
+        Ok(LeafStamps { stamps })
     }
 
-    /// Those of other libraries than this one, and those that have one of these frames, in their order. It takes
-    /// memory for them alone.
-    pub fn among(
+    /// The newest one, and those behind it.
+    pub fn split_first(&self, alloc: Global) -> Result<Option<(Stamp, LeafStamps)>, Memory>
+        ensures some { IfOk result (λ o. IfSome o (λ p. self.now ≡ p.0 ∷ p.1)) }
+        ensures none { IfOk result (λ o. IfNone o (self.now ≡ [])) }
+    {
+        let Some((held, below)) = self.stamps.split_top() else {
+            return Ok(None);
+        };
+        let stamp = held.stamp(alloc)?;
+        let stamps = below.share()?;
+        Ok(Some((stamp, LeafStamps { stamps })))
+    }
+
+    /// The newest of those of other libraries than this one and those that have one of these frames, and all that
+    /// are behind it.
+    pub fn split_among(
         &self,
         alloc: Global,
         library: &LibName,
         frames: &[FrameNo],
-    ) -> Result<Vec<Stamp>, Memory>
-        ensures { IfOk result (λ v. v.items ≡ filter (is_for library.now frames.now) self.now) }
+    ) -> Result<Option<(Stamp, LeafStamps)>, Memory>
+        ensures some { IfOk result (λ o. IfSome o (λ p. filter (is_for library.now frames.now) self.now ≡ p.0 ∷ filter (is_for library.now frames.now) p.1)) }
+        ensures none { IfOk result (λ o. IfNone o (filter (is_for library.now frames.now) self.now ≡ [])) }
     {
-        let mut stamps = Vec::new(alloc);
         let mut left = &self.stamps;
         while let Some((held, below)) = left.split_top() {
-            push_for(alloc, library, frames, held, &mut stamps)?;
+            if is_for(library, frames, held) {
+                let stamp = held.stamp(alloc)?;
+                let stamps = below.share()?;
+                return Ok(Some((stamp, LeafStamps { stamps })));
+            }
             left = below;
         }
-        Ok(stamps)
+        Ok(None)
     }
 }
 

@@ -1,6 +1,6 @@
 //! Lists that share their ends: to put an element before a list takes one level, whoever else has the list.
 
-ghost use Rattle.std.specs.Prelude.{◌≡◌, ◌==◌, [], ◌∷◌, length, map, take, drop, slice_get, IfOk, IfSome, IfNone, option_map};
+ghost use Rattle.std.specs.Prelude.{◌≡◌, ◌==◌, [], ◌∷◌, length, map, drop, slice_get, IfOk, IfSome, IfNone, option_map};
 
 use std::alloc::Global;
 use std::marker::Model;
@@ -136,25 +136,6 @@ impl<T: Drop> Stack<T> {
             let level: &Level<T> = level;
             items.push(&level.item)?;
             left = &level.below;
-        }
-        Ok(items)
-    }
-
-    /// The newest elements, at most so many.
-    pub(crate) fn firsts(&self, alloc: Global, count: usize) -> Result<Vec<&T>, Memory>
-        ensures { IfOk result (λ v. map (λ x. x.now) v.items ≡ take count self.now) }
-    {
-        let mut items = Vec::new(alloc);
-        let mut left = self;
-        while items.len() < count {
-            match &left.top {
-                None => return Ok(items),
-                Some(level) => {
-                    let level: &Level<T> = level;
-                    items.push(&level.item)?;
-                    left = &level.below;
-                }
-            }
         }
         Ok(items)
     }

@@ -1,9 +1,7 @@
-use Rattle.std.proofs.Common.{sym, ap, ◌∙◌}
-use Rattle.sx_frames.specs.Scope.{Scope, label_by}
 use Rattle.sx_scope.proofs.FewLaws.{few_are_enough}
 use Rattle.sx_scope.proofs.scope.Frames.found_by_few.Goals as goal
 
 pub returns : goal.returns
 returns c =
-    few_are_enough c.self.inside.frames c.args.self.now c.args.symbol.now c.in_ok-symbol.symbol c.deref.result.now _ c.in-Some-binders.binders.now c.args.stamps.now c.in_ok-stamps.stamps.items c.in_ok-label.label
-    c.self.view_is c.in_ok-symbol.ensures c.deref.ensures c.in-Some-binders.ensures c.in_ok-stamps.ensures c.in_ok-label.ensures
+    few_are_enough c.self.inside.frames c.args.self.now c.args.symbol.now c.deref.result.now _ c.in-Some-binders.binders.now c.args.stamps.now c.in_ok-label.label
+    c.self.view_is c.deref.ensures c.in-Some-binders.ensures c.in_ok-label.ensures
