@@ -1,8 +1,7 @@
 -- Where few frames of a library bind a symbol, its other frames find nothing.
 use Rattle.std.specs.Prelude.{◌≡◌, ℕ, Bool, true, false, cond, filter, List, [], ◌∷◌, Option, None, refl}
 use Rattle.std.proofs.Common.{sym, ◌∙◌, ap, subst}
-use Rattle.std.specs.List.{list_any}
-use Rattle.sx_base.specs.Same.{same_library, same_name}
+use Rattle.sx_base.specs.Same.{same_library}
 use Rattle.sx_base.specs.declared.library.LibName.{LibName}
 use Rattle.sx_base.specs.declared.name.FrameNo.{FrameNo}
 use Rattle.sx_base.specs.declared.name.Label.{Label}
