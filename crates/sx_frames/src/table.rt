@@ -95,7 +95,12 @@ fn copy(alloc: Global, frame: &FrameNo, key: &Key, label: &Label) -> Result<Fram
 }
 
 /// Puts copies of rows at the end of a list.
-fn put_first(list: &mut Vec<FrameRow>, alloc: Global, frame: &FrameNo, rows: &[(Key, Label)]) -> Result<(), Memory>
+fn put_first(
+    list: &mut Vec<FrameRow>,
+    alloc: Global,
+    frame: &FrameNo,
+    rows: &[(Key, Label)],
+) -> Result<(), Memory>
     ensures { OnOk result (list.new.items ≡ list.old.items ++ rows_from frame.now (rows_of rows.now)) }
 {
     for row in rows {
@@ -106,7 +111,12 @@ fn put_first(list: &mut Vec<FrameRow>, alloc: Global, frame: &FrameNo, rows: &[(
 }
 
 /// Puts copies of rows at the end of a list.
-fn put_later(list: &mut Vec<FrameRow>, alloc: Global, frame: &FrameNo, rows: &IndexMap<Key, Label>) -> Result<(), Memory>
+fn put_later(
+    list: &mut Vec<FrameRow>,
+    alloc: Global,
+    frame: &FrameNo,
+    rows: &IndexMap<Key, Label>,
+) -> Result<(), Memory>
     ensures { OnOk result (list.new.items ≡ list.old.items ++ rows_from frame.now (rows_of rows.now.entries)) }
 {
     for i in 0..rows.len() {
