@@ -9,6 +9,7 @@
 [ $# -eq 1 ] || { echo "usage: tests/outside.sh PROGRAM" >&2; exit 2; }
 case $1 in /*) program=$1 ;; *) program=$PWD/$1 ;; esac
 [ -x "$program" ] || { echo "$program can't be run" >&2; exit 2; }
+top=$(cd "$(dirname "$0")/.." && pwd) || exit 1
 folder=$(mktemp -d) || exit 1
 trap 'rm -rf "$folder"' EXIT
 cd "$folder" || exit 1
@@ -75,7 +76,21 @@ echo 'expanded (a b)' >report
 run --root roots/none:roots/one:roots/two --report uses.sps
 answers "a library below the last root, with a report" 0 uses.core report
 
+for shown in "$top"/examples/*/p.out; do
+    cd "${shown%/p.out}" && "$program" p.sps >"$folder/out" 2>"$folder/err" </dev/null
+    got=$?
+    cd "$folder" || exit 1
+    answers "${shown#"$top"/}" 0 "$shown" nothing
+done
+
 # ---- status 1: the line of the first fault
+
+for shown in "$top"/examples/*/p.err; do
+    cd "${shown%/p.err}" && "$program" p.sps >"$folder/out" 2>"$folder/err" </dev/null
+    got=$?
+    cd "$folder" || exit 1
+    answers "${shown#"$top"/}" 1 nothing "$shown"
+done
 
 printf '(import (rnrs))\n  y' >unbound.sps
 echo 'unbound.sps:2:3: 21 Unbound: y' >line
