@@ -37,6 +37,7 @@ use sx_syntax::syn::Syn;
 /// A form that has a body, and the forms of the body.
 #[derive(Drop)]
 pub struct BodyForm<'a> {
+    /// The whole form, which is at fault where the body has no expression.
     pub form: &'a Syn,
     pub forms: &'a [Syn],
 }
@@ -50,7 +51,7 @@ fn falsehood() -> Datum
     }
 }
 
-/// The value of a variable that is defined without one.
+/// The value of a variable that is defined without one: that of `(if #f #f)`.
 fn no_value(alloc: Global) -> Result<Core, Memory>
     ensures { IfOk result (λ c. c ≡ no_value) }
 {
@@ -139,6 +140,7 @@ fn splice<M: Transformers, N: Ledger, L: Ledger>(
     Ok(())
 }
 
+/// Takes a form of a body. The form takes one of the room, and is refused where none is left.
 #[cycle(form)]
 #[tactic(auto, using(crate::proofs::Steps::item_step, crate::proofs::Steps::item_too_deep))]
 pub(crate) fn item<M: Transformers, N: Ledger, L: Ledger>(
@@ -160,6 +162,7 @@ pub(crate) fn item<M: Transformers, N: Ledger, L: Ledger>(
     item_at(state, &inner, taken, form, counts)
 }
 
+/// As `item`, with the room that is left for the forms in it.
 #[cycle(form)]
 #[tactic(auto, unfolding(crate::specs::Body::item), using(crate::proofs::Steps::earlier_inside))]
 fn item_at<M: Transformers, N: Ledger, L: Ledger>(
@@ -178,7 +181,8 @@ fn item_at<M: Transformers, N: Ledger, L: Ledger>(
     perform_item(state, at, taken, &settled, counts)
 }
 
-/// What is done with a form of a body that is no use, and that says itself where it stands.
+/// What is done with a form of a body that is no use. Where it stands is told by `settled`: the body of `at` is
+/// not looked at.
 #[cycle(form)]
 #[tactic(auto, unfolding(crate::specs::Body::perform_item))]
 fn perform_item<M: Transformers, N: Ledger, L: Ledger>(
@@ -246,6 +250,7 @@ fn value_of<M: Transformers, N: Ledger, L: Ledger>(
     }
 }
 
+/// The line of a form that has waited. It has a place and a depth of its own: those of `at` are not looked at.
 #[cycle(form)]
 #[tactic(auto, unfolding(crate::specs::Body::finish_as))]
 pub(crate) fn finish_one<M: Transformers, N: Ledger, L: Ledger>(
@@ -290,7 +295,7 @@ pub(crate) fn finish_one<M: Transformers, N: Ledger, L: Ledger>(
     }
 }
 
-/// The second pass. What waits has a place and a depth of its own.
+/// The second pass: a line for each that waits, in order. Of `at` the place and the depth are not looked at.
 #[cycle(form)]
 fn finish_all<M: Transformers, N: Ledger, L: Ledger>(
     state: &mut Expansion,
@@ -308,6 +313,7 @@ fn finish_all<M: Transformers, N: Ledger, L: Ledger>(
     Ok(lines)
 }
 
+/// The core code of a body whose first pass is over. It must have an expression.
 #[cycle(form)]
 #[tactic(auto, unfolding(crate::specs::Body::finish))]
 fn finish<M: Transformers, N: Ledger, L: Ledger>(

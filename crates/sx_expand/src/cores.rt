@@ -100,7 +100,7 @@ pub(crate) fn assignment_of(alloc: Global, label: &Label, value: Core) -> Result
     })
 }
 
-/// A form of `letrec`, or of `letrec*` where the flag is true.
+/// A form of `letrec`, or of `letrec*` where `star` is true.
 pub(crate) fn letrec_of(
     alloc: Global,
     star: bool,

@@ -33,7 +33,7 @@ use sx_standing::means::{Counts, Means};
 use sx_standing::start::Environment;
 use sx_syntax::syn::Syn;
 
-/// The body of a library or program that is to be expanded, and what stands in its record beside what its forms give.
+/// The body of a library or program that is to be expanded, where it stands, and its exports and version.
 #[derive(Drop)]
 pub struct LibraryBody<'a> {
     pub forms: Items<Syn>,
@@ -41,6 +41,7 @@ pub struct LibraryBody<'a> {
     pub place: &'a Span,
     /// External names, each with the identifier that it stands for.
     pub exports: &'a [(Symbol, Syn)],
+    /// The numbers of its version (R6RS 7.1), from left to right; there may be none.
     pub version: Items<u64>,
 }
 
@@ -67,9 +68,8 @@ impl Model for Expander {
 }
 
 impl Expander {
-    /// An expander for a library. The records before it are those of the earlier ones that are marked; the
-    /// imports are names with their labels. The codes are those of procedures that are texts. Two imports of one
-    /// name are refused as want of memory is.
+    /// An expander for the library of this name, whose file has this path, in its environment. The codes are
+    /// those of procedures that are texts. Two imports of one name are refused as want of memory is.
     pub fn new(
         alloc: Global,
         name: LibName,
@@ -123,7 +123,7 @@ impl Expander {
         }
     }
 
-    /// What the body of a procedure at a place expands to.
+    /// What these forms expand to as the body of a procedure.
     pub fn body<N: Ledger, L: Ledger>(
         &mut self,
         forms: &[Syn],

@@ -51,19 +51,23 @@ struct Tested {
 /// A form that makes a procedure, and the parts of one of its cases.
 #[derive(Drop)]
 pub struct ProcedureForm<'a> {
+    /// The whole form: a `lambda`, a `case-lambda` with all its cases, or the definition of a procedure.
     pub form: &'a Syn,
+    /// The formals of the case.
     pub ids: &'a FormalIds,
-    /// The body of the case.
+    /// The forms of the body of the case.
     pub forms: &'a [Syn],
 }
 
-/// A `letrec`, or a `letrec*` where the flag is true, and its parts.
+/// A `letrec`, or a `letrec*` where `star` is true, and its parts.
 #[derive(Drop)]
 struct LetrecForm<'a> {
+    /// The whole form.
     form: &'a Syn,
     star: bool,
+    /// Its variables, each with the expression of its value.
     specs: &'a [BindingSpec],
-    /// Its body.
+    /// The forms of its body.
     forms: &'a [Syn],
 }
 
@@ -111,7 +115,7 @@ pub(crate) fn stamp_all<N: Ledger>(
     Ok(all)
 }
 
-/// A form with so much room for the forms in it.
+/// What a form expands to. The form takes one of the room, and is refused where none is left.
 #[cycle(form)]
 #[tactic(auto, using(crate::proofs::Steps::form_step, crate::proofs::Steps::form_too_deep))]
 pub fn expression<M: Transformers, N: Ledger, L: Ledger>(
@@ -147,6 +151,7 @@ pub(crate) fn expression_in<M: Transformers, N: Ledger, L: Ledger>(
     expression(state, &form, at, counts)
 }
 
+/// As `expression`, with the room that is left for the forms in it.
 #[cycle(form)]
 #[tactic(auto, unfolding(crate::specs::Expression::form_at), using(crate::proofs::Steps::earlier_inside))]
 fn form_at<M: Transformers, N: Ledger, L: Ledger>(
@@ -482,7 +487,8 @@ fn body_under<M: Transformers, N: Ledger, L: Ledger>(
     body(state, &stamped, at, counts)
 }
 
-/// As `lambda_case`, of a procedure that a definition binds.
+/// As `lambda_case`, of a procedure that a definition binds. Its form takes one of the room, and is refused
+/// where none is left.
 #[cycle(form)]
 #[tactic(auto, using(crate::proofs::Steps::procedure_step, crate::proofs::Steps::procedure_too_deep))]
 pub fn procedure<M: Transformers, N: Ledger, L: Ledger>(
@@ -520,7 +526,7 @@ fn letrec_form<M: Transformers, N: Ledger, L: Ledger>(
     Ok(core)
 }
 
-/// Such a form whose variables have this frame.
+/// A `letrec` or `letrec*` whose variables have this frame.
 #[cycle(form)]
 fn letrec_in<M: Transformers, N: Ledger, L: Ledger>(
     state: &mut Expansion,

@@ -2,5 +2,5 @@
 
 use sx_heads::depth::MOST_ROUND;
 
-/// So many forms inside one another are enough: those deeper are refused for their depth.
+/// The room that expansion begins with. It is enough: a form is refused for its depth before none is left.
 pub(crate) const ROOM: u16 = MOST_ROUND + 2;

@@ -27,15 +27,17 @@ use sx_standing::means::Counts;
 use sx_standing::uses::KeywordAt;
 use sx_syntax::syn::Syn;
 
-/// `let-syntax`, or `letrec-syntax` where it is recursive: its keywords, and the forms in which they stand.
+/// A `let-syntax`, or a `letrec-syntax` where `recursive` is true.
 #[derive(Drop)]
 pub(crate) struct KeywordsForm<'a> {
     pub recursive: bool,
+    /// Its keywords, each with its expression.
     pub specs: &'a [BindingSpec],
+    /// The forms in which the keywords are seen.
     pub forms: &'a [Syn],
 }
 
-/// The frame of the keywords of `let-syntax`, or of `letrec-syntax` where it is recursive.
+/// The frame of the keywords of a `let-syntax`, or of a `letrec-syntax` where `recursive` is true.
 #[derive(Drop)]
 struct KeywordFrame<'a> {
     recursive: bool,

@@ -12,7 +12,14 @@
 //! The promise: each call gives exactly the core code that the definition gives, or its fault at its
 //! place, and leaves exactly the state that the definition leaves; only want of memory is free.
 //!
-//! Here stand the core forms, and uses of keywords: those that programs and libraries define, and the forms of records.
+//! Here stand the core forms, and uses of keywords: those that programs and libraries define, and the forms of
+//! records.
+//!
+//! A form is expanded at a *place*, a *level* and a *depth*, with some *room* and some *means*: `at` says what
+//! each is. Callers have an `expander`. `top` expands the body of a library or program, in the two passes of
+//! `body`. `settle` puts what comes of a use of a keyword in its place, until a form is no use. `expression`
+//! has the core forms, but for those of `patterns` (`syntax-case`), `quasi` (`quasiquote`, `quasisyntax`) and
+//! `keywords` (`let-syntax`, `letrec-syntax`).
 #![tactic(auto)]
 
 pub mod at;

@@ -1,4 +1,4 @@
-//! `syntax-case` (libraries report 12.4).
+//! `syntax-case` (R6RS libraries 12.4).
 
 ghost use Rattle.std.specs.Prelude.{◌≡◌};
 ghost use Rattle.sx_base.specs.Act.{GivesAfter, after, give};
@@ -25,9 +25,12 @@ use sx_syntax::syn::Syn;
 /// The parts of a `syntax-case`, and where it stands.
 #[derive(Drop)]
 pub(crate) struct PatternForm<'a> {
+    /// The expression whose value is matched.
     pub subject: &'a Syn,
     pub literals: &'a [Syn],
+    /// Its clauses.
     pub cases: &'a [PatternCase],
+    /// Where the whole form stands. Its core code keeps it.
     pub span: &'a Span,
 }
 

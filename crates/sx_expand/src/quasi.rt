@@ -1,4 +1,4 @@
-//! `quasiquote` and `quasisyntax` (R6RS 11.17; libraries report 12.8).
+//! `quasiquote` and `quasisyntax` (R6RS 11.17; R6RS libraries 12.8).
 
 ghost use Rattle.std.specs.Prelude.{◌≡◌};
 ghost use Rattle.sx_base.specs.Act.{GivesAfter};
@@ -23,12 +23,14 @@ use sx_syntax::syn::Syn;
 /// A `quasiquote` or `quasisyntax`, and its template.
 #[derive(Drop)]
 pub(crate) struct TemplateForm<'a> {
+    /// The whole form.
     pub form: &'a Syn,
+    /// Which of the two it is.
     pub which: Family,
     pub template: &'a Syn,
 }
 
-/// The parts in order, each at its own depth.
+/// The parts in order, each at its own depth: that of `at` is not looked at.
 #[cycle(form)]
 fn parts_in_order<M: Transformers, N: Ledger, L: Ledger>(
     state: &mut Expansion,

@@ -28,9 +28,10 @@ pub enum Step {
     Use(KeywordUse),
 }
 
-/// A form that is no use, which stands at a place unless it has a span, and its plan.
+/// A form that is no use, and its plan.
 #[derive(Drop)]
 pub struct Settled {
+    /// Where it stands if it has no span.
     pub place: Span,
     pub form: Syn,
     pub plan: Plan,
@@ -51,7 +52,7 @@ pub struct SettledItem {
     pub item: Item,
 }
 
-/// A use of a keyword.
+/// A use of a keyword, and what the keyword is. The rest is a `UsedForm`.
 #[derive(Drop)]
 struct KeywordForm<'a> {
     form: &'a Syn,
@@ -168,8 +169,8 @@ fn next_step<M: Transformers, N: Ledger, L: Ledger>(
     step_of(state, form, plan, at, counts)
 }
 
-/// What is to be done with the form that comes of the uses of keywords that a form begins with. What comes of a
-/// use stands at the place of the use.
+/// What is to be done with the form that comes of the uses of keywords that a form begins with. What comes of
+/// a use stands at the place of the use.
 pub(crate) fn settle<M: Transformers, N: Ledger, L: Ledger>(
     state: &mut Expansion,
     form: &Syn,
@@ -287,7 +288,8 @@ fn item_step<M: Transformers, N: Ledger, L: Ledger>(
     item_step_of(state, one, taken, item, counts)
 }
 
-/// As `settle`, of a form of a body. A use gets the frame of the body, so that what comes of it can bind in it.
+/// As `settle`, of a form of a body. A use gets the frame of the body, so that what comes of it can bind in
+/// that frame.
 pub(crate) fn settle_item<M: Transformers, N: Ledger, L: Ledger>(
     state: &mut Expansion,
     at: &ItemAt<M>,

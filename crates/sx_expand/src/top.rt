@@ -32,11 +32,12 @@ use sx_standing::means::{Counts, Means};
 use sx_standing::share::share_library;
 use sx_syntax::syn::Syn;
 
-/// What a body of a library or program has besides its forms.
+/// What the body of a library or program has besides its exports and its forms.
 #[derive(Drop)]
 pub struct TopAt {
     /// The path of the file.
     pub path: Symbol,
+    /// The numbers of its version (R6RS 7.1), from left to right; there may be none.
     pub version: Items<u64>,
     /// The frame of imports and definitions.
     pub frame: FrameNo,
@@ -44,11 +45,11 @@ pub struct TopAt {
     pub place: Span,
 }
 
-/// A body of a library or program: what it has besides its forms, and its exports, which are external names, each with
-/// the identifier that it stands for.
+/// What the body of a library or program has besides its forms.
 #[derive(Drop)]
 pub struct TopBody<'a> {
     pub at: TopAt,
+    /// External names, each with the identifier that it stands for.
     pub exports: &'a [(Symbol, Syn)],
 }
 
@@ -187,7 +188,7 @@ fn kind_of(library: &LibName) -> BodyKind
     }
 }
 
-/// The line of one that has waited, which goes with that.
+/// The line of one that has waited, which is dropped here.
 fn finish_next<N: Ledger, L: Ledger>(
     state: &mut Expansion,
     one: Waiting,
@@ -199,8 +200,8 @@ fn finish_next<N: Ledger, L: Ledger>(
     finish_one(state, &one, at, counts)
 }
 
-/// The second pass. What has waited goes as soon as it is done: the forms of a long body and their core code aren't kept
-/// side by side.
+/// The second pass, as `finish_all`. What has waited is dropped as soon as it is done: the forms of a long body
+/// and their core code aren't kept side by side.
 #[tactic(auto, using(crate::proofs::Taking::each_none))]
 fn finish_each<N: Ledger, L: Ledger>(
     state: &mut Expansion,
@@ -260,7 +261,8 @@ fn body_at(state: &Expansion, at: &TopAt) -> Result<BodyAt, Memory>
     })
 }
 
-/// The first pass over forms. Each goes as soon as it is done: a use and what it expands to aren't kept side by side.
+/// The first pass over forms, as `splice`. Each is dropped as soon as it is done: a use and what it expands to
+/// aren't kept side by side.
 #[tactic(auto, using(crate::proofs::Taking::gather_none))]
 fn splice_each<N: Ledger, L: Ledger>(
     state: &mut Expansion,

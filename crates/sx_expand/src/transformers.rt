@@ -16,14 +16,14 @@ use sx_standing::means::{Counts, Means};
 use sx_standing::uses::{KeywordAt, UsedForm};
 use sx_syntax::syn::Syn;
 
-/// What has the transformers of keywords evaluated and called (R6RS libraries 12.3). Expansion asks for no more of
-/// the primitives than this: its functions call one another, and the check takes no boxed closure in such a
+/// What has the transformers of keywords evaluated and called (R6RS libraries 12.3). Expansion asks for no more
+/// of the primitives than this: its functions call one another, and the check takes no boxed closure in such a
 /// cycle.
 pub trait Transformers {
     /// The records before the library.
     ghost records: { Self → List LibRecord };
 
-    /// What comes of a use of a keyword. Faults of evaluation stand at its place.
+    /// What comes of a use of the keyword with this label. Faults of evaluation stand at the place in `used`.
     fn use_keyword<N: Ledger, L: Ledger>(
         &self,
         state: &mut Expansion,
@@ -43,7 +43,7 @@ pub trait Transformers {
     ) -> Result<bool, Stop>
         ensures { GivesAfter (λ b. b) result state.new (asks_variable (records self.now) place.now label.now state.old) };
 
-    /// Evaluates the expression of a keyword, and keeps what it gives.
+    /// Evaluates the expression of a keyword, of which this is the code, and keeps what it gives.
     fn finish_keyword<N: Ledger, L: Ledger>(
         &self,
         state: &mut Expansion,
