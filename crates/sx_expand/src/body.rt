@@ -12,7 +12,7 @@ ghost use Rattle.sx_expand.specs.Body.{splice, item, perform_item, value_of, fin
 use crate::at::{FormAt, ItemAt};
 use crate::cores::procedure_of_case;
 use crate::expression::{ProcedureForm, expression, procedure, sequence_of, stamp_all};
-use crate::keywords::{KeywordDefinition, KeywordsForm, define_syntax, with_keywords};
+use crate::keywords::{KeywordDefinition, LetSyntaxForm, define_syntax, with_keywords};
 use crate::settle::{SettledItem, settle_item};
 use crate::transformers::Transformers;
 use std::alloc::Global;
@@ -210,7 +210,7 @@ fn perform_item<M: Transformers, N: Ledger, L: Ledger>(
             define_syntax(state, &inner, taken, &definition, counts)
         }
         Item::Keywords(recursive, specs, forms) => {
-            let parts = KeywordsForm {
+            let parts = LetSyntaxForm {
                 recursive: *recursive,
                 specs: specs.as_slice(),
                 forms: forms.as_slice(),

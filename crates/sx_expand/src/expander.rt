@@ -23,7 +23,7 @@ use sx_base::fault::Stop;
 use sx_base::items::Items;
 use sx_base::library::LibName;
 use sx_base::memory::Memory;
-use sx_base::name::{CodeNo, FrameNo, Label};
+use sx_base::name::{CodeNo, FrameNo};
 use sx_base::span::Span;
 use sx_base::symbol::Symbol;
 use sx_core::code::{Code, Core};

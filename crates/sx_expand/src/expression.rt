@@ -12,8 +12,8 @@ use crate::cores::{
     assignment_of, call_of, letrec_of, one_armed_of, procedure_of_case, procedure_of_cases,
     two_armed_of,
 };
-use crate::keywords::{KeywordsForm, keywords_form};
-use crate::patterns::{PatternForm, syntax_case};
+use crate::keywords::{LetSyntaxForm, keywords_form};
+use crate::patterns::{SyntaxCaseForm, syntax_case};
 use crate::quasi::{TemplateForm, quasi_form};
 use crate::settle::{Settled, settle};
 use crate::transformers::Transformers;
@@ -35,7 +35,7 @@ use sx_syntax::syn::Syn;
 
 /// The parts of an `if`.
 #[derive(Drop)]
-struct Branches<'a> {
+struct IfForm<'a> {
     test: &'a Syn,
     consequent: &'a Syn,
     alternate: &'a Option<Syn>,
@@ -43,7 +43,7 @@ struct Branches<'a> {
 
 /// The test and the consequent of an `if`, expanded.
 #[derive(Drop)]
-struct Tested {
+struct OneArmed {
     test: Core,
     consequent: Core,
 }
@@ -214,7 +214,7 @@ fn perform_plan<M: Transformers, N: Ledger, L: Ledger>(
             application(state, operator, operands.as_slice(), &inner, counts)
         }
         Plan::Conditional(test, consequent, alternate) => {
-            let parts = Branches {
+            let parts = IfForm {
                 test,
                 consequent,
                 alternate,
@@ -242,7 +242,7 @@ fn perform_plan<M: Transformers, N: Ledger, L: Ledger>(
             letrec_form(state, &parts, &inner, counts)
         }
         Plan::Matching(subject, literals, cases, span) => {
-            let parts = PatternForm {
+            let parts = SyntaxCaseForm {
                 subject,
                 literals: literals.as_slice(),
                 cases: cases.as_slice(),
@@ -251,7 +251,7 @@ fn perform_plan<M: Transformers, N: Ledger, L: Ledger>(
             syntax_case(state, &parts, &inner, counts)
         }
         Plan::Keywords(recursive, specs, forms) => {
-            let parts = KeywordsForm {
+            let parts = LetSyntaxForm {
                 recursive: *recursive,
                 specs: specs.as_slice(),
                 forms: forms.as_slice(),
@@ -293,7 +293,7 @@ fn application<M: Transformers, N: Ledger, L: Ledger>(
 #[tactic(auto, unfolding(crate::specs::Expression::conditional))]
 fn conditional<M: Transformers, N: Ledger, L: Ledger>(
     state: &mut Expansion,
-    parts: &Branches,
+    parts: &IfForm,
     at: &FormAt<M>,
     counts: &mut Counts<N, L>,
 ) -> Result<Core, Stop>
@@ -301,21 +301,21 @@ fn conditional<M: Transformers, N: Ledger, L: Ledger>(
 {
     let test = expression(state, parts.test, at, counts)?;
     let consequent = expression(state, parts.consequent, at, counts)?;
-    let tested = Tested { test, consequent };
+    let tested = OneArmed { test, consequent };
     alternate(state, tested, parts.alternate, at, counts)
 }
 
 #[cycle(form)]
 fn alternate<M: Transformers, N: Ledger, L: Ledger>(
     state: &mut Expansion,
-    tested: Tested,
+    tested: OneArmed,
     other: &Option<Syn>,
     at: &FormAt<M>,
     counts: &mut Counts<N, L>,
 ) -> Result<Core, Stop>
     ensures { GivesAfter (λ c. c) result state.new (alternate (inside (M.records at.now.means.now) at.now.room) at.now.place.now at.now.level at.now.depth tested.test tested.consequent other.now state.old) }
 {
-    let Tested { test, consequent } = tested;
+    let OneArmed { test, consequent } = tested;
     match other {
         None => Ok(one_armed_of(state.alloc(), test, consequent)?),
         Some(other) => {

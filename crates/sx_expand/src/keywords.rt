@@ -29,7 +29,7 @@ use sx_syntax::syn::Syn;
 
 /// A `let-syntax`, or a `letrec-syntax` where `recursive` is true.
 #[derive(Drop)]
-pub(crate) struct KeywordsForm<'a> {
+pub(crate) struct LetSyntaxForm<'a> {
     pub recursive: bool,
     /// Its keywords, each with its expression.
     pub specs: &'a [BindingSpec],
@@ -171,7 +171,7 @@ fn keywords<M: Transformers, N: Ledger, L: Ledger>(
 #[cycle(form)]
 pub(crate) fn with_keywords<M: Transformers, N: Ledger, L: Ledger>(
     state: &mut Expansion,
-    parts: &KeywordsForm,
+    parts: &LetSyntaxForm,
     at: &FormAt<M>,
     counts: &mut Counts<N, L>,
 ) -> Result<Items<Syn>, Stop>
@@ -191,7 +191,7 @@ pub(crate) fn with_keywords<M: Transformers, N: Ledger, L: Ledger>(
 #[tactic(auto, unfolding(crate::specs::Expression::keywords_form))]
 pub(crate) fn keywords_form<M: Transformers, N: Ledger, L: Ledger>(
     state: &mut Expansion,
-    parts: &KeywordsForm,
+    parts: &LetSyntaxForm,
     at: &FormAt<M>,
     counts: &mut Counts<N, L>,
 ) -> Result<Core, Stop>

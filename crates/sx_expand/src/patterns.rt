@@ -24,7 +24,7 @@ use sx_syntax::syn::Syn;
 
 /// The parts of a `syntax-case`, and where it stands.
 #[derive(Drop)]
-pub(crate) struct PatternForm<'a> {
+pub(crate) struct SyntaxCaseForm<'a> {
     /// The expression whose value is matched.
     pub subject: &'a Syn,
     pub literals: &'a [Syn],
@@ -148,7 +148,7 @@ fn all_clauses<M: Transformers, N: Ledger, L: Ledger>(
 #[tactic(auto, unfolding(crate::specs::Expression::syntax_case))]
 pub(crate) fn syntax_case<M: Transformers, N: Ledger, L: Ledger>(
     state: &mut Expansion,
-    parts: &PatternForm,
+    parts: &SyntaxCaseForm,
     at: &FormAt<M>,
     counts: &mut Counts<N, L>,
 ) -> Result<Core, Stop>

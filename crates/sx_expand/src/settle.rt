@@ -54,7 +54,7 @@ pub struct SettledItem {
 
 /// A use of a keyword, and what the keyword is. The rest is a `UsedForm`.
 #[derive(Drop)]
-struct KeywordForm<'a> {
+struct MacroUse<'a> {
     form: &'a Syn,
     keyword: &'a KeywordUse,
     /// That of the body, where the use stands in one.
@@ -73,13 +73,13 @@ struct Target {
 /// The form that a use gives, of a keyword with a transformer or of a record form.
 fn used_form<M: Transformers, N: Ledger, L: Ledger>(
     state: &mut Expansion,
-    used: KeywordForm,
+    used: MacroUse,
     means: &M,
     counts: &mut Counts<N, L>,
 ) -> Result<Syn, Stop>
     ensures { GivesAfter (λ t. t) result state.new (used_form (M.records means.now) used.entry.place.now used.entry.form.now used.entry.keyword.now used.entry.frame state.old) }
 {
-    let KeywordForm {
+    let MacroUse {
         form,
         keyword,
         frame,
@@ -97,21 +97,21 @@ fn used_form<M: Transformers, N: Ledger, L: Ledger>(
 fn next_form<M: Transformers, N: Ledger, L: Ledger>(
     state: &mut Expansion,
     left: u32,
-    used: KeywordForm,
+    used: MacroUse,
     means: &M,
     counts: &mut Counts<N, L>,
 ) -> Result<Syn, Stop>
     ensures { GivesAfter (λ t. t) result state.new (next_form (M.records means.now) left used.entry.place.now used.entry.form.now used.entry.keyword.now used.entry.frame state.old) }
 {
     state.leave_uses(left);
-    let KeywordForm {
+    let MacroUse {
         form,
         keyword,
         frame,
         place,
     } = used;
     let at = place_of(form, place)?;
-    let used = KeywordForm {
+    let used = MacroUse {
         form,
         keyword,
         frame,
@@ -195,7 +195,7 @@ pub(crate) fn settle<M: Transformers, N: Ledger, L: Ledger>(
             return Err(state.fault_form(FaultKind::TooManyExpansions, &form, &place));
         }
         left -= 1;
-        let used = KeywordForm {
+        let used = MacroUse {
             form: &form,
             keyword: &keyword,
             frame: None,
@@ -324,7 +324,7 @@ pub(crate) fn settle_item<M: Transformers, N: Ledger, L: Ledger>(
         }
         left -= 1;
         let frame = body.frame.share()?;
-        let used = KeywordForm {
+        let used = MacroUse {
             form: &form,
             keyword: &keyword,
             frame: Some(frame),
