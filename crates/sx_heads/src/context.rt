@@ -9,5 +9,6 @@ pub struct FormContext<'a> {
     pub form: &'a Syn,
     /// Where a form without a span stands.
     pub place: &'a Span,
+    /// Its level (R6RS 7.2): 0 at run time, and one more in the expression of a keyword.
     pub level: u32,
 }

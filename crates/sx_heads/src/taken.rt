@@ -24,7 +24,9 @@ pub struct BodyAt {
     pub frame: FrameNo,
     /// Where a form without a span stands.
     pub place: Span,
+    /// Their level (R6RS 7.2): 0 at run time, and one more in the expression of a keyword.
     pub level: u32,
+    /// What the body is that of.
     pub kind: BodyKind,
 }
 
