@@ -26,7 +26,7 @@ pub struct BodyAt {
     pub place: Span,
     /// Their level (R6RS 7.2): 0 at run time, and one more in the expression of a keyword.
     pub level: u32,
-    /// What the body is that of.
+    /// What has the body.
     pub kind: BodyKind,
 }
 
