@@ -36,7 +36,7 @@ use Rattle.sx_stage.specs.Transformers.{is_variable, is_transformer, transformer
 use Rattle.sx_stage.specs.Uses.{procedure_in, call_procedure, tree_at, read_answer, transform, cut, transform_and_cut}
 use Rattle.sx_stage.specs.declared.keyword.Keyword.{Keyword}
 use Rattle.sx_stage.specs.declared.keyword.Keyword.TheVariants as keyword
-use Rattle.sx_stage.specs.declared.fuel.TheConstants.{FUEL}
+use Rattle.sx_stage.specs.Fuel.{most_fuel}
 use Rattle.sx_fresh_laws.specs.Leaves.{TreeHolds, ValueHolds, VariableHolds, CellHolds, CellsHold, CoreHolds, CoresHold, InitsHold, CasesHold, ClausesHold, CodeHolds, CodesHold, GlobalsHold, LinesHold}
 use Rattle.sx_fresh_laws.specs.Names.{Rises, SettingHolds, StateHolds, OutcomeHolds}
 use Rattle.sx_fresh_laws.specs.Leaves.{OptionHolds}
@@ -227,13 +227,13 @@ module _ (own : LibName) (K : ℕ → Mark → Type 0) (P : ℕ → LeafContext 
   evaluate-holds place c m g h k =
       ended-holds place m (with_codes_of c g) (outcome_of c g) (codes-of-holds c m g h k)
       (holds-eval own g.names.number P (rises-from g.names.number) (setting_on (with_codes c g.codes) g) (setting-holds m (with_codes c g.codes) g h (codes-hold (P g.names.number) c g.codes h.codes k))
-      c (next_place (state_on g)) (with_cell (cell.Scope [] None) (state_on g)) FUEL k (scope-holds m g [] h tt))
+      c (next_place (state_on g)) (with_cell (cell.Scope [] None) (state_on g)) most_fuel k (scope-holds m g [] h tt))
 
   call-holds : (place : Span) (f x : Value) (m : ℕ) (g : PlainStage) → G m g → ValueHolds (P g.names.number) f → ValueHolds (P g.names.number) x → GaveStage WithFuel m (running.call place f x g)
   unfolding running.call
   call-holds place f x m g h k j =
       ended-holds place m g (outcome_of_call f x g) h
-      (holds-call own g.names.number P (rises-from g.names.number) (setting_on g.codes g) (setting-holds m g.codes g h h.codes) (f ∷ x ∷ []) (state_on g) FUEL (state-holds m g h) (k, (j, tt)))
+      (holds-call own g.names.number P (rises-from g.names.number) (setting_on g.codes g) (setting-holds m g.codes g h h.codes) (f ∷ x ∷ []) (state_on g) most_fuel (state-holds m g h) (k, (j, tt)))
 
   -- Libraries.
 
@@ -260,7 +260,7 @@ module _ (own : LibName) (K : ℕ → Mark → Type 0) (P : ℕ → LeafContext 
   library-holds place r m g h k =
       library-ends place r m g (outcome_of_lines r.run g) h k
       (holds-lines own g.names.number P (rises-from g.names.number) (setting_on (with_lines r.run g.codes) g) (setting-holds m (with_lines r.run g.codes) g h (line-codes (P g.names.number) r.run g.codes h.codes k))
-      r.run (next_place (state_on g)) (with_cell (cell.Scope (defined r.run) None) (state_on g)) FUEL k (scope-holds m g (defined r.run) h (unset-defined (P g.names.number) r.run)))
+      r.run (next_place (state_on g)) (with_cell (cell.Scope (defined r.run) None) (state_on g)) most_fuel k (scope-holds m g (defined r.run) h (unset-defined (P g.names.number) r.run)))
 
   abbrev pub Rs : ℕ → List LibRecord → Type 0
   Rs n rs = RecordsHold (P n) rs

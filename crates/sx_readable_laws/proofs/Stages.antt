@@ -34,7 +34,7 @@ use Rattle.sx_stage.specs.Transformers.{is_variable, is_transformer, transformer
 use Rattle.sx_stage.specs.Uses.{procedure_in, call_procedure, tree_at, read_answer, transform, cut, transform_and_cut, transform_marked, used}
 use Rattle.sx_stage.specs.declared.keyword.Keyword.{Keyword}
 use Rattle.sx_stage.specs.declared.keyword.Keyword.TheVariants as keyword
-use Rattle.sx_stage.specs.declared.fuel.TheConstants.{FUEL}
+use Rattle.sx_stage.specs.Fuel.{most_fuel}
 use Rattle.sx_fresh_laws.specs.Leaves.{OptionHolds}
 use Rattle.sx_fresh_laws.proofs.Eachs.{each_at, each_and, each_taken}
 use Rattle.sx_readable_laws.specs.Outcome.{ReadableSetting, ReadableState, ReadableOutcome}
@@ -102,12 +102,12 @@ evaluate-holds : (place : Span) (c : PlainCore) (g : PlainStage) → ReadableSta
 unfolding evaluate
 evaluate-holds place c g h k =
     ended-holds place (with_codes_of c g) (outcome_of c g) (codes-of-holds c g h k)
-    (holds-eval (setting_on (with_codes c g.codes) g) (setting-holds (with_codes c g.codes) g h (codes-hold c g.codes h.codes k)) c (next_place (state_on g)) (with_cell (cell.Scope [] None) (state_on g)) FUEL k (scope-holds g [] h tt))
+    (holds-eval (setting_on (with_codes c g.codes) g) (setting-holds (with_codes c g.codes) g h (codes-hold c g.codes h.codes k)) c (next_place (state_on g)) (with_cell (cell.Scope [] None) (state_on g)) most_fuel k (scope-holds g [] h tt))
 
 call-holds : (place : Span) (f x : Value) (g : PlainStage) → ReadableStage g → ReadableValue f → ReadableValue x → GaveStage WithFuel (running.call place f x g)
 unfolding running.call
 call-holds place f x g h k j =
-    ended-holds place g (outcome_of_call f x g) h (holds-call (setting_on g.codes g) (setting-holds g.codes g h h.codes) (f ∷ x ∷ []) (state_on g) FUEL h.cells (k, (j, tt)))
+    ended-holds place g (outcome_of_call f x g) h (holds-call (setting_on g.codes g) (setting-holds g.codes g h h.codes) (f ∷ x ∷ []) (state_on g) most_fuel h.cells (k, (j, tt)))
 
 -- Libraries.
 
@@ -128,7 +128,7 @@ library-holds : (place : Span) (r : LibRecord) (g : PlainStage) → ReadableStag
 unfolding evaluate_library
 library-holds place r g h k =
     library-ends place r g (outcome_of_lines r.run g) h k
-    (holds-lines (setting_on (with_lines r.run g.codes) g) (setting-holds (with_lines r.run g.codes) g h (line-codes r.run g.codes h.codes k)) r.run (next_place (state_on g)) (with_cell (cell.Scope (defined r.run) None) (state_on g)) FUEL k (scope-holds g (defined r.run) h (unset-defined r.run)))
+    (holds-lines (setting_on (with_lines r.run g.codes) g) (setting-holds (with_lines r.run g.codes) g h (line-codes r.run g.codes h.codes k)) r.run (next_place (state_on g)) (with_cell (cell.Scope (defined r.run) None) (state_on g)) most_fuel k (scope-holds g (defined r.run) h (unset-defined r.run)))
 
 wanted-holds : (place : Span) (ks : List LibName) (r : LibRecord) (g : PlainStage) → ReadableStage g → ReadableLines r.run → GaveStage Done (evaluate_wanted place ks r g)
 unfolding evaluate_wanted

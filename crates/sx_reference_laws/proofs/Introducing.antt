@@ -27,7 +27,7 @@ use Rattle.sx_stage.specs.Running as running
 use Rattle.sx_stage.specs.Running.{setting_on, state_on, ended_at, outcome_of_call}
 use Rattle.sx_stage.specs.Stage.{PlainStage, name_after}
 use Rattle.sx_stage.specs.Uses.{procedure_in, call_procedure, tree_at, read_answer, transform, cut, transform_and_cut, transform_marked}
-use Rattle.sx_stage.specs.declared.fuel.TheConstants.{FUEL}
+use Rattle.sx_stage.specs.Fuel.{most_fuel}
 use Rattle.sx_standing.specs.RecordUses.{at_state, count_record_type, record_tree, record_marked}
 use Rattle.sx_standing.specs.State.{State}
 use Rattle.sx_hygiene_laws.specs.Marked.{Among}
@@ -155,7 +155,7 @@ module _ (libs : List LibName) (own : LibName) (new : IsNewAmong libs own) where
     called None h = tt
     called (Some f) h =
         answered (outcome_of_call f (value.Syn (enter M t)) next)
-        (holds-call own (g.names.number + 1) (λ n c. Q c) rises (setting_on g.codes next) setting (f ∷ value.Syn (enter M t) ∷ []) (state_on next) FUEL
+        (holds-call own (g.names.number + 1) (λ n c. Q c) rises (setting_on g.codes next) setting (f ∷ value.Syn (enter M t) ∷ []) (state_on next) most_fuel
         (record { up = omega arith; library = holds.library; cells = cells }) (h, (came-in M t t (λ c a. a), tt)))
 
     transformed : Gives Q (transform place v (enter M t) next)

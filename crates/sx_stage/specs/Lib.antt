@@ -1,3 +1,4 @@
+pub mod Fuel
 pub mod Libraries
 pub mod Stage
 pub mod Running
