@@ -1,6 +1,6 @@
 #!/bin/sh
 # Macros whose uses never come to an end: each program is stopped at its use 1,000,001. Each row has the seconds that
-# this took and the line of the fault. The tables of sx_cases leave these programs out, since they take seconds.
+# this took and the line of the fault. The tables of tests/cases leave these programs out, since they take seconds.
 top=$(cd "$(dirname "$0")/.." && pwd) || exit 1
 folder=$(mktemp -d) || exit 1
 trap 'rm -rf "$folder"' EXIT

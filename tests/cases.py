@@ -1,13 +1,13 @@
 #!/usr/bin/env python3
-"""Runs a built program on the tables of crates/sx_cases/data, each case among files of its own, and tells which differ.
+"""Runs a built program on the tables of tests/cases, each case among files of its own, and tells which differ.
 
     tests/cases.py PROGRAM [TABLE..]
 
 PROGRAM is the built program, as crates/scheme_expand/out/scheme_expand; with no TABLE all of them are run. The exit
-status is 0 where no case differs. crates/sx_cases itself runs them over files in memory; its src/main.rt says how a
-case is written. Runs in which a call fails are left out.
+status is 0 where no case differs. tests/cases/README.md says how a case is written.
 """
 import argparse
+import dataclasses
 import glob
 import json
 import os
@@ -15,7 +15,28 @@ import re
 import subprocess
 import sys
 import tempfile
+import time
 from concurrent.futures import ThreadPoolExecutor
+
+# Runs a program of whose files and streams none may have more bytes than this.
+WITHIN = """import os, resource, signal, sys
+signal.signal(signal.SIGXFSZ, signal.SIG_IGN)
+resource.setrlimit(resource.RLIMIT_FSIZE, (int(sys.argv[1]),) * 2)
+os.execv(sys.argv[2], sys.argv[2:])"""
+
+
+@dataclasses.dataclass
+class Case:
+    """A run: its words, files and those that can't be read by their paths, and its status and both streams."""
+
+    words: list
+    files: dict
+    status: int
+    out: str
+    err: str
+    unread: set = dataclasses.field(default_factory=set)
+    # Whether the streams take what is told here and no byte more.
+    is_full: bool = False
 
 
 def bytes_of(text):
@@ -25,24 +46,30 @@ def bytes_of(text):
 
 
 def read_run(head, answer):
-    """The words, the files by path, the status and both streams of a run, or None where a call is to fail."""
+    """The case of a run that is told by its words and files, its status and both streams."""
     orders, *files = ("\n" + head).split("\nfile ")
     first, *orders = orders[1:].split("\n")
+    files = [it.partition("\n")[::2] for it in files]
+    status, _, streams = answer.partition(" ")
+    case = Case(first.split(" ")[1:], {}, int(status), *json.loads("[" + streams.replace('" "', '", "') + "]"))
     least = 0
     for order in orders:
-        if not order.startswith("pad "):
-            return None
-        least = int(order.removeprefix("pad "))
-    files = dict(it.partition("\n")[::2] for it in files)
-    status, _, streams = answer.partition(" ")
-    out, err = json.loads("[" + streams.replace('" "', '", "') + "]")
-    files = {path: bytes_of(text).ljust(least) for path, text in files.items()}
-    return first.split(" ")[1:], files, int(status), out, err
+        word, *numbers = order.removeprefix("fail ").split(" ")
+        if word == "pad":
+            least = int(numbers[0])
+        elif word == "read":
+            case.unread.add(files[int(numbers[0])][0])
+        elif word in ("out", "err"):
+            case.is_full = True
+        else:
+            raise ValueError(f"no order: {order}")
+    case.files = {path: bytes_of(text).ljust(least) for path, text in files}
+    return case
 
 
-def read(case):
-    """The words, the files by path, the status and what is to be written on both streams, or None."""
-    head, _, answer = case.partition("\n=>")
+def read(text):
+    """The case of this text."""
+    head, _, answer = text.partition("\n=>")
     answer = answer.removeprefix(" ")
     if head.partition("\n")[0].partition(" ")[0] == "run":
         return read_run(head, answer)
@@ -59,53 +86,89 @@ def read(case):
         files[path] = bytes_of(before + behind)
     ended = answer + "\n" if answer else ""
     if place is None:
-        return words, files, 0, "(import (rnrs))\n" + ended, ""
-    return words, files, 1, "", place + ended
+        return Case(words, files, 0, "(import (rnrs))\n" + ended, "")
+    return Case(words, files, 1, "", place + ended)
 
 
-def run(program, seconds, case):
-    """What is to be said of a case that comes to something else than it should, or None."""
-    wanted = read(case)
-    if wanted is None:
-        return None
-    words, files, *wanted = wanted
-    with tempfile.TemporaryDirectory() as folder:
-        for path, held in files.items():
-            path = os.path.join(folder, path)
-            os.makedirs(os.path.dirname(path), exist_ok=True)
-            with open(path, "wb") as it:
+def put_files(case, folder):
+    """Makes the files of the case, and a directory for each that can't be read."""
+    for path, held in case.files.items():
+        at = os.path.join(folder, path)
+        os.makedirs(at if path in case.unread else os.path.dirname(at), exist_ok=True)
+        if path not in case.unread:
+            with open(at, "wb") as it:
                 it.write(held)
+
+
+def stream(room, name, padding):
+    """A file for a stream, behind so many bytes."""
+    with open(os.path.join(room, name), "wb") as it:
+        it.write(b" " * padding)
+    return open(it.name, "ab")
+
+
+def run_full(words, case, room, how):
+    """Runs the words with streams that take what the case tells and no byte more."""
+    wanted = [len(it.encode()) for it in (case.out, case.err)]
+    padding = [max(wanted) - it for it in wanted]
+    with stream(room, "out", padding[0]) as out, stream(room, "err", padding[1]) as err:
+        words = [sys.executable, "-ISc", WITHIN, str(max(wanted)), *words]
+        status = subprocess.run(words, stdout=out, stderr=err, **how).returncode
+    came = [status]
+    for name, behind in zip(("out", "err"), padding):
+        with open(os.path.join(room, name), "rb") as it:
+            came.append(it.read()[behind:])
+    return came
+
+
+def run(program, seconds, text):
+    """What is to be said of a case that comes to something else than it should, or None."""
+    case = read(text)
+    with tempfile.TemporaryDirectory() as room:
+        folder = os.path.join(room, "files")
+        os.mkdir(folder)
+        put_files(case, folder)
+        words, how = [program, *case.words], {"cwd": folder, "stdin": subprocess.DEVNULL, "timeout": seconds}
         try:
-            ran = subprocess.run([program, *words], cwd=folder, capture_output=True, timeout=seconds)
+            if case.is_full:
+                status, out, err = run_full(words, case, room, how)
+            else:
+                ran = subprocess.run(words, capture_output=True, **how)
+                status, out, err = ran.returncode, ran.stdout, ran.stderr
         except subprocess.TimeoutExpired:
             return f"no answer after {seconds} seconds\n"
-    came = [ran.returncode, ran.stdout.decode(errors="replace"), ran.stderr.decode(errors="replace")]
+    wanted = [case.status, case.out, case.err]
+    came = [status, out.decode(errors="replace"), err.decode(errors="replace")]
     return None if came == wanted else "wanted: {} {}{}came: {} {}{}".format(*wanted, *came)
+
+
+def programs_of(table):
+    """The texts of a table's cases."""
+    with open(table, encoding="utf-8", newline="") as it:
+        return it.read().removesuffix("\n").split("\n\n")
 
 
 def main():
     words = argparse.ArgumentParser()
     words.add_argument("program")
     words.add_argument("tables", nargs="*")
-    words.add_argument("--jobs", type=int, default=os.cpu_count())
+    words.add_argument("--jobs", type=int, default=len(os.sched_getaffinity(0)))
     words.add_argument("--seconds", type=int, default=60, help="that one case may take")
     given = words.parse_args()
-    program = os.path.abspath(given.program)
-    tables = given.tables or sorted(glob.glob(os.path.join(os.path.dirname(__file__), "../crates/sx_cases/data/*.txt")))
+    begun, program = time.monotonic(), os.path.abspath(given.program)
+    tables = given.tables or sorted(glob.glob(os.path.join(os.path.dirname(os.path.abspath(__file__)), "cases/*.txt")))
+    cases = [(os.path.basename(it).removesuffix(".txt"), number, text) for it in tables
+             for number, text in enumerate(programs_of(it), 1)]
+    with ThreadPoolExecutor(given.jobs) as pool:
+        said = list(pool.map(lambda case: run(program, given.seconds, case[2]), cases))
     differing = 0
-    for table in tables:
-        name = os.path.basename(table).removesuffix(".txt")
-        with open(table, encoding="utf-8", newline="") as it:
-            cases = it.read().removesuffix("\n").split("\n\n")
-        with ThreadPoolExecutor(given.jobs) as pool:
-            said = list(pool.map(lambda case: run(program, given.seconds, case), cases))
-        for number, (case, it) in enumerate(zip(cases, said), 1):
-            if it is not None:
-                print(f"{name}: program {number} differs\n{case}\n{it}")
-        differ = sum(it is not None for it in said)
-        differing += differ
-        print(f"{name}: {len(cases)} programs, {f'of which {differ} differ' if differ else 'all as written'}", flush=True)
-    return 1 if differing else 0
+    for (name, number, text), it in zip(cases, said):
+        if it is not None:
+            differing += 1
+            print(f"{name}: program {number} differs\n{text}\n{it}")
+    taken = time.monotonic() - begun
+    print(f"{len(tables)} tables, {len(cases)} programs, {differing} differ, {taken:.1f} s", flush=True)
+    return 1 if differing or not cases else 0
 
 
 sys.exit(main())

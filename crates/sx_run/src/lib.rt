@@ -17,7 +17,7 @@
 //!
 //! `words` asks `sx_words` for the job that the words ask for, `prepare` makes all text with no sink at hand, by
 //! `sx_library` and what stands below it, and `top` writes it. The program `scheme_expand` calls it over the system's
-//! files and streams, and `sx_cases` over files and sinks in memory.
+//! files and streams.
 #![tactic(auto)]
 
 mod prepare;
