@@ -277,6 +277,80 @@ else
     fi
 fi
 
+# ---- how many libraries a program may load, how many bytes they may have, and how often it may refer to one
+
+printf '(import (rnrs))\n' >bare.core
+
+# The library ./lN.sls, which imports these and has so many bytes at least.
+library() {
+    text="(library (l$1) (export) (import$2))"
+    {
+        printf '%s' "$text"
+        [ "${3:-0}" -le ${#text} ] || head -c $(($3 - ${#text})) /dev/zero | tr '\0' ' '
+    } >"l$1.sls"
+}
+
+# A program that imports so many libraries, of which all but the last have so many bytes at least, and the last so many.
+side_by_side() {
+    for number in $(seq 0 $(($1 - 2))); do library "$number" '' "$2"; done
+    library $(($1 - 1)) '' "$3"
+    { printf '(import'; seq -f ' (l%.0f)' 0 $(($1 - 1)) | tr -d '\n'; printf ')'; } >many.sps
+    seq -f 'expanded (l%.0f)' 0 $(($1 - 1)) >report
+}
+
+# A program and so many libraries, each of which imports the next.
+one_in_another() {
+    for number in $(seq 0 $(($1 - 2))); do library "$number" " (l$((number + 1)))"; done
+    library $(($1 - 1)) ''
+    echo '(import (l0))' >many.sps
+    seq -f 'expanded (l%.0f)' $(($1 - 1)) -1 0 >report
+}
+
+side_by_side 1024 0 0
+run --report many.sps
+answers "1,024 libraries" 0 bare.core report
+
+side_by_side 1025 0 0
+echo 'many.sps:1:7091: 19 TooManyLibraries' >line
+run --report many.sps
+answers "1,025 libraries" 1 nothing line
+
+one_in_another 1024
+run --report many.sps
+answers "1,024 libraries that import each other" 0 bare.core report
+
+one_in_another 1025
+echo './l1023.sls:1:35: 19 TooManyLibraries' >line
+run --report many.sps
+answers "1,025 libraries that import each other" 1 nothing line
+
+rm -f l*.sls
+side_by_side 1 0 4194304
+run --report many.sps
+answers "a library of 4 MiB" 0 bare.core report
+
+side_by_side 1 0 4194305
+echo './l0.sls:1:1: 9 TooLong' >line
+run --report many.sps
+answers "a library of 4 MiB and a byte" 1 nothing line
+
+# The program has 94 bytes.
+side_by_side 16 4194304 4194210
+run --report many.sps
+answers "files of 64 MiB" 0 bare.core report
+
+side_by_side 16 4194304 4194211
+echo './l15.sls:1:1: 9 TooLong' >line
+run --report many.sps
+answers "files of 64 MiB and a byte" 1 nothing line
+
+# What the library needs is joined once, so each further reference takes a look-up of its file.
+rm -f l*.sls
+side_by_side 1 0 0
+{ printf '(import'; yes ' (l0)' | head -n 800000 | tr -d '\n'; printf ')'; } >many.sps
+run --report many.sps
+answers "800,000 references to one library" 0 bare.core report
+
 # ---- pipes
 
 # The program reads this file out of a pipe.

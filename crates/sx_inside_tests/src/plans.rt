@@ -1,5 +1,6 @@
 use std::alloc::Global;
 use std::fmt::Write;
+use std::mem::forget;
 use std::process::Abort;
 use std::test::Fail;
 use sx_base::items::Items;
@@ -20,15 +21,21 @@ fn library(alloc: Global, name: &str) -> Result<LibName, Memory> {
     Ok(LibName::User(parts))
 }
 
-// The record of a library with its references, parted by commas.
-fn record(alloc: Global, name: LibName, names: &str) -> Result<LibRecord, Memory> {
-    let path = Symbol::new(alloc, "f")?;
-    let mut refs = Items::new(alloc);
+// The libraries of these names, parted by commas.
+fn libraries(alloc: Global, names: &str) -> Result<Items<LibName>, Memory> {
+    let mut libraries = Items::new(alloc);
     for name in names.split(",") {
         if !name.is_empty() {
-            refs.push(library(alloc, name)?)?;
+            libraries.push(library(alloc, name)?)?;
         }
     }
+    Ok(libraries)
+}
+
+// The record of a library with its references, parted by commas.
+fn record(alloc: Global, name: LibName, refs: &str) -> Result<LibRecord, Memory> {
+    let path = Symbol::new(alloc, "f")?;
+    let refs = libraries(alloc, refs)?;
     Ok(LibRecord {
         path,
         name,
@@ -41,26 +48,78 @@ fn record(alloc: Global, name: LibName, names: &str) -> Result<LibRecord, Memory
     })
 }
 
-fn records(alloc: Global, libraries: &str) -> Result<Vec<LibRecord>, Memory> {
-    let mut records = Vec::new(alloc);
-    for spelt in libraries.split(" ") {
-        let (name, refs) = spelt.split_once(":").unwrap_or((spelt, ""));
-        records.push(record(alloc, library(alloc, name)?, refs)?)?;
+fn put_record(alloc: Global, records: &mut Vec<LibRecord>, spelt: &str) -> Result<(), Memory> {
+    let (name, refs) = spelt.split_once(":").unwrap_or((spelt, ""));
+    let name = library(alloc, name)?;
+    match record(alloc, name, refs) {
+        Ok(record) => put(records, record),
+        Err(memory) => Err(memory),
     }
-    Ok(records)
 }
 
-// Whether the plan of these libraries for these references has these places.
-fn is_planned(alloc: Global, libraries: &str, refs: &str, places: &str) -> Result<bool, Fail> {
-    let records = records(alloc, libraries)?;
-    let program = record(alloc, LibName::Program, refs)?;
-    let mut told = String::new(alloc);
-    for place in &run_plan(alloc, records.as_slice(), &program)? {
+fn put(records: &mut Vec<LibRecord>, record: LibRecord) -> Result<(), Memory> {
+    match records.push(record) {
+        Ok(()) => Ok(()),
+        Err(refused) => {
+            forget(refused);
+            Err(Memory)
+        }
+    }
+}
+
+fn put_records(alloc: Global, records: &mut Vec<LibRecord>, libraries: &str) -> Result<(), Memory> {
+    for spelt in libraries.split(" ") {
+        put_record(alloc, records, spelt)?;
+    }
+    Ok(())
+}
+
+// Puts the places of the plan of these libraries.
+fn put_plan(
+    alloc: Global,
+    records: &[LibRecord],
+    program: &LibRecord,
+    told: &mut String,
+) -> Result<(), Fail> {
+    for place in &run_plan(alloc, records, program)? {
         if !told.is_empty() {
             told.push_str(" ")?;
         }
         write!(told, "{place}")?;
     }
+    Ok(())
+}
+
+fn put_plan_for(
+    alloc: Global,
+    records: &[LibRecord],
+    refs: &str,
+    told: &mut String,
+) -> Result<(), Fail> {
+    match record(alloc, LibName::Program, refs) {
+        Ok(program) => {
+            let put = put_plan(alloc, records, &program, told);
+            forget(program);
+            put
+        }
+        Err(memory) => Err(Fail::from(memory)),
+    }
+}
+
+fn put_plan_of(alloc: Global, libraries: &str, refs: &str, told: &mut String) -> Result<(), Fail> {
+    let mut records = Vec::new(alloc);
+    let put = match put_records(alloc, &mut records, libraries) {
+        Ok(()) => put_plan_for(alloc, records.as_slice(), refs, told),
+        Err(memory) => Err(Fail::from(memory)),
+    };
+    forget(records);
+    put
+}
+
+// Whether the plan of these libraries for these references has these places.
+fn is_planned(alloc: Global, libraries: &str, refs: &str, places: &str) -> Result<bool, Fail> {
+    let mut told = String::new(alloc);
+    put_plan_of(alloc, libraries, refs, &mut told)?;
     Ok(told.as_str() == places)
 }
 

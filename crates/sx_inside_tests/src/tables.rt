@@ -1,5 +1,6 @@
 use indexmap::IndexMap;
 use std::alloc::Global;
+use std::mem::forget;
 use std::process::Abort;
 use std::rc::Rc;
 use std::test::Fail;
@@ -55,29 +56,37 @@ fn rows(alloc: Global, word: &str) -> Result<Items<FrameRow>, Memory> {
 }
 
 // The label is bound to the primitive `car`.
-fn bindings(alloc: Global, word: &str) -> Result<Items<(Label, Binding)>, Memory> {
+fn put_binding(
+    alloc: Global,
+    bindings: &mut Items<(Label, Binding)>,
+    word: &str,
+) -> Result<(), Memory> {
     let label = Label(name(alloc, word, 1)?);
-    let mut bindings = Items::new(alloc);
-    bindings.push((label, Binding::Primitive(Op(CAR))))?;
-    Ok(bindings)
+    bindings.push((label, Binding::Primitive(Op(CAR))))
 }
 
 // The record of a library of one word, which is bound to `car`.
 fn record(alloc: Global, word: &str) -> Result<LibRecord, Memory> {
     let path = Symbol::new(alloc, "f")?;
     let name = library(alloc, word)?;
-    let bindings = bindings(alloc, word)?;
     let frames = rows(alloc, word)?;
-    Ok(LibRecord {
-        path,
-        name,
-        version: Items::new(alloc),
-        exports: Items::new(alloc),
-        bindings,
-        frames,
-        run: Items::new(alloc),
-        refs: Items::new(alloc),
-    })
+    let mut bindings = Items::new(alloc);
+    match put_binding(alloc, &mut bindings, word) {
+        Ok(()) => Ok(LibRecord {
+            path,
+            name,
+            version: Items::new(alloc),
+            exports: Items::new(alloc),
+            bindings,
+            frames,
+            run: Items::new(alloc),
+            refs: Items::new(alloc),
+        }),
+        Err(memory) => {
+            forget(bindings);
+            Err(memory)
+        }
+    }
 }
 
 fn put(alloc: Global, records: &mut ReadyRecords, word: &str) -> Result<(), Memory> {
@@ -109,12 +118,34 @@ fn leaf(alloc: Global, word: &str) -> Result<Syn, Memory> {
     Syn::whole_leaf(alloc, None, &symbol, Marks::new(alloc), stamps)
 }
 
+fn is_car(standing: &Standing) -> bool {
+    match standing {
+        Standing::Primitive(op) => op.0 == CAR,
+        _ => false,
+    }
+}
+
+// Whether the leaf stands for `car` there.
+fn stands(expansion: &mut Expansion, leaf: &Syn) -> Result<bool, Memory> {
+    match expansion.standing(leaf) {
+        Ok(standing) => {
+            let is_car = is_car(&standing);
+            forget(standing);
+            Ok(is_car)
+        }
+        Err(memory) => Err(memory),
+    }
+}
+
 // Whether the word stands for `car` there.
 fn finds(alloc: Global, expansion: &mut Expansion, word: &str) -> Result<bool, Memory> {
-    let leaf = leaf(alloc, word)?;
-    match expansion.standing(&leaf)? {
-        Standing::Primitive(op) => Ok(op.0 == CAR),
-        _ => Ok(false),
+    match leaf(alloc, word) {
+        Ok(leaf) => {
+            let found = stands(expansion, &leaf);
+            forget(leaf);
+            found
+        }
+        Err(memory) => Err(memory),
     }
 }
 
@@ -131,7 +162,11 @@ fn put_found(alloc: Global, expansion: &mut Expansion, words: &mut String) -> Re
 
 fn put_last(alloc: Global, records: &ReadyRecords, words: &mut String) -> Result<(), Memory> {
     match begun(alloc, records, &[true, false, true]) {
-        Ok(mut third) => put_found(alloc, &mut third, words),
+        Ok(mut third) => {
+            let put = put_found(alloc, &mut third, words);
+            forget(third);
+            put
+        }
         Err(memory) => Err(memory),
     }
 }
@@ -157,24 +192,35 @@ fn while_one_is_held(
 ) -> Result<(), Memory> {
     put(alloc, records, "b")?;
     match begun(alloc, records, &[true, true]) {
-        Ok(mut second) => while_two_are_held(alloc, records, first, &mut second, words),
+        Ok(mut second) => {
+            let put = while_two_are_held(alloc, records, first, &mut second, words);
+            forget(second);
+            put
+        }
         Err(memory) => Err(memory),
     }
 }
 
-// What expansions find that are begun between records and held while others come. (records and expansions are owned where no
-// call can stop: each way out that drops them costs the proof much)
+// What expansions find that are begun between records and held while others come.
 fn put_all(alloc: Global, records: &mut ReadyRecords, words: &mut String) -> Result<(), Memory> {
     put(alloc, records, "a")?;
     match begun(alloc, records, &[true]) {
-        Ok(mut first) => while_one_is_held(alloc, records, &mut first, words),
+        Ok(mut first) => {
+            let put = while_one_is_held(alloc, records, &mut first, words);
+            forget(first);
+            put
+        }
         Err(memory) => Err(memory),
     }
 }
 
 fn shared(alloc: Global, words: &mut String) -> Result<(), Memory> {
     match ReadyRecords::new(alloc) {
-        Ok(mut records) => put_all(alloc, &mut records, words),
+        Ok(mut records) => {
+            let put = put_all(alloc, &mut records, words);
+            forget(records);
+            put
+        }
         Err(memory) => Err(memory),
     }
 }

@@ -51,13 +51,19 @@ fn last_rows(alloc: Global, rows: &mut Vec<PrimRow>) -> Result<(), Memory> {
     Ok(())
 }
 
+fn put_rows(alloc: Global, rows: &mut Vec<PrimRow>) -> Result<(), Memory> {
+    first_rows(alloc, rows)?;
+    middle_rows(alloc, rows)?;
+    last_rows(alloc, rows)
+}
+
 /// All rows, in order, each with its function.
 pub fn full_rows(alloc: Global) -> Result<Vec<PrimRow>, Memory> {
     let mut rows = Vec::new(alloc);
-    first_rows(alloc, &mut rows)?;
-    middle_rows(alloc, &mut rows)?;
-    last_rows(alloc, &mut rows)?;
-    Ok(rows)
+    match put_rows(alloc, &mut rows) {
+        Ok(()) => Ok(rows),
+        Err(memory) => Err(memory),
+    }
 }
 
 /// The table of these rows, where they are in order.

@@ -8,40 +8,39 @@ use sx_base::memory::Memory;
 use sx_base::op::{Op, names};
 use sx_prims::made::Made;
 use sx_prims::prim_call::PrimCall;
-use sx_prims::table::PrimTable;
+use sx_prims::table::{PrimRow, PrimTable};
 use sx_region::region::Region;
 use sx_value::cell::Cell;
 use sx_value::value::Value;
 
+/// The place at which rows are refused, and how many rows come back.
+fn refused(rows: Vec<PrimRow>) -> Option<(usize, usize)> {
+    match PrimTable::fill(rows) {
+        Ok(_) => None,
+        Err((place, rows)) => Some((place, rows.len())),
+    }
+}
+
+fn swap_first(rows: &mut Vec<PrimRow>) {
+    if rows.len() >= 2 {
+        rows.swap(0, 1);
+    }
+}
+
 #[test]
 fn rows_out_of_order_are_refused(rt: HostRuntime) -> Result<(), Fail> {
-    let alloc = rt.alloc();
-    let mut rows = full_rows(alloc)?;
-    if rows.len() < 2 {
-        return Err("there are no two rows".into());
-    }
-    rows.swap(0, 1);
-    match PrimTable::fill(rows) {
-        Ok(_) => Err("rows out of order are taken".into()),
-        Err((place, rows)) => {
-            assert_eq!(rt; place, 0);
-            assert_eq!(rt; rows.len(), 18);
-            Ok(())
-        }
-    }
+    let mut rows = full_rows(rt.alloc())?;
+    swap_first(&mut rows);
+    assert!(rt; refused(rows) == Some((0, 18)));
+    Ok(())
 }
 
 #[test]
 fn missing_rows_are_refused(rt: HostRuntime) -> Result<(), Fail> {
     let mut rows = full_rows(rt.alloc())?;
     let _ = rows.pop();
-    match PrimTable::fill(rows) {
-        Ok(_) => Err("17 rows are taken".into()),
-        Err((place, _)) => {
-            assert_eq!(rt; place, 17);
-            Ok(())
-        }
-    }
+    assert!(rt; refused(rows) == Some((17, 17)));
+    Ok(())
 }
 
 /// What a call costs: its op, how many arguments it has, the limit and the cost.
@@ -145,16 +144,6 @@ fn check_prices(
     Ok(())
 }
 
-#[test]
-fn costs_end_above_the_limit(rt: HostRuntime) -> Result<(), Fail> {
-    let alloc = rt.alloc();
-    let Some(table) = full_table(alloc)? else {
-        return Err("rows in order are refused".into());
-    };
-    check_prices(&rt, alloc, &table, &PRICES)?;
-    Ok(())
-}
-
 /// Those that cost nothing: the rows of `cons`, `string-ref`, `number->string`, `identifier?` and `error`.
 const FREE: [u16; 57] = [
     44, 47, 51, 52, 53, 54, 55, 56, 57, 58, 59, 60, 61, 62, 63, 64, 65, 66, 67, 68, 69, 70, 71, 72,
@@ -186,15 +175,10 @@ fn each_costs(alloc: Global, table: &PrimTable, ops: &[u16], cost: u64) -> Resul
     Ok(true)
 }
 
-#[test]
-fn ops_cost_what_their_rows_say(rt: HostRuntime) -> Result<(), Fail> {
-    let alloc = rt.alloc();
-    let Some(table) = full_table(alloc)? else {
-        return Err("rows in order are refused".into());
-    };
-    assert!(rt; each_costs(alloc, &table, &FREE, 0)?);
-    assert!(rt; each_costs(alloc, &table, &COUNTED, 3)?);
-    assert!(rt; each_costs(alloc, &table, &FEWER, 0)?);
+fn check_ops(rt: &impl Abort, alloc: Global, table: &PrimTable) -> Result<(), Memory> {
+    assert!(rt; each_costs(alloc, table, &FREE, 0)?);
+    assert!(rt; each_costs(alloc, table, &COUNTED, 3)?);
+    assert!(rt; each_costs(alloc, table, &FEWER, 0)?);
     Ok(())
 }
 
@@ -256,14 +240,32 @@ fn tail_is_refused(alloc: Global, table: &PrimTable, tail: Tail) -> Result<bool,
 }
 
 /// `list-tail` costs what it is to take off, also where the list has less, and is refused then.
-#[test]
-fn tails_cost_what_they_take_off(rt: HostRuntime) -> Result<(), Fail> {
-    let alloc = rt.alloc();
-    let Some(table) = full_table(alloc)? else {
-        return Err("rows in order are refused".into());
-    };
-    assert_eq!(rt; tail_cost(alloc, &table, TAIL)?, 2_000_000);
-    assert_eq!(rt; tail_cost(alloc, &table, LONGEST_TAIL)?, 1_000_000_001);
-    assert!(rt; tail_is_refused(alloc, &table, LONGEST_TAIL)?);
+fn check_tails(rt: &impl Abort, alloc: Global, table: &PrimTable) -> Result<(), Memory> {
+    assert_eq!(rt; tail_cost(alloc, table, TAIL)?, 2_000_000);
+    assert_eq!(rt; tail_cost(alloc, table, LONGEST_TAIL)?, 1_000_000_001);
+    assert!(rt; tail_is_refused(alloc, table, LONGEST_TAIL)?);
     Ok(())
+}
+
+fn check_table(rt: &impl Abort, alloc: Global, table: &PrimTable) -> Result<(), Memory> {
+    check_prices(rt, alloc, table, &PRICES)?;
+    check_ops(rt, alloc, table)?;
+    check_tails(rt, alloc, table)
+}
+
+fn told(checked: Result<(), Memory>) -> Result<(), Fail> {
+    Ok(checked?)
+}
+
+// (the table is owned where no call can stop: each way out that drops it costs the proof much)
+fn check(rt: &impl Abort, alloc: Global) -> Result<(), Fail> {
+    match full_table(alloc)? {
+        Some(table) => told(check_table(rt, alloc, &table)),
+        None => Err("rows in order are refused".into()),
+    }
+}
+
+#[test]
+fn calls_cost_what_their_rows_say_up_to_the_limit(rt: HostRuntime) -> Result<(), Fail> {
+    check(&rt, rt.alloc())
 }
