@@ -88,6 +88,10 @@ for shown in "$top"/examples/*/p.out; do
     answers "${shown#"$top"/}" 0 "$shown" nothing
 done
 
+echo 'libraries 2 lines 5 bytes 130' >summary
+run --make 2
+answers "--make 2" 0 summary nothing
+
 # ---- status 1: the line of the first fault
 
 for shown in "$top"/examples/*/p.err; do
@@ -196,6 +200,10 @@ if [ -c /dev/full ]; then
     "$program" --root roots/two --report uses.sps 2>/dev/full >out
     got=$?
     answers "a full disk for the report" 4 uses.core nothing
+    "$program" --make 2 >/dev/full 2>err
+    got=$?
+    : >out
+    answers "a full disk for the line of --make" 4 nothing nothing
 else
     left_out "a full disk: no /dev/full"
 fi
