@@ -77,11 +77,20 @@ run --root roots/none:roots/one:roots/two --report uses.sps
 answers "a library below the last root, with a report" 0 uses.core report
 
 for shown in "$top"/examples/*/p.out; do
-    cd "${shown%/p.out}" && "$program" p.sps >"$folder/out" 2>"$folder/err" </dev/null
+    cd "${shown%/p.out}" || exit 1
+    words=p.sps
+    [ ! -r words ] || words=$(cat words)
+    # The words of these calls have no spaces or quotes.
+    # shellcheck disable=SC2086
+    "$program" $words >"$folder/out" 2>"$folder/err" </dev/null
     got=$?
     cd "$folder" || exit 1
     answers "${shown#"$top"/}" 0 "$shown" nothing
 done
+
+echo 'libraries 2 lines 5 bytes 130' >summary
+run --make 2
+answers "--make 2" 0 summary nothing
 
 # ---- status 1: the line of the first fault
 
@@ -191,6 +200,10 @@ if [ -c /dev/full ]; then
     "$program" --root roots/two --report uses.sps 2>/dev/full >out
     got=$?
     answers "a full disk for the report" 4 uses.core nothing
+    "$program" --make 2 >/dev/full 2>err
+    got=$?
+    : >out
+    answers "a full disk for the line of --make" 4 nothing nothing
 else
     left_out "a full disk: no /dev/full"
 fi
@@ -395,6 +408,13 @@ else
     cases=$((cases + 1))
     fails "want of memory: no limit ends with status 5"
 fi
+
+# ---- the pages of the faults, and the launchers
+
+cases=$((cases + 1))
+"$top/tests/faults.sh" "$program" >told || fails "tests/faults.sh: $(cat told)"
+cases=$((cases + 1))
+"$top/tests/launch.sh" >told || fails "tests/launch.sh: $(cat told)"
 
 taken=$((($(date +%s%N) - begun) / 1000000))
 echo "$cases cases, $failed failed, $taken ms"

@@ -3,7 +3,10 @@ use Rattle.std.specs.Prelude.{◌≡◌, Result, Ok, Err, string_bytes}
 use Rattle.sx_run.specs.declared.prepare.Prepared.{Prepared}
 use Rattle.sx_run.specs.declared.prepare.Unfinished.{Unfinished}
 use Rattle.sx_run.specs.declared.prepare.Unfinished.TheVariants as unfinished
+use Rattle.sx_run.specs.Headline.{Sunk, Untouched, Finishes, Complains}
 use Rattle.sx_run.specs.Whole.{Outcome, done, fault}
+use Rattle.sx_run.specs.declared.status.Status.{Status}
+use Rattle.sx_run.specs.declared.status.Status.TheVariants as status
 
 -- the text and the report, or the line of the fault, are the definition's; a failed read and want of memory say nothing of it
 abbrev pub Prepares : Result Prepared Unfinished → Outcome → Type 0
@@ -11,3 +14,10 @@ Prepares (Ok made) outcome = outcome ≡ done (string_bytes made.text) (string_b
 Prepares (Err (unfinished.Line line)) outcome = outcome ≡ fault (string_bytes line)
 Prepares (Err unfinished.Read) outcome = Unit {0}
 Prepares (Err unfinished.Memory) outcome = Unit {0}
+
+-- what was prepared is written: its text and behind it its report, or the line of its fault; and else nothing
+abbrev pub Writes : Result Prepared Unfinished → Sunk → Sunk → Status → Type 0
+Writes (Ok made) out err s = Finishes out err (string_bytes made.text) (string_bytes made.report) s
+Writes (Err (unfinished.Line line)) out err s = Complains out err (string_bytes line) status.Fault s
+Writes (Err unfinished.Read) out err s = (s ≡ status.ReadFault) × (Untouched out × Untouched err)
+Writes (Err unfinished.Memory) out err s = (s ≡ status.Memory) × (Untouched out × Untouched err)

@@ -1,5 +1,5 @@
 -- What the whole program gives for files and words: its eager definition.
-use Rattle.std.specs.Prelude.{ℕ, Bool, List, [], ◌∷◌, map, Option, Some, None, Result, Ok, Err, if◌then◌else◌}
+use Rattle.std.specs.Prelude.{ℕ, Bool, List, [], ◌∷◌, map, Option, Some, None, Result, Ok, Err, if◌then◌else◌, codes, false}
 use Rattle.sx_base.specs.FaultLine.{fault_line}
 use Rattle.sx_base.specs.declared.fault.Fault.{Fault}
 use Rattle.sx_import.specs.Table.{same_text}
@@ -13,8 +13,13 @@ use Rattle.sx_prelude.specs.Prelude.{prelude_table}
 use Rattle.sx_report.specs.Report.{report_text}
 use Rattle.sx_report.specs.declared.report.Fate.TheVariants.{Expanded}
 use Rattle.sx_report.specs.declared.report.Told.{Told}
+use Rattle.sx_make.specs.Made.{made_files, program_path}
+use Rattle.sx_make.specs.Summary.{summary}
 use Rattle.sx_words.specs.declared.job.Job.{Job}
-use Rattle.sx_run.specs.Words.{job_asked}
+use Rattle.sx_words.specs.declared.job.Kind.TheVariants.{Core}
+use Rattle.sx_words.specs.declared.words.Words.{Words}
+use Rattle.sx_words.specs.declared.words.Words.TheVariants.{Expand, Make, Usage}
+use Rattle.sx_run.specs.Words.{words_asked}
 
 -- the words are refused, or the core text with the report, or the line of the first fault
 pub data Outcome : Type 0 where
@@ -61,9 +66,24 @@ of_loaded report loaded = outcome_of report (loading_of loaded) (text_of prelude
 unfoldable pub of_job : Paths → Job → Outcome
 of_job files job = of_loaded job.report (load files job.roots job.program)
 
-abbrev pub of_asked : Paths → Option Job → Outcome
-of_asked files None = usage
-of_asked files (Some job) = of_job files job
+-- the job of the program that `--make` makes
+abbrev pub made_job : Job
+made_job = record { roots = codes "." ∷ []; cache = None; report = false; kind = Core; program = program_path }
+
+-- the summary of a text, or the line of the fault
+abbrev pub summed : ℕ → Outcome → Outcome
+summed count usage = usage
+summed count (done text report) = done (summary count text) []
+summed count (fault line) = fault line
+
+-- so many libraries and a program that are made in memory: no file takes part
+unfoldable pub of_made : ℕ → Outcome
+of_made count = summed count (of_job (made_files count) made_job)
+
+abbrev pub of_words : Paths → Words → Outcome
+of_words files (Expand job) = of_job files job
+of_words files (Make count) = of_made count
+of_words files Usage = usage
 
 abbrev pub whole : Paths → List (List ℕ) → Outcome
-whole files words = of_asked files (job_asked words)
+whole files words = of_words files (words_asked words)

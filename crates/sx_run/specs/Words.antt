@@ -1,5 +1,5 @@
 -- What the words of a run ask for.
-use Rattle.std.specs.Prelude.{ℕ, List, map, Option, Some, None, String, string_bytes, codes}
+use Rattle.std.specs.Prelude.{ℕ, List, map, String, string_bytes, codes}
 use Rattle.std.specs.Global.{Global}
 use Rattle.sx_words.specs.Words.{asked_by}
 use Rattle.sx_words.specs.declared.job.Job.{Job}
@@ -12,18 +12,24 @@ abbrev pub texts : List (String Global) → List (List ℕ)
 texts words = map string_bytes words
 
 -- the map of identifiers isn't built: the words for it are refused
-abbrev pub of_kind : Job → Kind → Option Job
-of_kind job Core = Some job
-of_kind job Xref = None
+abbrev pub of_kind : Job → Kind → Words
+of_kind job Core = Expand job
+of_kind job Xref = Usage
 
--- the job that the words ask for; libraries made in memory aren't built, and the words for them are refused
-abbrev pub job_of : Words → Option Job
-job_of (Expand job) = of_kind job job.kind
-job_of (Make n) = None
-job_of Usage = None
+abbrev pub built : Words → Words
+built (Expand job) = of_kind job job.kind
+built (Make count) = Make count
+built Usage = Usage
 
-abbrev pub job_asked : List (List ℕ) → Option Job
-job_asked words = job_of (asked_by words)
+-- what the words ask for, of what is built
+abbrev pub words_asked : List (List ℕ) → Words
+words_asked words = built (asked_by words)
+
+-- the words read no file: they are refused, or ask for libraries that are made in memory
+abbrev pub ReadNone : Words → Type 0
+ReadNone (Expand job) = ⊥
+ReadNone (Make count) = Unit {0}
+ReadNone Usage = Unit {0}
 
 abbrev pub usage_line : List ℕ
 usage_line = codes "usage: scheme-expand [--root DIR[:DIR]...] [--cache DIR] [--report] [--write core|xref] PROGRAM | --make N\n"

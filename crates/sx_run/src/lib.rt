@@ -15,11 +15,18 @@
 //! gives, its core text or its first fault with its place; any other answer is a usage fault, a read or write fault
 //! that was counted in the call, or want of memory.
 //!
-//! `words` asks `sx_words` for the job that the words ask for, `prepare` makes all text with no sink at hand, by
-//! `sx_library` and what stands below it, and `top` writes it. The program `scheme_expand` calls it over the system's
-//! files and streams.
+//! `--make N` expands libraries that `sx_make` makes in memory, and writes one line on their core text:
+//!
+//! ```text
+//! out     libraries 2 lines 5 bytes 130                     for --make 2, and no file is read
+//! ```
+//!
+//! `words` asks `sx_words` what the words ask for, `prepare` makes all text with no sink at hand, by `sx_library` and
+//! what stands below it, `made` does so for `--make`, and `top` writes it. The program `scheme_expand` calls it over
+//! the system's files and streams.
 #![tactic(auto)]
 
+mod made;
 mod prepare;
 pub mod status;
 pub mod top;

@@ -3,16 +3,19 @@
 ghost use Rattle.std.specs.Prelude.{◌≡◌, []};
 ghost use Rattle.sx_outside.specs.Causes.{Rose};
 ghost use Rattle.sx_run.specs.Words.{texts};
-ghost use Rattle.sx_run.specs.Headline.{Sunk, Wrote, Reports, Finishes, Complains, Headline, Complete};
+ghost use Rattle.sx_run.specs.Headline.{Sunk, Wrote, Reports, Finishes, Complains, Headline, Complete, LeavesFiles};
+ghost use Rattle.sx_run.specs.Prepared.{Writes};
 
-use crate::prepare::{Unfinished, prepare};
+use crate::made::prepare_made;
+use crate::prepare::{Prepared, Unfinished, prepare};
 use crate::status::Status;
-use crate::words::job_asked;
+use crate::words::words_asked;
 use std::alloc::Global;
 use std::sync::ledger::Ledger;
 use sx_outside::{Files, Sink};
 use sx_prims::table::PrimTable;
 use sx_standing::means::Counts;
+use sx_words::words::Words;
 
 /// The line that is written where the words are refused.
 pub const USAGE: &[u8] =
@@ -61,24 +64,16 @@ fn complain<O: Sink, E: Sink>(out: &mut O, err: &mut E, line: &[u8], status: Sta
     }
 }
 
-fn run_words<F: Files, O: Sink, E: Sink, N: Ledger, L: Ledger>(
-    alloc: Global,
-    words: &[String],
-    outside: &mut Outside<F, O, E>,
-    primitives: &PrimTable,
-    counts: &mut Counts<N, L>,
+// Writes what was prepared, or the line of its fault.
+fn write<O: Sink, E: Sink>(
+    out: &mut O,
+    err: &mut E,
+    prepared: &Result<Prepared, Unfinished>,
 ) -> Status
-    ensures { Headline (F.told outside.old.files) (texts words.now) (F.faults outside.old.files) (F.faults outside.new.files)
-        (record { before = O.told outside.old.out; after = O.told outside.new.out; faults_before = O.faults outside.old.out; faults_after = O.faults outside.new.out; puts_before = O.puts outside.old.out; puts_after = O.puts outside.new.out })
-        (record { before = E.told outside.old.err; after = E.told outside.new.err; faults_before = E.faults outside.old.err; faults_after = E.faults outside.new.err; puts_before = E.puts outside.old.err; puts_after = E.puts outside.new.err }) result }
+    ensures { Writes prepared.now (record { before = O.told out.old; after = O.told out.new; faults_before = O.faults out.old; faults_after = O.faults out.new; puts_before = O.puts out.old; puts_after = O.puts out.new })
+        (record { before = E.told err.old; after = E.told err.new; faults_before = E.faults err.old; faults_after = E.faults err.new; puts_before = E.puts err.old; puts_after = E.puts err.new }) result }
 {
-    let Outside { files, out, err } = outside;
-    let job = match job_asked(alloc, words) {
-        Ok(Some(job)) => job,
-        Ok(None) => return complain(out, err, USAGE, Status::Usage),
-        Err(_) => return Status::Memory,
-    };
-    match prepare(alloc, &job, files, primitives, counts) {
+    match prepared {
         Ok(made) => finish(out, err, made.text.as_bytes(), made.report.as_bytes()),
         Err(Unfinished::Line(line)) => complain(out, err, line.as_bytes(), Status::Fault),
         Err(Unfinished::Read) => Status::ReadFault,
@@ -86,9 +81,37 @@ fn run_words<F: Files, O: Sink, E: Sink, N: Ledger, L: Ledger>(
     }
 }
 
+fn run_words<F: Files, O: Sink, E: Sink, N: Ledger, L: Ledger>(
+    alloc: Global,
+    words: &[String],
+    outside: &mut Outside<F, O, E>,
+    primitives: &PrimTable,
+    counts: &mut Counts<N, L>,
+) -> Status
+    ensures headline { Headline (F.told outside.old.files) (texts words.now) (F.faults outside.old.files) (F.faults outside.new.files)
+        (record { before = O.told outside.old.out; after = O.told outside.new.out; faults_before = O.faults outside.old.out; faults_after = O.faults outside.new.out; puts_before = O.puts outside.old.out; puts_after = O.puts outside.new.out })
+        (record { before = E.told outside.old.err; after = E.told outside.new.err; faults_before = E.faults outside.old.err; faults_after = E.faults outside.new.err; puts_before = E.puts outside.old.err; puts_after = E.puts outside.new.err }) result }
+    ensures files { LeavesFiles (texts words.now) outside.old.files outside.new.files }
+{
+    let Outside { files, out, err } = outside;
+    match words_asked(alloc, words) {
+        Ok(Words::Expand(job)) => {
+            let prepared = prepare(alloc, &job, files, primitives, counts);
+            write(out, err, &prepared)
+        }
+        Ok(Words::Make(count)) => {
+            let prepared = prepare_made(alloc, count, primitives, counts);
+            write(out, err, &prepared)
+        }
+        Ok(Words::Usage) => complain(out, err, USAGE, Status::Usage),
+        Err(_) => Status::Memory,
+    }
+}
+
 /// All that the program does. It reads the program that the words name, and writes its core text on `out`
-/// and behind it, where it is asked for, the report on `err`; or the line of its first fault on `err`. All
-/// text is made before the first write: `out` gets at most one put, and `err` at most one behind it.
+/// and behind it, where it is asked for, the report on `err`; or the line of its first fault on `err`. With
+/// `--make` it reads no file, and writes one line on what came of libraries made in memory. All text is made
+/// before the first write: `out` gets at most one put, and `err` at most one behind it.
 /// `primitives` computes those that transformers call. What is counted: the nodes that changes of syntax trees
 /// make, and the fuel that evaluations spend.
 pub fn run<F: Files, O: Sink, E: Sink, N: Ledger, L: Ledger>(
@@ -102,6 +125,7 @@ pub fn run<F: Files, O: Sink, E: Sink, N: Ledger, L: Ledger>(
         (record { before = O.told outside.old.out; after = O.told outside.new.out; faults_before = O.faults outside.old.out; faults_after = O.faults outside.new.out; puts_before = O.puts outside.old.out; puts_after = O.puts outside.new.out })
         (record { before = E.told outside.old.err; after = E.told outside.new.err; faults_before = E.faults outside.old.err; faults_after = E.faults outside.new.err; puts_before = E.puts outside.old.err; puts_after = E.puts outside.new.err }) result }
     ensures complete { Complete (F.told outside.old.files) (texts words.now) (Rose (F.faults outside.old.files) (F.faults outside.new.files)) (Rose (O.faults outside.old.out) (O.faults outside.new.out)) (Rose (E.faults outside.old.err) (E.faults outside.new.err)) result }
+    ensures files { LeavesFiles (texts words.now) outside.old.files outside.new.files }
 {
     run_words(alloc, words, outside, primitives, counts)
 }

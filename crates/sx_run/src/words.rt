@@ -1,33 +1,34 @@
-//! The job that the words of a run ask for.
+//! What the words of a run ask for.
 
 ghost use Rattle.std.specs.Prelude.{◌≡◌, IfOk};
-ghost use Rattle.sx_run.specs.Words.{texts, job_of, job_asked};
+ghost use Rattle.sx_run.specs.Words.{texts, built, words_asked};
 
 use std::alloc::Global;
 use sx_base::memory::Memory;
-use sx_words::job::{Job, Kind};
+use sx_words::job::Kind;
 use sx_words::words::{Words, read_words};
 
-/// The job that the words ask for, or none where they are refused.
-pub fn job_asked(alloc: Global, words: &[String]) -> Result<Option<Job>, Memory>
-    ensures { IfOk result (λ job. job ≡ job_asked (texts words.now)) }
+/// What the words ask for, of what is built.
+pub fn words_asked(alloc: Global, words: &[String]) -> Result<Words, Memory>
+    ensures { IfOk result (λ asked. asked ≡ words_asked (texts words.now)) }
 {
     let words = read_words(alloc, words)?;
-    Ok(job_of(words))
+    Ok(built(words))
 }
 
-// The map of identifiers and libraries made in memory aren't built: the words for them are refused.
-fn job_of(words: Words) -> Option<Job>
-    ensures { result ≡ job_of words }
+// The map of identifiers isn't built: the words for it are refused.
+fn built(words: Words) -> Words
+    ensures { result ≡ built words }
 {
     match words {
         Words::Expand(job) => {
             if job.kind == Kind::Core {
-                Some(job)
+                Words::Expand(job)
             } else {
-                None
+                Words::Usage
             }
         }
-        Words::Make(_) | Words::Usage => None,
+        Words::Make(count) => Words::Make(count),
+        Words::Usage => Words::Usage,
     }
 }

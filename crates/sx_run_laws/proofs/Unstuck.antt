@@ -1,5 +1,5 @@
 -- No run gets stuck, where loading ends and where it stops.
-use Rattle.std.proofs.Common.{◌≡◌, ℕ, zero, ◌+◌, List, [], ◌∷◌, Option, Some, None, Result, Ok, Err, refl, sym, ap, subst, arith}
+use Rattle.std.proofs.Common.{◌≡◌, ℕ, zero, ◌+◌, List, [], ◌∷◌, Result, Ok, Err, refl, sym, ap, subst, arith}
 use Rattle.std.specs.Prelude.{slice_get}
 use Rattle.sx_base.specs.Gives.{◌>>=◌}
 use Rattle.sx_base.specs.declared.fault.Fault.{Fault}
@@ -18,14 +18,17 @@ use Rattle.sx_load_laws.proofs.ReferLemmas.{IsSound}
 use Rattle.sx_outside.specs.Contents.{Paths}
 use Rattle.sx_plan.specs.Planned.{plan_of}
 use Rattle.sx_prelude.specs.Prelude.{prelude_table}
-use Rattle.sx_run.specs.Whole.{source_of, loading_of, outcome_of, of_job, of_asked}
-use Rattle.sx_run.specs.Words.{job_asked}
+use Rattle.sx_make.specs.Made.{made_files}
+use Rattle.sx_run.specs.Whole.{Outcome, usage, done, fault, source_of, loading_of, outcome_of, of_job, made_job, summed, of_made, of_words}
+use Rattle.sx_run.specs.Words.{words_asked}
 use Rattle.sx_run_laws.proofs.UserLemmas.{program_name}
 use Rattle.sx_words.specs.declared.job.Job.{Job}
+use Rattle.sx_words.specs.declared.words.Words.{Words}
+use Rattle.sx_words.specs.declared.words.Words.TheVariants.{Expand, Make, Usage}
 use Rattle.sx_kind_laws.specs.Kinds.{IsOfLoading, Tells}
 use Rattle.sx_kind_laws.specs.Laws.{LoadTells}
 use Rattle.sx_kind_laws.proofs.Loading.{loading-tells}
-use Rattle.sx_run_laws.specs.Stuck.{IsOther, TellsOther, RunsNeverStuck, WholeNeverStuck}
+use Rattle.sx_run_laws.specs.Stuck.{IsOther, TellsOther, AskedTellsOther, RunsNeverStuck, WholeNeverStuck}
 use Rattle.sx_prelude_code_laws.proofs.Table.{table-is-written}
 use Rattle.sx_run_laws.proofs.PreludeWorld.{written-texts}
 use Rattle.sx_run_laws.proofs.NamedFiles.{AllUsers, users-all, users-until}
@@ -109,20 +112,31 @@ runs-never-stuck files roots path = tells (text_of prelude_table (load files roo
 
 -- ---- the whole
 
-module _ (files : Paths) (words : List (List ℕ)) (job : Job) (asked : job_asked words ≡ Some job) where
-  outcome-other : (s : Loading) (r : Result (List ℕ) Fault) → text_of prelude_table (load files job.roots job.program) ≡ r → Tells IsOther r → TellsOther files words (outcome_of job.report s r)
+module _ (files : Paths) (job : Job) where
+  outcome-other : (s : Loading) (r : Result (List ℕ) Fault) → text_of prelude_table (load files job.roots job.program) ≡ r → Tells IsOther r → TellsOther files job (outcome_of job.report s r)
   outcome-other s (Ok text) e h = tt
-  outcome-other s (Err f) e h = record { job = job; asked = asked; told = f; gives = e; other = h; source = source_of s.sources f.span.file; is = refl }
+  outcome-other s (Err f) e h = record { told = f; gives = e; other = h; source = source_of s.sources f.span.file; is = refl }
 
-  job-other : TellsOther files words (of_job files job)
+  job-other : TellsOther files job (of_job files job)
   unfolding of_job
   job-other =
       let loaded = load files job.roots job.program in
       outcome-other (loading_of loaded) (text_of prelude_table loaded) refl (runs-never-stuck files job.roots job.program)
 
+-- the line of a fault is kept where a text is summed up
+summed-other : (files : Paths) (job : Job) (count : ℕ) (o : Outcome) → TellsOther files job o → TellsOther files job (summed count o)
+summed-other files job count usage h = tt
+summed-other files job count (done text report) h = tt
+summed-other files job count (fault line) h = h
+
+made-other : (count : ℕ) → TellsOther (made_files count) made_job (of_made count)
+unfolding of_made
+made-other count = summed-other (made_files count) made_job count (of_job (made_files count) made_job) (job-other (made_files count) made_job)
+
 pub whole-never-stuck : WholeNeverStuck
-whole-never-stuck files words = by (job_asked words) refl
+whole-never-stuck files words = by (words_asked words)
   where
-    by : (o : Option Job) → job_asked words ≡ o → TellsOther files words (of_asked files o)
-    by None e = tt
-    by (Some job) e = job-other files words job e
+    by : (asked : Words) → AskedTellsOther files asked (of_words files asked)
+    by (Expand job) = job-other files job
+    by (Make count) = made-other count
+    by Usage = refl

@@ -1,5 +1,5 @@
 -- No run gets stuck.
-use Rattle.std.specs.Prelude.{◌≡◌, ℕ, List, Some, Err}
+use Rattle.std.specs.Prelude.{◌≡◌, ℕ, List, Err}
 use Rattle.sx_base.specs.FaultLine.{fault_line}
 use Rattle.sx_base.specs.declared.fault.Fault.{Fault}
 use Rattle.sx_base.specs.declared.fault.FaultKind.{FaultKind}
@@ -10,29 +10,36 @@ use Rattle.sx_library.specs.Loaded.{text_of}
 use Rattle.sx_load.specs.Load.{load}
 use Rattle.sx_outside.specs.Contents.{Paths}
 use Rattle.sx_prelude.specs.Prelude.{prelude_table}
-use Rattle.sx_run.specs.Whole.{Outcome, usage, done, fault, whole}
-use Rattle.sx_run.specs.Words.{job_asked}
+use Rattle.sx_make.specs.Made.{made_files}
+use Rattle.sx_run.specs.Whole.{Outcome, usage, done, fault, made_job, whole}
+use Rattle.sx_run.specs.Words.{words_asked}
 use Rattle.sx_steady_laws.specs.Libraries.{AreTexts}
 use Rattle.sx_words.specs.declared.job.Job.{Job}
+use Rattle.sx_words.specs.declared.words.Words.{Words}
+use Rattle.sx_words.specs.declared.words.Words.TheVariants.{Expand, Make, Usage}
 
 -- any kind but that of cells that don't fit
 abbrev pub IsOther : FaultKind → Type 0
 IsOther k = k ≡ kind.Stuck → ⊥
 
--- The line of the fault of the job that the words ask for, which is of another kind.
-pub record IsLineOfOther (files : Paths) (words : List (List ℕ)) (line : List ℕ) : Type 0 where
-  pub job : Job
-  pub asked : job_asked words ≡ Some job
+-- The line of the fault of a job, which is of another kind.
+pub record IsLineOfOther (files : Paths) (job : Job) (line : List ℕ) : Type 0 where
   pub told : Fault
   pub gives : text_of prelude_table (load files job.roots job.program) ≡ Err told
   pub other : IsOther told.kind
   pub source : List ℕ
   pub is : line ≡ fault_line told source
 
-abbrev pub TellsOther : Paths → List (List ℕ) → Outcome → Type 0
-TellsOther files words usage = Unit {0}
-TellsOther files words (done text report) = Unit {0}
-TellsOther files words (fault line) = IsLineOfOther files words line
+abbrev pub TellsOther : Paths → Job → Outcome → Type 0
+TellsOther files job usage = Unit {0}
+TellsOther files job (done text report) = Unit {0}
+TellsOther files job (fault line) = IsLineOfOther files job line
+
+-- The fault, where there is one, is that of the job that the words ask for, or of the program that they ask to be made.
+abbrev pub AskedTellsOther : Paths → Words → Outcome → Type 0
+AskedTellsOther files (Expand job) outcome = TellsOther files job outcome
+AskedTellsOther files (Make count) outcome = TellsOther (made_files count) made_job outcome
+AskedTellsOther files Usage outcome = outcome ≡ usage
 
 -- The codes of the texts of the prelude, as they are written out, make a whole world.
 abbrev pub WrittenTextsAreTexts : Type 0
@@ -44,4 +51,4 @@ RunsNeverStuck = (files : Paths) (roots : List (List ℕ)) (path : List ℕ) →
 
 -- so whatever the files and the words
 abbrev pub WholeNeverStuck : Type 0
-WholeNeverStuck = (files : Paths) (words : List (List ℕ)) → TellsOther files words (whole files words)
+WholeNeverStuck = (files : Paths) (words : List (List ℕ)) → AskedTellsOther files (words_asked words) (whole files words)

@@ -1,1 +1,0 @@
-(import (rnrs base)) (define x 1) (+ x 2)

@@ -1,0 +1,26 @@
+(import (rnrs) (rnrs enums))
+
+(define (show object)
+  (write object)
+  (newline))
+
+(define colours (make-enumeration '(red green blue)))
+(define colour-set (enum-set-constructor colours))
+(define index (enum-set-indexer colours))
+
+(show (enum-set->list (colour-set '(blue red))))
+(show (list (index 'red) (index 'blue) (index 'mauve)))
+(show (enum-set-member? 'green (colour-set '(green))))
+(show (enum-set-subset? (colour-set '(red)) (colour-set '(red blue))))
+(show (enum-set=? (colour-set '(red blue)) (colour-set '(blue red))))
+(show (enum-set->list (enum-set-union (colour-set '(red)) (colour-set '(green)))))
+(show (enum-set->list (enum-set-intersection (colour-set '(red green)) (colour-set '(green blue)))))
+(show (enum-set->list (enum-set-difference (colour-set '(red green)) (colour-set '(green blue)))))
+(show (enum-set->list (enum-set-complement (colour-set '(red)))))
+(show (enum-set->list (enum-set-projection (colour-set '(red blue)) (make-enumeration '(black red white)))))
+(show (enum-set->list (enum-set-universe (colour-set '()))))
+
+(define-enumeration colour (black white purple maroon) colours-of)
+(show (colour black))
+(show (enum-set->list (colours-of maroon white)))
+(show (enum-set->list (enum-set-complement (colours-of))))
