@@ -1,4 +1,5 @@
 pub mod Bodies
+pub mod Linked
 pub mod Settling
 pub mod Steps
 pub mod Taking

@@ -16,7 +16,8 @@ use Rattle.sx_standing.specs.State.{State, state_code, Does}
 use Rattle.sx_standing.specs.Start.{started, first_frame}
 use Rattle.sx_expand.specs.Body.{body}
 use Rattle.sx_expand.specs.Expression.{inside, full_room}
-use Rattle.sx_expand.specs.Top.{record_in, top}
+use Rattle.sx_expand.specs.Top.{record_in, linked_in, top}
+use Rattle.sx_expand.specs.declared.top.Linked.{Linked}
 use Rattle.sx_expand.specs.declared.top.TopAt.{TopAt}
 
 pub record Expanding : Type 0 where
@@ -52,3 +53,7 @@ body_of e version place = record { path = e.path; version = version; frame = e.f
 -- the record of a library or program with these exports and forms, behind these records
 abbrev pub library_record : Expanding → List LibRecord → List ℕ → Span → List (List ℕ × Tree) → List Tree → Result LibRecord Fault
 library_record e rs version place exports forms = record_in (top (inside rs full_room) (body_of e version place) exports forms e.state)
+
+-- the same, with the links of its expansion
+abbrev pub library_linked : Expanding → List LibRecord → List ℕ → Span → List (List ℕ × Tree) → List Tree → Result Linked Fault
+library_linked e rs version place exports forms = linked_in (top (inside rs full_room) (body_of e version place) exports forms e.state)

@@ -4,11 +4,18 @@ use Rattle.sx_base.specs.Act.{after, give}
 use Rattle.sx_base.specs.declared.fault.FaultKind.TheVariants as kind
 use Rattle.sx_base.specs.declared.name.FrameNo.{FrameNo}
 use Rattle.sx_base.specs.declared.name.Label.{Label}
+use Rattle.sx_base.specs.declared.op.Op.{Op}
 use Rattle.sx_base.specs.declared.span.Span.{Span}
 use Rattle.sx_tree.specs.Tree.{Tree}
 use Rattle.sx_core.specs.declared.record.LibRecord.{LibRecord}
 use Rattle.sx_shapes.specs.At.{place_of}
-use Rattle.sx_standing.specs.State.{State, Does, fault_form, fault_word}
+use Rattle.sx_base.specs.declared.library.LibName.TheVariants as library
+use Rattle.sx_core.specs.Core as core
+use Rattle.sx_core.specs.Core.{PlainCore}
+use Rattle.sx_core.specs.declared.link.LinkKind.TheVariants as link
+use Rattle.sx_tree.specs.Tree as tree
+use Rattle.sx_tree.specs.Tree.{span_of}
+use Rattle.sx_standing.specs.State.{State, Does, fault_form, fault_word, noted}
 use Rattle.sx_standing.specs.RecordUses.{use_record}
 use Rattle.sx_standing.specs.Uses.{use_keyword, asks_variable}
 use Rattle.sx_heads.specs.Items.{alone, wait, item_plan}
@@ -55,9 +62,33 @@ step_of rs place t p s = give (steps.Plan p) s
 unfoldable pub step : List LibRecord → Span → ℕ → Tree → Does Step
 step rs place level t s = after (plan_of place level t s) (step_of rs place t)
 
+abbrev pub first_span : Tree → Option Span
+first_span (tree.pair p id rest) = span_of id
+first_span t = None
+
+-- the identifier that is assigned
+abbrev pub target_span : Tree → Option Span
+target_span (tree.pair p head rest) = first_span rest
+target_span t = None
+
+-- the label of a primitive is its number among the names of the implementation
+abbrev pub linked_primitive : Tree → Op → State → State
+linked_primitive t o s = noted (span_of t) (record { 0 = record { library = library.Core; number = o.0 } }) (link.Prim o) s
+
+abbrev pub linked_code : Tree → PlainCore → State → State
+linked_code t (core.variable l) s = noted (span_of t) l link.Refer s
+linked_code t (core.primitive o) s = linked_primitive t o s
+linked_code t c s = s
+
+-- references, and the targets of assignments, are linked
+abbrev pub linked : Tree → Plan → State → State
+linked t (plans.Done c) s = linked_code t c s
+linked t (plans.Assignment l value) s = noted (target_span t) l link.Refer s
+linked t p s = s
+
 abbrev pub settled_by : (KeywordUse → Does Settled) → Span → Tree → Step → Does Settled
-settled_by onward place t (steps.Plan p) = give (record { place = place; form = t; plan = p })
-settled_by onward place t (steps.Use k) = onward k
+settled_by onward place t (steps.Plan p) s = Ok (record { place = place; form = t; plan = p }, linked t p s)
+settled_by onward place t (steps.Use k) s = onward k s
 
 -- what is to be done with the form that comes of uses, where so many are left
 unfoldable pub settle_to : List LibRecord → ℕ → Span → ℕ → Tree → Does Settled

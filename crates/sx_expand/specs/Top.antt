@@ -27,6 +27,7 @@ use Rattle.sx_heads.specs.declared.taken.BodyKind.TheVariants as body_kind
 use Rattle.sx_heads.specs.declared.taken.Taken.{Taken}
 use Rattle.sx_expand.specs.Inside.{Inside}
 use Rattle.sx_expand.specs.Body.{splice, finish_all}
+use Rattle.sx_expand.specs.declared.top.Linked.{Linked}
 use Rattle.sx_expand.specs.declared.top.TopAt.{TopAt}
 
 -- The exports, which are looked for between the two passes.
@@ -94,6 +95,11 @@ give_record at es lines s = Ok (record_of at es lines s, s)
 abbrev pub record_in : Result (LibRecord × State) Fault → Result LibRecord Fault
 record_in (Err e) = Err e
 record_in (Ok p) = Ok p.0
+
+-- a record, and which identifiers stand for which labels in its expansion
+abbrev pub linked_in : Result (LibRecord × State) Fault → Result Linked Fault
+linked_in (Err e) = Err e
+linked_in (Ok p) = Ok (record { library = p.0; links = p.1.links })
 
 abbrev pub kind_of : LibName → BodyKind
 kind_of library.Core = body_kind.Library

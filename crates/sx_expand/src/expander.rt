@@ -6,13 +6,13 @@ ghost use Rattle.sx_base.specs.Gives.{Gives};
 ghost use Rattle.sx_eval.specs.Codes as table;
 ghost use Rattle.sx_stage.specs.Libraries.{earlier_in};
 ghost use Rattle.sx_standing.specs.Ready.{needed_records};
-ghost use Rattle.sx_expand.specs.Expanding.{ready, expression, lambda_body, library_record};
+ghost use Rattle.sx_expand.specs.Expanding.{ready, expression, lambda_body, library_record, library_linked};
 
 use crate::at::{FormAt, OuterAt};
 use crate::body::{BodyForm, body};
 use crate::expression::expression;
 use crate::inside::ROOM;
-use crate::top::{TopAt, TopBody, top};
+use crate::top::{Linked, TopAt, TopBody, top};
 use indexmap::IndexMap;
 use std::alloc::Global;
 use std::marker::Model;
@@ -160,6 +160,21 @@ impl Expander {
         let mut expander = self;
         library_record(&mut expander, body, means, counts)
     }
+
+    /// The record, as `top` gives it, and which identifiers stand for which labels: each identifier with a span that is
+    /// bound as a variable, refers to a variable or a primitive, or is assigned, in the order of expansion.
+    pub fn top_linked<N: Ledger, L: Ledger>(
+        self,
+        body: LibraryBody,
+        means: &Means,
+        counts: &mut Counts<N, L>,
+    ) -> Result<Linked, Stop>
+        requires { self.failed ≡ false }
+        ensures { Gives (λ r. r) result (library_linked self (earlier_in means.now.earlier) body.entry.version body.entry.place.now body.entry.exports.now body.entry.forms) }
+    {
+        let mut expander = self;
+        library_linked(&mut expander, body, means, counts)
+    }
 }
 
 #[tactic(auto, unfolding(sx_standing::specs::Start::started))]
@@ -203,6 +218,7 @@ fn body_of(
 }
 
 /// As `Expander::top`: only the caller owns the expander.
+#[tactic(auto, using(crate::proofs::Linked::record_given, crate::proofs::Linked::record_stops))]
 fn library_record<N: Ledger, L: Ledger>(
     expander: &mut Expander,
     body: LibraryBody,
@@ -210,6 +226,24 @@ fn library_record<N: Ledger, L: Ledger>(
     counts: &mut Counts<N, L>,
 ) -> Result<LibRecord, Stop>
     ensures { Gives (λ r. r) result (library_record expander.old (earlier_in means.now.earlier) body.entry.version body.entry.place.now body.entry.exports.now body.entry.forms) }
+{
+    match library_linked(expander, body, means, counts) {
+        Ok(linked) => {
+            let Linked { library, .. } = linked;
+            Ok(library)
+        }
+        Err(stop) => Err(stop),
+    }
+}
+
+/// As `Expander::top_linked`: only the caller owns the expander.
+fn library_linked<N: Ledger, L: Ledger>(
+    expander: &mut Expander,
+    body: LibraryBody,
+    means: &Means,
+    counts: &mut Counts<N, L>,
+) -> Result<Linked, Stop>
+    ensures { Gives (λ r. r) result (library_linked expander.old (earlier_in means.now.earlier) body.entry.version body.entry.place.now body.entry.exports.now body.entry.forms) }
 {
     let LibraryBody {
         forms,

@@ -30,6 +30,7 @@ pub mod expression;
 pub mod inside;
 pub mod keywords;
 pub mod libraries;
+pub mod links;
 pub mod patterns;
 pub mod quasi;
 pub mod settle;

@@ -1,10 +1,11 @@
 //! Uses of keywords (R6RS 10): one gives another form in its place, until a form is no use.
 
-ghost use Rattle.std.specs.Prelude.{◌≡◌, IfOk};
+ghost use Rattle.std.specs.Prelude.{◌≡◌, IfOk, Ok};
 ghost use Rattle.sx_base.specs.Act.{GivesAfter};
-ghost use Rattle.sx_expand.specs.Settle.{used_form, next_form, set_step, step_of, step, settle, at_use, set_item_step, item_step_of, item_step, settle_item};
+ghost use Rattle.sx_expand.specs.Settle.{used_form, next_form, set_step, step_of, step, linked, settle, at_use, set_item_step, item_step_of, item_step, settle_item};
 
 use crate::at::{FormAt, ItemAt, ItemForm};
+use crate::links::link;
 use crate::transformers::Transformers;
 use std::sync::ledger::Ledger;
 use sx_base::fault::{FaultKind, Stop};
@@ -169,6 +170,14 @@ fn next_step<M: Transformers, N: Ledger, L: Ledger>(
     step_of(state, form, plan, at, counts)
 }
 
+/// A form that is no use, and its plan. The identifier that it is, or that it assigns, is linked.
+fn settled(state: &mut Expansion, place: Span, form: Syn, plan: Plan) -> Result<Settled, Stop>
+    ensures { GivesAfter (λ d. d) result state.new (Ok (record { place = place; form = form; plan = plan }, linked form plan state.old)) }
+{
+    link(state, &form, &plan)?;
+    Ok(Settled { place, form, plan })
+}
+
 /// What is to be done with the form that comes of the uses of keywords that a form begins with. What comes of
 /// a use stands at the place of the use.
 pub(crate) fn settle<M: Transformers, N: Ledger, L: Ledger>(
@@ -188,7 +197,7 @@ pub(crate) fn settle<M: Transformers, N: Ledger, L: Ledger>(
             ..*at
         };
         let keyword = match next_step(state, &form, &here, counts)? {
-            Step::Plan(plan) => return Ok(Settled { place, form, plan }),
+            Step::Plan(plan) => return settled(state, place, form, plan),
             Step::Use(keyword) => keyword,
         };
         if left == 0 {

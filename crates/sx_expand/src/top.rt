@@ -6,7 +6,7 @@ ghost use Rattle.sx_base.specs.Gives.{Gives};
 ghost use Rattle.sx_stage.specs.Libraries.{earlier_in};
 ghost use Rattle.sx_expand.specs.Body.{finish_one, finish_all, splice};
 ghost use Rattle.sx_expand.specs.Expression.{inside, full_room};
-ghost use Rattle.sx_expand.specs.Top.{export, all_exports, exports, with_label_of, with_labels_of, code_of, with_lines_of, refs_of, record_of, record_in, kind_of, body_at, first_pass, finished, top};
+ghost use Rattle.sx_expand.specs.Top.{export, all_exports, exports, with_label_of, with_labels_of, code_of, with_lines_of, refs_of, record_of, linked_in, kind_of, body_at, first_pass, finished, top};
 
 use crate::at::{FormAt, ItemAt};
 use crate::body::{begun, finish_one, item};
@@ -24,6 +24,7 @@ use sx_base::span::Span;
 use sx_base::steps::Steps;
 use sx_base::symbol::Symbol;
 use sx_core::code::Core;
+use sx_core::link::Link;
 use sx_core::record::{LibRecord, Line};
 use sx_core::references::references;
 use sx_heads::taken::{BodyAt, BodyKind, Taken, Waiting};
@@ -51,6 +52,13 @@ pub struct TopBody<'a> {
     pub at: TopAt,
     /// External names, each with the identifier that it stands for.
     pub exports: &'a [(Symbol, Syn)],
+}
+
+/// The record of a library or program, and its links in the order in which they were noted.
+#[derive(Drop)]
+pub struct Linked {
+    pub library: LibRecord,
+    pub links: Items<Link>,
 }
 
 /// The label that an export stands for, with its external name.
@@ -157,7 +165,8 @@ fn record_of(
     exports: Items<(Symbol, Label)>,
     lines: Vec<Line>,
 ) -> Result<LibRecord, Memory>
-    ensures { IfOk result (λ r. r ≡ record_of at exports lines.items state.old) }
+    ensures given { IfOk result (λ r. r ≡ record_of at exports lines.items state.old) }
+    ensures links { state.new.links ≡ state.old.links }
 {
     let alloc = state.alloc();
     let name = share_library(alloc, state.library())?;
@@ -229,8 +238,8 @@ fn finished<N: Ledger, L: Ledger>(
     taken: Taken,
     means: &Means,
     counts: &mut Counts<N, L>,
-) -> Result<LibRecord, Stop>
-    ensures { Gives (λ r. r) result (record_in (finished (inside (earlier_in means.now.earlier) full_room) body.entry.at body.entry.exports.now taken state.old)) }
+) -> Result<Linked, Stop>
+    ensures { Gives (λ r. r) result (linked_in (finished (inside (earlier_in means.now.earlier) full_room) body.entry.at body.entry.exports.now taken state.old)) }
 {
     let TopBody { at, exports: list } = body;
     let exports = exports(state, &at, list, counts.nodes)?;
@@ -244,7 +253,9 @@ fn finished<N: Ledger, L: Ledger>(
         means,
     };
     let lines = finish_each(state, waiting, &second, counts)?;
-    Ok(record_of(state, at, exports, lines)?)
+    let library = record_of(state, at, exports, lines)?;
+    let links = state.take_links();
+    Ok(Linked { library, links })
 }
 
 fn body_at(state: &Expansion, at: &TopAt) -> Result<BodyAt, Memory>
@@ -305,7 +316,7 @@ fn first_pass<N: Ledger, L: Ledger>(
     Ok(taken)
 }
 
-/// The body of a library or program: its record. Nothing is known of the state that is left.
+/// The body of a library or program: its record and links. Nothing is known of the state that is left.
 #[tactic(auto, unfolding(crate::specs::Top::top))]
 pub fn top<N: Ledger, L: Ledger>(
     state: &mut Expansion,
@@ -313,8 +324,8 @@ pub fn top<N: Ledger, L: Ledger>(
     forms: Items<Syn>,
     means: &Means,
     counts: &mut Counts<N, L>,
-) -> Result<LibRecord, Stop>
-    ensures { Gives (λ r. r) result (record_in (top (inside (earlier_in means.now.earlier) full_room) body.entry.at body.entry.exports.now forms state.old)) }
+) -> Result<Linked, Stop>
+    ensures { Gives (λ r. r) result (linked_in (top (inside (earlier_in means.now.earlier) full_room) body.entry.at body.entry.exports.now forms state.old)) }
 {
     let taken = first_pass(state, &body.at, forms, means, counts)?;
     finished(state, body, taken, means, counts)

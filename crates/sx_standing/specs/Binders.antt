@@ -23,7 +23,9 @@ use Rattle.sx_shapes.specs.At.{place_of}
 use Rattle.sx_shapes.specs.Lists.{is_leaf}
 use Rattle.sx_base.specs.declared.fault.FaultKind.TheVariants as kind
 use Rattle.sx_standing.specs.declared.binders.BoundSpec.{BoundSpec}
-use Rattle.sx_standing.specs.State.{State, Does, fresh, fault_form}
+use Rattle.sx_core.specs.declared.link.LinkKind.TheVariants as link
+use Rattle.sx_tree.specs.Tree.{span_of}
+use Rattle.sx_standing.specs.State.{State, Does, fresh, fault_form, note}
 use Rattle.sx_standing.specs.InScope.{with_local}
 
 -- the number of a variable of level 0 among those of the library
@@ -57,7 +59,7 @@ abbrev pub put_variable : Label → VarInfo → Does (Unit {0})
 put_variable l v s = Ok (tt, record s { bindings = s.bindings ++ (l, binding.Variable v) ∷ []; index = next_index v.level s.index; scope = with_local v.top l s.scope })
 
 abbrev pub bind_as : FrameNo → Tree → Span → ℕ → Bool → Named → Does Label
-bind_as frame id place level top n s = after (put_row id place frame (record { 0 = n }) s) (λ _ t. after (put_variable (record { 0 = n }) (variable_for id level top s.index) t) (λ _. give (record { 0 = n })))
+bind_as frame id place level top n s = after (put_row id place frame (record { 0 = n }) s) (λ _ t. after (put_variable (record { 0 = n }) (variable_for id level top s.index) t) (λ _. note (record { 0 = n }) (span_of id) (record { 0 = n }) link.Bind))
 
 -- binds an identifier in a frame to a new variable; a second binder of one identifier is at fault
 unfoldable pub bind_variable : FrameNo → Span → ℕ → Bool → Tree → Does Label

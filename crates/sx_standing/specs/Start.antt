@@ -63,4 +63,5 @@ started library records imports codes = record {
   evaluated = [];
   keywords = [];
   spent = 0;
+  links = [];
 }

@@ -1,5 +1,5 @@
 -- The state of a library's expansion.
-use Rattle.std.specs.Prelude.{ℕ, ◌+◌, List, [], ◌∷◌, Result, Ok, Err, refl}
+use Rattle.std.specs.Prelude.{ℕ, ◌+◌, List, [], ◌∷◌, ◌++◌, Option, None, Some, Result, Ok, Err, refl}
 use Rattle.std.specs.Coded.{Coded, code_by, coded×, coded_ℕ, coded_list}
 use Rattle.sx_base.specs.Act.{Act, fail}
 use Rattle.sx_base.specs.Named.{Named}
@@ -15,7 +15,10 @@ use Rattle.sx_tree.specs.Tree.{Tree}
 use Rattle.sx_frames.specs.Scope.{Scope}
 use Rattle.sx_scope.specs.Stands.{symbol_of}
 use Rattle.sx_core.specs.Bindings.{bindings_code}
+use Rattle.sx_core.specs.contracts.link.Link as link_rows
 use Rattle.sx_core.specs.declared.binding.Binding.{Binding}
+use Rattle.sx_core.specs.declared.link.Link.{Link}
+use Rattle.sx_core.specs.declared.link.LinkKind.{LinkKind}
 use Rattle.sx_value.specs.declared.cell.Cell.{Cell}
 use Rattle.sx_value.specs.declared.value.Value.{Value}
 use Rattle.sx_eval.specs.Codes.{Codes}
@@ -44,6 +47,7 @@ pub record State : Type 0 where
   pub evaluated : List LibName
   pub keywords : List (Label × Keyword)
   pub spent : ℕ
+  pub links : List Link
 
 -- The stage of an expansion.
 
@@ -73,10 +77,10 @@ with_stage g s = record s {
 
 -- a code of states, by that of their fields
 abbrev pub Fields : Type 0
-Fields = LibName × (PlainStage × (List (Label × Binding) × (List Label × (List Label × (ℕ × (ℕ × (ℕ × List Label)))))))
+Fields = LibName × (PlainStage × (List (Label × Binding) × (List Label × (List Label × (ℕ × (ℕ × (ℕ × (List Label × List Link))))))))
 
 abbrev pub fields_of : State → Fields
-fields_of s = (s.library, (stage_of s, (s.bindings, (s.exports, (s.assigned, (s.uses_left, (s.record_types, (s.index, s.scope))))))))
+fields_of s = (s.library, (stage_of s, (s.bindings, (s.exports, (s.assigned, (s.uses_left, (s.record_types, (s.index, (s.scope, s.links)))))))))
 
 abbrev pub of_fields : Fields → State
 of_fields f = record {
@@ -89,13 +93,14 @@ of_fields f = record {
   uses_left = f.1.1.1.1.1.0;
   record_types = f.1.1.1.1.1.1.0;
   index = f.1.1.1.1.1.1.1.0;
-  scope = f.1.1.1.1.1.1.1.1;
+  scope = f.1.1.1.1.1.1.1.1.0;
   cells = f.1.0.cells;
   codes = f.1.0.codes;
   globals = f.1.0.globals;
   evaluated = f.1.0.evaluated;
   keywords = f.1.0.keywords;
   spent = f.1.0.spent;
+  links = f.1.1.1.1.1.1.1.1.1;
 }
 
 abbrev pub labels_code : Coded (List Label)
@@ -103,7 +108,7 @@ labels_code = coded_list labels.the_row.coded
 
 abbrev pub state_code : Coded State
 state_code = code_by Fields
-    (coded× libraries.the_row.coded (coded× stage_code (coded× bindings_code (coded× labels_code (coded× labels_code (coded× coded_ℕ (coded× coded_ℕ (coded× coded_ℕ labels_code))))))))
+    (coded× libraries.the_row.coded (coded× stage_code (coded× bindings_code (coded× labels_code (coded× labels_code (coded× coded_ℕ (coded× coded_ℕ (coded× coded_ℕ (coded× labels_code (coded_list link_rows.the_row.coded))))))))))
     fields_of of_fields (λ _. refl)
 
 abbrev pub Does : Type 0 → Type 0
@@ -123,6 +128,14 @@ fresh s = Ok (s.names, record s { names = record { library = s.names.library; nu
 
 unfoldable pub fresh_frame : Does FrameNo
 fresh_frame s = Ok (record { 0 = s.names }, record s { names = record { library = s.names.library; number = s.names.number + 1 } })
+
+-- an identifier with a span is linked to what it stands for
+abbrev pub noted : Option Span → Label → LinkKind → State → State
+noted None l k s = s
+noted (Some p) l k s = record s { links = s.links ++ record { span = p; label = l; kind = k } ∷ [] }
+
+abbrev pub note : {A : Type 0} → A → Option Span → Label → LinkKind → Does A
+note x p l k s = Ok (x, noted p l k s)
 
 -- a fault at a form, or at one of its identifiers with the identifier's symbol as word
 abbrev pub fault_form : {A : Type 0} → kind.the_data → Tree → Span → Does A

@@ -12,6 +12,7 @@ use sx_base::name::{FrameNo, Label, Name};
 use sx_base::span::Span;
 use sx_core::binding::{Binding, VarInfo};
 use sx_core::formals::Formals;
+use sx_core::link::LinkKind;
 use sx_shapes::at::place_of;
 use sx_shapes::lists::is_id;
 use sx_shapes::shape::{BindingSpec, FormalIds};
@@ -118,6 +119,7 @@ impl Expansion {
         self.bind_row(context.frame, id, &label, context.place)?;
         let bound = label.share()?;
         self.add_binding(bound, info)?;
+        self.note(id, &label, LinkKind::Bind)?;
         Ok(label)
     }
 

@@ -21,6 +21,7 @@
 pub mod binders;
 pub mod expansion;
 pub mod in_scope;
+pub mod links;
 pub mod means;
 pub mod own;
 pub mod patterns;

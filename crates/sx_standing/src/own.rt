@@ -128,7 +128,8 @@ impl Expansion {
     /// What the library's labels are bound to, rising by number. It takes one name more.
     #[tactic(auto, unfolding(crate::specs::Own::own_bindings))]
     pub fn own_bindings(&mut self) -> Result<Items<(Label, Binding)>, Memory>
-        ensures { IfOk result (λ rows. rows ≡ own_bindings self.old) }
+        ensures rows { IfOk result (λ rows. rows ≡ own_bindings self.old) }
+        ensures links { self.new.links ≡ self.old.links }
     {
         let Ok(next) = self.stage.fresh() else {
             return Err(Memory);

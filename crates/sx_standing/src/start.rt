@@ -231,6 +231,7 @@ fn expansion_with(
       evaluated = [];
       keywords = [];
       spent = 0;
+      links = [];
     } }
 {
     let Beginning {
@@ -250,6 +251,7 @@ fn expansion_with(
         record_types: 0,
         index: 0,
         scope: InScope::new(alloc),
+        links: Items::new(alloc),
     }
 }
 

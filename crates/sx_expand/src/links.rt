@@ -1,0 +1,71 @@
+//! Links of references, and of the targets of assignments (R6RS 11.4.1 and 11.4.4).
+
+ghost use Rattle.std.specs.Prelude.{◌≡◌, OnOk};
+ghost use Rattle.sx_core.specs.declared.link.LinkKind.TheVariants as links;
+ghost use Rattle.sx_standing.specs.State.{noted};
+ghost use Rattle.sx_expand.specs.Settle.{linked, linked_code, linked_primitive, target_span, first_span};
+
+use std::rc::Rc;
+use sx_base::library::LibName;
+use sx_base::memory::Memory;
+use sx_base::name::{Label, Name};
+use sx_base::op::Op;
+use sx_core::code::{Core, CoreNode};
+use sx_core::link::LinkKind;
+use sx_heads::plan::Plan;
+use sx_standing::expansion::Expansion;
+use sx_syntax::syn::{Opened, Syn};
+
+/// Links an identifier to a primitive.
+fn link_primitive(state: &mut Expansion, id: &Syn, op: Op) -> Result<(), Memory>
+    ensures { OnOk result (state.new ≡ linked_primitive id.now op state.old) }
+{
+    let library = Rc::new(state.alloc(), LibName::Core)?;
+    let label = Label(Name {
+        library,
+        number: u64::from(op.0),
+    });
+    state.note(id, &label, LinkKind::Prim(op))
+}
+
+/// Links a form that is a reference to a variable or a primitive.
+fn link_code(state: &mut Expansion, form: &Syn, core: &Core) -> Result<(), Memory>
+    ensures { OnOk result (state.new ≡ linked_code form.now core.now state.old) }
+{
+    match &core.node {
+        CoreNode::Ref(label) => state.note(form, label, LinkKind::Refer),
+        CoreNode::Prim(op) => link_primitive(state, form, *op),
+        _ => Ok(()),
+    }
+}
+
+/// Links the first element of a list to the variable that it stands for.
+fn link_first(state: &mut Expansion, list: &Syn, label: &Label) -> Result<(), Memory>
+    ensures { OnOk result (state.new ≡ noted (first_span list.now) label.now links.Refer state.old) }
+{
+    match list.open(state.alloc())? {
+        Opened::Pair(id, _) => state.note(&id, label, LinkKind::Refer),
+        _ => Ok(()),
+    }
+}
+
+/// Links the target of an assignment to the variable that it stands for.
+fn link_target(state: &mut Expansion, form: &Syn, label: &Label) -> Result<(), Memory>
+    ensures { OnOk result (state.new ≡ noted (target_span form.now) label.now links.Refer state.old) }
+{
+    match form.open(state.alloc())? {
+        Opened::Pair(_, rest) => link_first(state, &rest, label),
+        _ => Ok(()),
+    }
+}
+
+/// Links a form that is a reference, or the target of one that is an assignment.
+pub(crate) fn link(state: &mut Expansion, form: &Syn, plan: &Plan) -> Result<(), Memory>
+    ensures { OnOk result (state.new ≡ linked form.now plan.now state.old) }
+{
+    match plan {
+        Plan::Done(core) => link_code(state, form, core),
+        Plan::Assignment(label, _) => link_target(state, form, label),
+        _ => Ok(()),
+    }
+}
