@@ -14,6 +14,7 @@ use Rattle.sx_core.specs.Labels.{same_label}
 use Rattle.sx_core.specs.declared.binding.Binding.{Binding}
 use Rattle.sx_core.specs.declared.binding.Binding.TheVariants as binding
 use Rattle.sx_core.specs.declared.binding.VarInfo.{VarInfo}
+use Rattle.sx_core.specs.declared.link.Link.{Link}
 use Rattle.sx_core_laws.specs.Templates.{Depths}
 use Rattle.sx_core_laws.specs.Words.{Each, Among}
 use Rattle.sx_stage.specs.Stage.{expression_in, keyword_at}
@@ -56,6 +57,11 @@ module _ (own : LibName) where
 module _ (own : LibName) where
   pub later-self : (s : State) → s.names.library ≡ own → Later own s s
   later-self s n = record { here = refl; next = n; up = omega arith; same = λ f o. refl; grows = grows-self own s; scope = refl; tops = λ l v o b. b; keeps = keeps-self own s }
+
+  -- links are no part of what a later state keeps
+  pub later-links : (s : State) (ls : List Link) → s.names.library ≡ own → Later own s (record s { links = ls })
+  later-links s ls n =
+      record { here = refl; next = n; up = omega arith; same = λ f o. refl; grows = grows-same own s (record s { links = ls }) refl refl refl (omega arith); scope = refl; tops = λ l v o b. b; keeps = keeps-same own s (record s { links = ls }) refl refl }
 
   pub later-then : (s t u : State) → Later own s t → Later own t u → Later own s u
   later-then s t u h k = record {

@@ -15,7 +15,7 @@ use Rattle.sx_base.specs.declared.span.Span.{Span}
 use Rattle.sx_tree.specs.Changes.{stamp}
 use Rattle.sx_tree.specs.Leaves.{marks_of}
 use Rattle.sx_tree.specs.SameMarks.{same_marks, same_marks_equiv}
-use Rattle.sx_tree.specs.Tree.{Tree, atom, leaf, pair, vector}
+use Rattle.sx_tree.specs.Tree.{Tree, atom, leaf, pair, vector, span_of}
 use Rattle.sx_tree.specs.declared.stamp.Stamp.{Stamp}
 use Rattle.sx_frames.specs.Rows.{Row, label_in, is_of, second_binder}
 use Rattle.sx_frames.specs.Scope.{Scope, rows_at, with_row, label_at, label_by, or_else}
@@ -28,13 +28,15 @@ use Rattle.sx_core.specs.declared.binding.Binding.TheVariants as binding
 use Rattle.sx_core.specs.declared.binding.Binding.{Binding}
 use Rattle.sx_core.specs.declared.core_form.CoreForm.{CoreForm}
 use Rattle.sx_core.specs.declared.record.LibRecord.{LibRecord}
+use Rattle.sx_core.specs.declared.link.LinkKind.TheVariants as kinds
 use Rattle.sx_shapes.specs.At.{place_of}
 use Rattle.sx_shapes.specs.Lists.{is_leaf}
 use Rattle.sx_standing.specs.Binders.{bind_variable, bind_as, row_put, put_variable, variable_for}
 use Rattle.sx_standing.specs.Standing.{label_standing, numbered_as, given_as, bound_as, standing_by, standing_of}
-use Rattle.sx_standing.specs.State.{State, Does, fresh, fault_form}
+use Rattle.sx_standing.specs.State.{State, Does, fresh, fault_form, note}
 use Rattle.sx_standing.specs.declared.standing.Standing.TheVariants as standing
 use Rattle.sx_standing.specs.declared.standing.Standing.{Standing}
+use Rattle.sx_standing.proofs.Noted.{noted-keeps}
 use Rattle.sx_heads.specs.Depth.{most_round}
 use Rattle.sx_heads.specs.Plan.{reference, target_by, plan_of}
 use Rattle.sx_heads.specs.declared.plan.KeywordUse.{KeywordUse}
@@ -43,7 +45,7 @@ use Rattle.sx_heads.specs.declared.plan.Plan.TheVariants as plans
 use Rattle.sx_heads.specs.declared.plan.Plan.{Plan}
 use Rattle.sx_expand.specs.Expression.{perform, perform_settled, form_at, inside}
 use Rattle.sx_expand.specs.Inside.{Inside}
-use Rattle.sx_expand.specs.Settle.{next_form, too_many, step_of, step, settled_by, settle_to, settle}
+use Rattle.sx_expand.specs.Settle.{next_form, too_many, step_of, step, linked, linked_code, settled_by, settle_to, settle}
 use Rattle.sx_expand.specs.declared.settle.Settled.{Settled}
 use Rattle.sx_expand.specs.declared.settle.Step.{Step}
 use Rattle.sx_expand.specs.declared.settle.Step.TheVariants as steps
@@ -52,7 +54,7 @@ use Rattle.sx_expand_laws.specs.States.{IsOld}
 use Rattle.sx_expand_laws.specs.Trees.{StampsAre, LeavesAre}
 use Rattle.sx_expand_laws.proofs.Acts.{Gave, gave-after, gave-less, gave-if, told}
 use Rattle.sx_expand_laws.proofs.Changes.{form-later}
-use Rattle.sx_expand_laws.proofs.Naming.{as_label, counted}
+use Rattle.sx_expand_laws.proofs.Naming.{as_label, counted, with_variable}
 use Rattle.sx_expand_laws.proofs.References.{RefersBy, TargetBy, Refers, Targets, reference-is, target_by-is}
 
 -- References.
@@ -124,10 +126,10 @@ reference-named place level id s = gave-less (Refers place level s (standing_by 
 -- what is settled of a leaf that is no use is its own plan
 module _ (rs : List LibRecord) (place : Span) (level : ℕ) (t : Tree) (s : State) where
   abbrev Answers : PlainCore → State → Type 0
-  Answers c u = (RefersTo s (stands s.frames t) c × (u ≡ s)) ⊎ IsUse s t
+  Answers c u = (RefersTo s (stands s.frames t) c × (u ≡ linked_code t c s)) ⊎ IsUse s t
 
   abbrev IsSettled : Settled → State → Type 0
-  IsSettled d u = ((c : PlainCore) × ((d.plan ≡ plans.Done c) × (RefersTo s (stands s.frames t) c × (u ≡ s)))) ⊎ IsUse s t
+  IsSettled d u = ((c : PlainCore) × ((d.plan ≡ plans.Done c) × (RefersTo s (stands s.frames t) c × (u ≡ linked_code t c s)))) ⊎ IsUse s t
 
   abbrev IsStep : Step → State → Type 0
   IsStep (steps.Plan p) u = (c : PlainCore) × ((p ≡ plans.Done c) × (RefersTo s (stands s.frames t) c × (u ≡ s)))
@@ -148,7 +150,7 @@ module _ (rs : List LibRecord) (place : Span) (level : ℕ) (t : Tree) (s : Stat
   any P (Err e) h = tt
 
   settled-named : (onward : KeywordUse → Does Settled) (x : Step) (u : State) → IsStep x u → Gave IsSettled (settled_by onward place t x u)
-  settled-named onward (steps.Plan p) u h = inl h
+  settled-named onward (steps.Plan p) u h = inl (h.0, (h.1.0, (h.1.1.0, ap (λ (x : Plan). linked t x u) h.1.0 ∙ ap (linked_code t h.0) h.1.1.1)))
   settled-named onward (steps.Use l) u h = any IsSettled (onward l u) (λ a v. inr h)
 
   plan-named : Gave (Finishes s (stands s.frames t) (standing_of s t)) (plan_of place level t s) → Gave IsStep (step rs place level t s)
@@ -167,7 +169,7 @@ module _ (rs : List LibRecord) (place : Span) (level : ℕ) (t : Tree) (s : Stat
   performs-named go depth d u (inr h) = any Answers (perform_settled go level depth d u) (λ a v. inr h)
 
 form-named : (rs : List LibRecord) (room : ℕ) (place : Span) (level depth : ℕ) (t : Tree) (s : State) → is_leaf t ≡ true
-    → Gave (λ c u. (RefersTo s (stands s.frames t) c × (u ≡ s)) ⊎ IsUse s t) ((inside rs room).form place level depth t s)
+    → Gave (λ c u. (RefersTo s (stands s.frames t) c × (u ≡ linked_code t c s)) ⊎ IsUse s t) ((inside rs room).form place level depth t s)
 unfolding inside form_at
 form-named rs zero place level depth t s h = tt
 form-named rs (suc room) place level depth (leaf r x c) s h =
@@ -180,7 +182,7 @@ form-named rs (suc room) place level depth (pair r a d) s h = absurd (cc)
 form-named rs (suc room) place level depth (vector r d) s h = absurd (cc)
 
 pub references-named : ReferencesNameBinders
-references-named rs room place level depth t s u c h e = told (λ d v. (RefersTo s (stands s.frames t) d × (v ≡ s)) ⊎ IsUse s t) ((inside rs room).form place level depth t s) c u (form-named rs room place level depth t s h) e
+references-named rs room place level depth t s u c h e = told (λ d v. (RefersTo s (stands s.frames t) d × (v ≡ linked_code t d s)) ⊎ IsUse s t) ((inside rs room).form place level depth t s) c u (form-named rs room place level depth t s h) e
 
 -- Assignments.
 
@@ -232,10 +234,11 @@ binder-found f place level top id s =
     (λ e. by_row e (is_some (label_at s.frames f (symbol_of id) (marks_of id))) refl) (λ e. tt)
   where
     by_row : is_leaf id ≡ true → (b : Bool) → is_some (label_at s.frames f (symbol_of id) (marks_of id)) ≡ b
-        → Gave (λ l u. stands u.frames (stamp f id) ≡ Some l) (after (row_put id place (counted s) (if b then Err (second_binder (symbol_of id)) else Ok (with_row s.frames f (row_for id (as_label s.names))))) (λ _ t. after (put_variable (as_label s.names) (variable_for id level top (counted s).index) t) (λ _. give (as_label s.names))))
+        → Gave (λ l u. stands u.frames (stamp f id) ≡ Some l) (after (row_put id place (counted s) (if b then Err (second_binder (symbol_of id)) else Ok (with_row s.frames f (row_for id (as_label s.names))))) (λ _ t. after (put_variable (as_label s.names) (variable_for id level top (counted s).index) t) (λ _. note (as_label s.names) (span_of id) (as_label s.names) kinds.Bind)))
     by_row h true new = tt
-    by_row h false new = stamp-found (with_row s.frames f (row_for id (as_label s.names))) f id (as_label s.names) h
-        (ap (λ rs. label_in rs (symbol_of id) (marks_of id)) (rows_at-with_row s.frames f (row_for id (as_label s.names))) ∙ last-found (rows_at f s.frames) (symbol_of id) (marks_of id) (as_label s.names) new)
+    by_row h false new = noted-keeps (λ u. stands u.frames (stamp f id) ≡ Some (as_label s.names)) (span_of id) (as_label s.names) kinds.Bind (with_variable f id (as_label s.names) (variable_for id level top s.index) (counted s))
+        (λ ls. stamp-found (with_row s.frames f (row_for id (as_label s.names))) f id (as_label s.names) h
+        (ap (λ rs. label_in rs (symbol_of id) (marks_of id)) (rows_at-with_row s.frames f (row_for id (as_label s.names))) ∙ last-found (rows_at f s.frames) (symbol_of id) (marks_of id) (as_label s.names) new))
 
 pub binders-found : BindersAreFound
 binders-found f place level top id s u l e = told (λ m v. stands v.frames (stamp f id) ≡ Some m) (bind_variable f place level top id s) l u (binder-found f place level top id s) e

@@ -8,7 +8,7 @@ use Rattle.sx_base.specs.declared.library.LibName.{LibName}
 use Rattle.sx_base.specs.declared.name.FrameNo.{FrameNo}
 use Rattle.sx_base.specs.declared.name.Label.{Label}
 use Rattle.sx_base.specs.declared.span.Span.{Span}
-use Rattle.sx_tree.specs.Tree.{Tree}
+use Rattle.sx_tree.specs.Tree.{Tree, span_of}
 use Rattle.sx_frames.specs.Rows.{Row, second_binder}
 use Rattle.sx_frames.specs.Scope.{rows_at, with_row, label_at}
 use Rattle.sx_frames.proofs.FrameLaws.{rows_at-other}
@@ -17,11 +17,14 @@ use Rattle.sx_core.specs.Bindings.{bound_to}
 use Rattle.sx_core.specs.declared.binding.Binding.{Binding}
 use Rattle.sx_core.specs.declared.binding.Binding.TheVariants as binding
 use Rattle.sx_core.specs.declared.binding.VarInfo.{VarInfo}
+use Rattle.sx_core.specs.declared.link.Link.{Link}
+use Rattle.sx_core.specs.declared.link.LinkKind.TheVariants as kinds
 use Rattle.sx_core_laws.specs.Words.{Each, Among}
 use Rattle.sx_shapes.specs.Lists.{is_leaf}
 use Rattle.sx_standing.specs.Binders.{bind_variable, bind_as, row_put, put_variable, variable_for, index_at, next_index}
 use Rattle.sx_standing.specs.InScope.{with_local}
-use Rattle.sx_standing.specs.State.{State, fresh, fault_form}
+use Rattle.sx_standing.specs.State.{State, fresh, fault_form, note}
+use Rattle.sx_standing.proofs.Noted.{noted-keeps}
 use Rattle.sx_expand_laws.specs.States.{IsOwn, IsOwnOrEllipsis, IsAdded, IsTop, IsPattern, IsUnbound, IsNumbered, IndicesApart, Grows, Keeps, Adds, Later, LaterBut}
 use Rattle.sx_expand_laws.proofs.Acts.{Gave, gave-if}
 use Rattle.sx_expand_laws.proofs.Fresh.{Made, each-append, each-at, each-map, among-parts}
@@ -206,6 +209,24 @@ module _ (own : LibName) where
     pub adds : Adds own top (l ∷ []) [] s t
     pub keeps : Keeps own s t
 
+  -- links are no part of it
+  binds-links : (f : FrameNo) (top : Bool) (s t : State) (ls : List Link) → Binds f top s (as_label s.names) t → Binds f top s (as_label s.names) (record t { links = ls })
+  binds-links f top s t ls b =
+      let u : State = record t { links = ls } in
+      record {
+        later = record {
+          here = b.later.here;
+          next = b.later.next;
+          up = b.later.up;
+          same = b.later.same;
+          grows = grows-then own s t u b.later.grows (grows-same own t u refl refl refl (omega arith));
+        };
+        label = b.label;
+        up = b.up;
+        adds = record { more = b.adds.more; scope = b.adds.scope; new = b.adds.new; tops = b.adds.tops; bound = b.adds.bound; numbered = b.adds.numbered; patterns = b.adds.patterns };
+        keeps = record { kept = b.keeps.kept; keywords = b.keeps.keywords };
+      }
+
   variable-binds : (s : State) (f : FrameNo) (id : Tree) (v : VarInfo) → v.index ≡ index_at v.level s.index → (v.top ≡ true → v.level ≡ 0) → s.names.library ≡ own → is_some (label_at s.frames f (row_for id (as_label s.names)).symbol (row_for id (as_label s.names)).marks) ≡ false
       → Binds f v.top s (as_label s.names) (with_variable f id (as_label s.names) v (counted s))
   variable-binds s f id v ix low n new =
@@ -229,6 +250,9 @@ module _ (own : LibName) where
       gave-if (Binds f top s) (is_leaf id) (after (fresh s) (bind_as f id place level top)) (fault_form kind.BadForm id place s) (λ e. by_row (is_some (label_at s.frames f (row_for id (as_label s.names)).symbol (row_for id (as_label s.names)).marks)) refl) (λ e. tt)
     where
       by_row : (b : Bool) → is_some (label_at s.frames f (row_for id (as_label s.names)).symbol (row_for id (as_label s.names)).marks) ≡ b
-          → Gave (Binds f top s) (after (row_put id place (counted s) (if b then Err (second_binder (symbol_of id)) else Ok (with_row s.frames f (row_for id (as_label s.names))))) (λ _ t. after (put_variable (as_label s.names) (variable_for id level top (counted s).index) t) (λ _. give (as_label s.names))))
+          → Gave (Binds f top s) (after (row_put id place (counted s) (if b then Err (second_binder (symbol_of id)) else Ok (with_row s.frames f (row_for id (as_label s.names))))) (λ _ t. after (put_variable (as_label s.names) (variable_for id level top (counted s).index) t) (λ _. note (as_label s.names) (span_of id) (as_label s.names) kinds.Bind)))
       by_row true d = tt
-      by_row false d = variable-binds s f id (variable_for id level top s.index) refl low n d
+      by_row false d =
+          let v = variable_for id level top s.index in
+          let w = with_variable f id (as_label s.names) v (counted s) in
+          noted-keeps (Binds f top s (as_label s.names)) (span_of id) (as_label s.names) kinds.Bind w (λ ls. binds-links f top s w ls (variable-binds s f id v refl low n d))

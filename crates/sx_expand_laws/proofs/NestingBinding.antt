@@ -8,7 +8,7 @@ use Rattle.sx_base.specs.declared.library.LibName.{LibName}
 use Rattle.sx_base.specs.declared.name.FrameNo.{FrameNo}
 use Rattle.sx_base.specs.declared.name.Label.{Label}
 use Rattle.sx_base.specs.declared.span.Span.{Span}
-use Rattle.sx_tree.specs.Tree.{Tree}
+use Rattle.sx_tree.specs.Tree.{Tree, span_of}
 use Rattle.sx_frames.specs.Rows.{second_binder}
 use Rattle.sx_frames.specs.Scope.{with_row, label_at}
 use Rattle.sx_scope.specs.Stands.{row_for, symbol_of}
@@ -16,20 +16,22 @@ use Rattle.sx_core.specs.Bindings.{bound_to}
 use Rattle.sx_core.specs.References.{rest_labels, formals_labels}
 use Rattle.sx_core.specs.declared.binding.Binding.{Binding}
 use Rattle.sx_core.specs.declared.binding.Binding.TheVariants as binding
+use Rattle.sx_core.specs.declared.link.LinkKind.TheVariants as kinds
 use Rattle.sx_core_laws.specs.Follows.{IsThere}
 use Rattle.sx_core_laws.specs.Words.{Each}
 use Rattle.sx_shapes.specs.Lists.{is_leaf}
 use Rattle.sx_shapes.specs.declared.shape.BindingSpec.{BindingSpec}
 use Rattle.sx_shapes.specs.declared.shape.FormalIds.{FormalIds}
 use Rattle.sx_standing.specs.Binders.{bind_variable, bind_as, row_put, put_variable, variable_for, index_at, bind_all, bind_rest, bind_spec, bind_specs, bind_formals}
-use Rattle.sx_standing.specs.State.{State, Does, fresh, fault_form}
+use Rattle.sx_standing.specs.State.{State, Does, fresh, fault_form, note}
+use Rattle.sx_standing.proofs.Noted.{noted-keeps}
 use Rattle.sx_expand_laws.specs.States.{IsNumbered, Later, LaterBut}
 use Rattle.sx_expand_laws.proofs.Acts.{Gave, gave-after, gave-both, gave-each, gave-if, gave-less, each-nil, each-cons}
 use Rattle.sx_expand_laws.proofs.Binding.{BindsAll, spec_label, binds-formals, binds-specs}
 use Rattle.sx_expand_laws.proofs.Fresh.{each-append}
 use Rattle.sx_expand_laws.proofs.Good.{Bindings, Extends}
 use Rattle.sx_expand_laws.proofs.Later.{bound-more, bound-last, later-self, later-then}
-use Rattle.sx_expand_laws.proofs.Naming.{as_label, counted, counted-later, new-unbound, Binds, binds}
+use Rattle.sx_expand_laws.proofs.Naming.{as_label, counted, counted-later, new-unbound, with_variable, Binds, binds}
 use Rattle.sx_expand_laws.proofs.Nesting.{IsDefined, IsLeveled, leveled-grown, labels-grown}
 
 -- names that come are those of the library, and its labels that are bound were made before
@@ -113,9 +115,10 @@ module _ (own : LibName) (f : FrameNo) (place : Span) (level : ℕ) where
       gave-if (λ l t. IsDefined t.bindings level top l) (is_leaf id) (after (fresh s) (bind_as f id place level top)) (fault_form kind.BadForm id place s) (λ e. by_row (is_some (label_at s.frames f (row_for id (as_label s.names)).symbol (row_for id (as_label s.names)).marks))) (λ e. tt)
     where
       by_row : (b : Bool)
-          → Gave (λ l t. IsDefined t.bindings level top l) (after (row_put id place (counted s) (if b then Err (second_binder (symbol_of id)) else Ok (with_row s.frames f (row_for id (as_label s.names))))) (λ _ t. after (put_variable (as_label s.names) (variable_for id level top (counted s).index) t) (λ _. give (as_label s.names))))
+          → Gave (λ l t. IsDefined t.bindings level top l) (after (row_put id place (counted s) (if b then Err (second_binder (symbol_of id)) else Ok (with_row s.frames f (row_for id (as_label s.names))))) (λ _ t. after (put_variable (as_label s.names) (variable_for id level top (counted s).index) t) (λ _. note (as_label s.names) (span_of id) (as_label s.names) kinds.Bind)))
       by_row true = tt
-      by_row false = new-defined top id s h
+      by_row false = noted-keeps (λ t. IsDefined t.bindings level top (as_label s.names)) (span_of id) (as_label s.names) kinds.Bind
+          (with_variable f id (as_label s.names) (variable_for id level top s.index) (counted s)) (λ ls. new-defined top id s h)
 
   -- a binder, and the label that it binds
   abbrev pub BindsLeveled : Bool → State → Label → State → Type 0

@@ -15,8 +15,10 @@ use Rattle.sx_heads.specs.declared.plan.Plan.TheVariants as plans
 use Rattle.sx_expand.specs.Settle.{next_form, too_many, set_step, step_of, step, settled_by, settle_to}
 use Rattle.sx_expand.specs.declared.settle.Step.{Step}
 use Rattle.sx_expand.specs.declared.settle.Step.TheVariants as steps
+use Rattle.sx_expand.proofs.Linked.{linked-keeps}
 use Rattle.sx_expand_laws.proofs.Acts.{Gave}
-use Rattle.sx_expand_laws.proofs.Later.{later-self}
+use Rattle.sx_expand_laws.proofs.Later.{later-self, later-links}
+use Rattle.sx_expand_laws.specs.States.{Later}
 use Rattle.sx_expand_laws.proofs.Moved.{Names, Moved, moved-after}
 use Rattle.sx_expand_laws.proofs.Plans.{plan-later}
 use Rattle.sx_expand_laws.proofs.Uses.{asks-later, next-later}
@@ -50,7 +52,7 @@ module _ (own : LibName) (rs : List LibRecord) where
   settle-later zero place level t s n = moved-after own s (step rs place level t s) (settled_by (λ l. too_many t place) place t) (step-later place level t s n) by
     where
       by : (x : Step) (u : State) → Names own u → Gave (Moved own u) (settled_by (λ l. too_many t place) place t x u)
-      by (steps.Plan p) u m = later-self own u m
+      by (steps.Plan p) u m = linked-keeps (λ v. Later own u v) t u (λ ls. later-links own u ls m) p
       by (steps.Use l) u m = tt
   settle-later (suc left) place level t s n =
       moved-after own s (step rs place level t s) (settled_by (λ l s'. after (next_form rs left place t l None s') (settle_to rs left (place_of t place) level)) place t) (step-later place level t s n)
@@ -58,5 +60,5 @@ module _ (own : LibName) (rs : List LibRecord) where
     where
       by : (x : Step) (u : State) → Names own u → ((y : Tree) (v : State) → Names own v → Gave (Moved own v) (settle_to rs left (place_of t place) level y v))
           → Gave (Moved own u) (settled_by (λ l s'. after (next_form rs left place t l None s') (settle_to rs left (place_of t place) level)) place t x u)
-      by (steps.Plan p) u m next = later-self own u m
+      by (steps.Plan p) u m next = linked-keeps (λ v. Later own u v) t u (λ ls. later-links own u ls m) p
       by (steps.Use l) u m next = moved-after own u (next_form rs left place t l None u) (settle_to rs left (place_of t place) level) (next-later own rs left place t l None u m) next

@@ -17,10 +17,11 @@ use Rattle.sx_expand.specs.Settle.{next_form, too_many, set_step, step_of, step,
 use Rattle.sx_expand.specs.declared.settle.Settled.{Settled}
 use Rattle.sx_expand.specs.declared.settle.Step.{Step}
 use Rattle.sx_expand.specs.declared.settle.Step.TheVariants as steps
+use Rattle.sx_expand.proofs.Linked.{linked-keeps}
 use Rattle.sx_expand_laws.specs.States.{Later}
 use Rattle.sx_expand_laws.proofs.Acts.{Gave, gave-after, gave-less, gave-both}
 use Rattle.sx_expand_laws.proofs.Expand.{Starts, starts-later}
-use Rattle.sx_expand_laws.proofs.Later.{later-then}
+use Rattle.sx_expand_laws.proofs.Later.{later-links, later-then}
 use Rattle.sx_expand_laws.proofs.Meanings.{Planned, planned-of}
 use Rattle.sx_expand_laws.proofs.Plans.{plan-later}
 use Rattle.sx_expand_laws.proofs.Uses.{asks-later, next-later}
@@ -71,7 +72,7 @@ module _ (own : LibName) (given : List Label) (rs : List LibRecord) (vs : Depths
   settle-planned zero place t s h = gave-after (StepsTo s) (SettlesTo s) (step rs place level t s) (settled_by (λ l. too_many t place) place t) (step-planned place t s h) by
     where
       by : (x : Step) (u : State) → StepsTo s x u → Gave (SettlesTo s) (settled_by (λ l. too_many t place) place t x u)
-      by (steps.Plan p) u k = k
+      by (steps.Plan p) u k = linked-keeps (λ v. Later own s v × Planned own v.bindings vs ls v.names.number p) t u (λ ks. (later-then own s u (record u { links = ks }) k.0 (later-links own u ks k.0.next), k.1)) p
       by (steps.Use l) u k = tt
   settle-planned (suc left) place t s h =
       gave-after (StepsTo s) (SettlesTo s) (step rs place level t s) (settled_by (λ l s'. after (next_form rs left place t l None s') (settle_to rs left (place_of t place) level)) place t) (step-planned place t s h)
@@ -79,7 +80,7 @@ module _ (own : LibName) (given : List Label) (rs : List LibRecord) (vs : Depths
     where
       by : (x : Step) (u : State) → StepsTo s x u → ((y : Tree) (v : State) → S v → Gave (SettlesTo v) (settle_to rs left (place_of t place) level y v))
           → Gave (SettlesTo s) (settled_by (λ l s'. after (next_form rs left place t l None s') (settle_to rs left (place_of t place) level)) place t x u)
-      by (steps.Plan p) u k next = k
+      by (steps.Plan p) u k next = linked-keeps (λ v. Later own s v × Planned own v.bindings vs ls v.names.number p) t u (λ ks. (later-then own s u (record u { links = ks }) k.0 (later-links own u ks k.0.next), k.1)) p
       by (steps.Use l) u k next =
           gave-after (λ y v. Later own u v) (SettlesTo s) (next_form rs left place t l None u) (settle_to rs left (place_of t place) level) (next-later own rs left place t l None u k.0.next)
           (λ y v j. let i = later-then own s u v k.0 j in

@@ -8,6 +8,7 @@ use Rattle.sx_base.specs.declared.span.Span.{Span}
 use Rattle.sx_tree.specs.Tree.{Tree}
 use Rattle.sx_core.specs.Core.{instance}
 use Rattle.sx_core.specs.declared.record.LibRecord.{LibRecord}
+use Rattle.sx_core.specs.declared.link.Link.{Link}
 use Rattle.sx_shapes.specs.At.{place_of}
 use Rattle.sx_standing.specs.Patterns.{template_of}
 use Rattle.sx_standing.specs.Standing.{standing_of}
@@ -25,6 +26,7 @@ use Rattle.sx_expand.specs.Settle.{next_form, too_many, set_step, step_of, step,
 use Rattle.sx_expand.specs.declared.settle.Settled.{Settled}
 use Rattle.sx_expand.specs.declared.settle.Step.{Step}
 use Rattle.sx_expand.specs.declared.settle.Step.TheVariants as steps
+use Rattle.sx_expand.proofs.Linked.{linked-keeps}
 use Rattle.sx_expand_laws.specs.States.{Later}
 use Rattle.sx_expand_laws.proofs.Acts.{Gave, gave-after, gave-less, gave-both, gave-if}
 use Rattle.sx_expand_laws.proofs.Forms.{inside-safe}
@@ -32,10 +34,11 @@ use Rattle.sx_expand_laws.proofs.Plans.{IsOfForms, IsTemplate, template-is, plan
 use Rattle.sx_expand_laws.proofs.References.{RefersBy, AssignsBy, Refers, reference-is, assign-is}
 use Rattle.sx_expand_laws.proofs.Uses.{asks-later, next-later}
 use Rattle.sx_expand_laws.specs.Kept.{IsGoodState}
-use Rattle.sx_expand_laws.proofs.Spent.{Onward}
+use Rattle.sx_expand_laws.proofs.Later.{later-links}
+use Rattle.sx_expand_laws.proofs.Spent.{Onward, Tracks}
 use Rattle.sx_expand_laws.proofs.SpentOnStage.{Tells, next-told, variable-told}
 use Rattle.sx_expand_laws.proofs.SpentBinding.{onward-self, onward-then, onward-later}
-use Rattle.sx_expand_laws.proofs.Spares.{Spares, Gives, goes, C}
+use Rattle.sx_expand_laws.proofs.Spares.{Spares, Gives, goes, C, core-lift}
 use Rattle.sx_expand_laws.proofs.SparesItems.{spares-item}
 use Rattle.sx_expand_laws.proofs.SparesForms.{PlanAway, spares-case, spares-perform, same-told}
 
@@ -134,12 +137,33 @@ module _ (own : LibName) (given : List Label) (go : Inside) (spares : Spares own
     abbrev SettledAway : State → Settled → Type 0
     SettledAway u d = W u d.plan
 
+    plan-lift : (t u : State) (p : Plan) → Tracks own t u → W t p → W u p
+    plan-lift t u (plans.Done c) k w = core-lift own given t u c k w
+    plan-lift t u (plans.Call operator operands) k w = tt
+    plan-lift t u (plans.Conditional test consequent other) k w = tt
+    plan-lift t u (plans.Assignment l value) k w = tt
+    plan-lift t u (plans.Sequence forms) k w = tt
+    plan-lift t u (plans.Lambda ids forms) k w = tt
+    plan-lift t u (plans.CaseLambda cs) k w = tt
+    plan-lift t u (plans.Letrec star bs forms) k w = tt
+    plan-lift t u (plans.Matching subject literals cs span) k w = tt
+    plan-lift t u (plans.Keywords recursive bs forms) k w = tt
+    plan-lift t u (plans.Quasi which template) k w = tt
+    plan-lift t u (plans.Use l) k w = tt
+    plan-lift t u (plans.SetUse l id) k w = tt
+
+    -- links are no part of what is spared
+    links-spare : (u : State) (ls : List Link) (p : Plan) → B u → W u p → O u (record u { links = ls }) × W (record u { links = ls }) p
+    links-spare u ls p b w =
+        let o = onward-later own given u (record u { links = ls }) (later-links own u ls b.sound.next) (λ l c e. e) b in
+        (o, plan-lift u (record u { links = ls }) p o.1 w)
+
     settle-spares : (left : ℕ) (place : Span) (t : Tree) (s : State) → B s → Gave (Gives own given SettledAway s) (settle_to rs left place level t s)
     unfolding settle_to
     settle-spares zero place t s b = goes own given StepAway SettledAway s (step rs place level t s) (settled_by (λ l. too_many t place) place t) (step-spares place t s b) by
       where
         by : (x : Step) (u : State) → O s u → StepAway u x → Gave (Gives own given SettledAway u) (settled_by (λ l. too_many t place) place t x u)
-        by (steps.Plan p) u o w = (onward-self own given u o.0, w)
+        by (steps.Plan p) u o w = linked-keeps (λ v. Gives own given SettledAway u (record { place = place; form = t; plan = p }) v) t u (λ ls. links-spare u ls p o.0 w) p
         by (steps.Use l) u o w = tt
     settle-spares (suc left) place t s b =
         goes own given StepAway SettledAway s (step rs place level t s) (settled_by (λ l s'. after (next_form rs left place t l None s') (settle_to rs left (place_of t place) level)) place t) (step-spares place t s b)
@@ -147,7 +171,7 @@ module _ (own : LibName) (given : List Label) (go : Inside) (spares : Spares own
       where
         by : (x : Step) (u : State) → O s u → StepAway u x → ((y : Tree) (v : State) → B v → Gave (Gives own given SettledAway v) (settle_to rs left (place_of t place) level y v))
             → Gave (Gives own given SettledAway u) (settled_by (λ l s'. after (next_form rs left place t l None s') (settle_to rs left (place_of t place) level)) place t x u)
-        by (steps.Plan p) u o w next = (onward-self own given u o.0, w)
+        by (steps.Plan p) u o w next = linked-keeps (λ v. Gives own given SettledAway u (record { place = place; form = t; plan = p }) v) t u (λ ls. links-spare u ls p o.0 w) p
         by (steps.Use l) u o w next =
             gave-after (λ y v. Later own u v × Tells u.keywords v.keywords) (Gives own given SettledAway u) (next_form rs left place t l None u) (settle_to rs left (place_of t place) level)
             (gave-both (λ y v. Later own u v) (λ y v. Tells u.keywords v.keywords) (next_form rs left place t l None u) (next-later own rs left place t l None u o.0.sound.next) (next-told rs left place t l None u))

@@ -10,12 +10,13 @@ use Rattle.sx_base.specs.declared.library.LibName.{LibName}
 use Rattle.sx_base.specs.declared.name.FrameNo.{FrameNo}
 use Rattle.sx_base.specs.declared.name.Label.{Label}
 use Rattle.sx_base.specs.declared.span.Span.{Span}
-use Rattle.sx_tree.specs.Tree.{Tree}
+use Rattle.sx_tree.specs.Tree.{Tree, span_of}
 use Rattle.sx_frames.specs.Rows.{second_binder}
 use Rattle.sx_frames.specs.Scope.{Scope, with_row, label_at, bound}
 use Rattle.sx_scope.specs.Stands.{row_for, symbol_of}
 use Rattle.sx_core.specs.Core.{PlainCore}
 use Rattle.sx_core.specs.declared.binding.VarInfo.{VarInfo}
+use Rattle.sx_core.specs.declared.link.LinkKind.TheVariants as kinds
 use Rattle.sx_core_laws.specs.Templates.{Depths}
 use Rattle.sx_core_laws.specs.Words.{Each, Among}
 use Rattle.sx_pattern.specs.Compile as patterns
@@ -31,14 +32,15 @@ use Rattle.sx_stage.specs.declared.keyword.Keyword.TheVariants as keyword
 use Rattle.sx_standing.specs.Binders.{bind_variable, bind_as, row_put, put_variable, variable_for, bind_all, bind_rest, bind_formals, bind_spec, bind_specs}
 use Rattle.sx_standing.specs.InScope.{cut}
 use Rattle.sx_standing.specs.Patterns.{pattern_of, check_literals, put_pattern_variable, bind_pattern_variable, bind_next, bind_pattern}
-use Rattle.sx_standing.specs.State.{State, fresh, fault_form, stage_of, staged, on_stage}
+use Rattle.sx_standing.specs.State.{State, fresh, fault_form, note, stage_of, staged, on_stage}
 use Rattle.sx_standing.specs.Uses.{bind_keyword, bind_keyword_as, bind_keywords, put_keyword}
 use Rattle.sx_standing.specs.declared.binders.BoundSpec.{BoundSpec}
+use Rattle.sx_standing.proofs.Noted.{noted-keeps}
 use Rattle.sx_expand_laws.specs.States.{IsOwn, IsTop, IsBound, Grows, Adds, Later, LaterBut}
 use Rattle.sx_expand_laws.proofs.Acts.{Gave, gave-after, gave-less, gave-if, gave-each, gave-gather}
 use Rattle.sx_expand_laws.proofs.Grows.{grows-same}
 use Rattle.sx_expand_laws.proofs.Later.{sound-grown}
-use Rattle.sx_expand_laws.proofs.Naming.{as_label, counted, counted-later}
+use Rattle.sx_expand_laws.proofs.Naming.{as_label, counted, counted-later, with_variable}
 use Rattle.sx_expand_laws.proofs.Scope.{adds-later}
 use Rattle.sx_expand_laws.specs.Kept.{IsKeptWith, KeptAreGood, IsGoodState}
 use Rattle.sx_expand_laws.proofs.Spent.{tracks-self, tracks-then, kept-less, Onward}
@@ -53,9 +55,9 @@ variable-same f place level top id s =
     gave-if (Same s) (is_leaf id) (after (fresh s) (bind_as f id place level top)) (fault_form kind.BadForm id place s) (λ e. by_row (is_some (label_at s.frames f (row_for id (as_label s.names)).symbol (row_for id (as_label s.names)).marks))) (λ e. tt)
   where
     by_row : (b : Bool)
-        → Gave (Same s) (after (row_put id place (counted s) (if b then Err (second_binder (symbol_of id)) else Ok (with_row s.frames f (row_for id (as_label s.names))))) (λ _ t. after (put_variable (as_label s.names) (variable_for id level top (counted s).index) t) (λ _. give (as_label s.names))))
+        → Gave (Same s) (after (row_put id place (counted s) (if b then Err (second_binder (symbol_of id)) else Ok (with_row s.frames f (row_for id (as_label s.names))))) (λ _ t. after (put_variable (as_label s.names) (variable_for id level top (counted s).index) t) (λ _. note (as_label s.names) (span_of id) (as_label s.names) kinds.Bind)))
     by_row true = tt
-    by_row false = refl
+    by_row false = noted-keeps (Same s (as_label s.names)) (span_of id) (as_label s.names) kinds.Bind (with_variable f id (as_label s.names) (variable_for id level top s.index) (counted s)) (λ ls. refl)
 
 all-same : (f : FrameNo) (place : Span) (level : ℕ) (ids : List Tree) (s : State) → Gave (Same s) (bind_all f place level ids s)
 all-same f place level ids s =

@@ -16,6 +16,7 @@ use Rattle.sx_standing.specs.State.{State}
 use Rattle.sx_standing.specs.declared.standing.Standing.TheVariants as standing
 use Rattle.sx_heads.specs.Plan.{target_by}
 use Rattle.sx_expand.specs.Expression.{inside}
+use Rattle.sx_expand.specs.Settle.{linked_code}
 use Rattle.sx_expand_laws.specs.States.{IsOld}
 use Rattle.sx_expand_laws.specs.Trees.{LeavesAre}
 
@@ -28,10 +29,10 @@ RefersTo s (Some l) c = (c ≡ variable l) ⊎ ((o : Op) × ((label_standing s l
 abbrev pub IsUse : State → Tree → Type 0
 IsUse s t = (l : Label) × (standing_of s t ≡ standing.Keyword l)
 
--- The core code of a leaf refers to what the leaf stands for, and the state stays, unless the leaf is a use of a keyword.
+-- The core code of a leaf refers to what the leaf stands for, and the state gains its link alone, unless the leaf is a use of a keyword.
 abbrev pub ReferencesNameBinders : Type 0
 ReferencesNameBinders = (records : List LibRecord) (room : ℕ) (place : Span) (level depth : ℕ) (t : Tree) (s u : State) (c : PlainCore) → is_leaf t ≡ true
-    → (inside records room).form place level depth t s ≡ Ok (c, u) → (RefersTo s (stands s.frames t) c × (u ≡ s)) ⊎ IsUse s t
+    → (inside records room).form place level depth t s ≡ Ok (c, u) → (RefersTo s (stands s.frames t) c × (u ≡ linked_code t c s)) ⊎ IsUse s t
 
 -- An assignment assigns what its target stands for.
 abbrev pub AssignmentsNameBinders : Type 0

@@ -38,6 +38,7 @@ use Rattle.sx_expand.specs.declared.settle.Settled.{Settled}
 use Rattle.sx_expand.specs.declared.settle.SettledItem.{SettledItem}
 use Rattle.sx_expand.specs.declared.settle.Step.{Step}
 use Rattle.sx_expand.specs.declared.settle.Step.TheVariants as steps
+use Rattle.sx_expand.proofs.Linked.{linked-keeps}
 use Rattle.sx_fresh_laws.specs.Leaves.{OptionHolds}
 use Rattle.sx_fresh_laws.proofs.Eachs.{each_and}
 use Rattle.sx_fresh_expansion_laws.specs.Living.{Lives}
@@ -46,7 +47,7 @@ use Rattle.sx_fresh_expansion_laws.proofs.Forms.{Keeps, splice-holds, case-holds
 use Rattle.sx_fresh_expansion_laws.proofs.Inserts.{quasi-form-holds}
 use Rattle.sx_fresh_expansion_laws.proofs.Items.{WaitingAt, TakenAt, ItemAt, BothAt, taken-up, define-keyword-holds, item-plan-holds}
 use Rattle.sx_fresh_expansion_laws.proofs.Plans.{PlanAt, plan-holds}
-use Rattle.sx_fresh_expansion_laws.proofs.Standing.{F, From, T, Ts, C, tree-up, state-self, state-then, Gave, gave-from, gave-after, gave-if, SpecAt, BoundHolds, asks-variable-holds, use-keyword-holds, use-record-holds}
+use Rattle.sx_fresh_expansion_laws.proofs.Standing.{F, From, T, Ts, C, tree-up, state-self, state-links, state-then, Gave, gave-from, gave-after, gave-if, SpecAt, BoundHolds, asks-variable-holds, use-keyword-holds, use-record-holds}
 
 module _ (own : LibName) (K : ℕ → Mark → Type 0) (J : ℕ → FrameNo → Type 0) (P : ℕ → LeafContext → Type 0) (lives : Lives own K J P) (first : ℕ) where
   abbrev Any : {A : Type 0} → ℕ → A → Type 0
@@ -103,7 +104,8 @@ module _ (own : LibName) (K : ℕ → Mark → Type 0) (J : ℕ → FrameNo → 
     settle-to-holds zero place level t s h g = (gave-after own K J P lives first) StepAt SettledAt s (step rs place level t s) (settled_by (λ k. too_many t place) place t) (step-holds place level t s h g) by
       where
         by : (x : Step) (u : State) → (From own K J P lives first) s u → StepAt u.names.number x → (Gave own K J P lives first) SettledAt u (settled_by (λ k. too_many t place) place t x u)
-        by (steps.Plan p) u i y = ((state-self own K J P lives first) u ((state-then own K J P lives first) s u h i), ((tree-up own K J P lives first) s.names.number u.names.number i.stage.up t g, y))
+        by (steps.Plan p) u i y = linked-keeps (λ v. (From own K J P lives first) u v × SettledAt v.names.number (record { place = place; form = t; plan = p })) t u
+            (λ ls. ((state-links own K J P lives first) u u ls ((state-self own K J P lives first) u ((state-then own K J P lives first) s u h i)), ((tree-up own K J P lives first) s.names.number u.names.number i.stage.up t g, y))) p
         by (steps.Use k) u i y = tt
     settle-to-holds (suc left) place level t s h g =
         (gave-after own K J P lives first) StepAt SettledAt s (step rs place level t s) (settled_by (λ k s'. after (next_form rs left place t k None s') (settle_to rs left (place_of t place) level)) place t) (step-holds place level t s h g)
@@ -111,7 +113,8 @@ module _ (own : LibName) (K : ℕ → Mark → Type 0) (J : ℕ → FrameNo → 
       where
         by : (x : Step) (u : State) → (From own K J P lives first) s u → StepAt u.names.number x → ((v : Tree) (w : State) → (F own K J P lives first) w → (T own K J P lives first) w.names.number v → (Gave own K J P lives first) SettledAt w (settle_to rs left (place_of t place) level v w))
             → (Gave own K J P lives first) SettledAt u (settled_by (λ k s'. after (next_form rs left place t k None s') (settle_to rs left (place_of t place) level)) place t x u)
-        by (steps.Plan p) u i y again = ((state-self own K J P lives first) u ((state-then own K J P lives first) s u h i), ((tree-up own K J P lives first) s.names.number u.names.number i.stage.up t g, y))
+        by (steps.Plan p) u i y again = linked-keeps (λ v. (From own K J P lives first) u v × SettledAt v.names.number (record { place = place; form = t; plan = p })) t u
+            (λ ls. ((state-links own K J P lives first) u u ls ((state-self own K J P lives first) u ((state-then own K J P lives first) s u h i)), ((tree-up own K J P lives first) s.names.number u.names.number i.stage.up t g, y))) p
         by (steps.Use k) u i y again =
             let hu = (state-then own K J P lives first) s u h i in
             (gave-after own K J P lives first) (T own K J P lives first) SettledAt u (next_form rs left place t k None u) (settle_to rs left (place_of t place) level) (next-form-holds left place t k None u hu ((tree-up own K J P lives first) s.names.number u.names.number i.stage.up t g) tt)

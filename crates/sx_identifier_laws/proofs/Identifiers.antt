@@ -15,6 +15,7 @@ use Rattle.sx_expand_laws.specs.States.{IsOld}
 use Rattle.sx_expand_laws.specs.Trees.{StampsAre, LeavesAre}
 use Rattle.sx_expand_laws.proofs.Named.{binders-stay, references-named}
 use Rattle.sx_identifier_laws.specs.Identifiers.{IdentifiersStay, ReferencesStay}
+use Rattle.sx_expand.specs.Settle.{linked_code}
 
 module _ (own : LibName) (s : State) where
   stamps-old : (ts : List Stamp) → Each (λ (t : Stamp). IsMade own s.names.number t.frame) ts → StampsAre (IsOld own s) ts
@@ -34,4 +35,4 @@ they-stay libs own records room place level depth t s u c new holds e id h =
 
 pub they-refer : ReferencesStay
 they-refer libs own records room place level depth t s u c new holds e id h leaf more spot high deep v d f =
-    subst (λ (o : Option Label). (RefersTo u o d × (v ≡ u)) ⊎ IsUse u id) (they-stay libs own records room place level depth t s u c new holds e id h) (references-named records more spot high deep id u v d leaf f)
+    subst (λ (o : Option Label). (RefersTo u o d × (v ≡ linked_code id d u)) ⊎ IsUse u id) (they-stay libs own records room place level depth t s u c new holds e id h) (references-named records more spot high deep id u v d leaf f)

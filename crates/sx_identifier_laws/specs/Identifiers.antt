@@ -9,6 +9,7 @@ use Rattle.sx_core.specs.declared.record.LibRecord.{LibRecord}
 use Rattle.sx_shapes.specs.Lists.{is_leaf}
 use Rattle.sx_standing.specs.State.{State}
 use Rattle.sx_expand.specs.Expression.{inside}
+use Rattle.sx_expand.specs.Settle.{linked_code}
 use Rattle.sx_expand_laws.specs.Named.{RefersTo, IsUse}
 use Rattle.sx_fresh_laws.specs.Leaves.{TreeHolds}
 use Rattle.sx_fresh_expansion_laws.specs.Known.{IsKnown, HasKnown, IsNewAmong}
@@ -26,4 +27,4 @@ abbrev pub ReferencesStay : Type 0
 ReferencesStay = (libs : List LibName) (own : LibName) (records : List LibRecord) (room : ℕ) (place : Span) (level depth : ℕ) (t : Tree) (s u : State) (c : PlainCore) → IsNewAmong libs own
     → StateHolds own (IsKnown libs own) (HasKnown libs own) s.names.number s → (inside records room).form place level depth t s ≡ Ok (c, u)
     → (id : Tree) → TreeHolds (HasKnown libs own s.names.number) id → is_leaf id ≡ true
-    → (more : ℕ) (spot : Span) (high deep : ℕ) (v : State) (d : PlainCore) → (inside records more).form spot high deep id u ≡ Ok (d, v) → (RefersTo u (stands s.frames id) d × (v ≡ u)) ⊎ IsUse u id
+    → (more : ℕ) (spot : Span) (high deep : ℕ) (v : State) (d : PlainCore) → (inside records more).form spot high deep id u ≡ Ok (d, v) → (RefersTo u (stands s.frames id) d × (v ≡ linked_code id d u)) ⊎ IsUse u id

@@ -35,13 +35,14 @@ use Rattle.sx_expand.specs.declared.settle.Settled.{Settled}
 use Rattle.sx_expand.specs.declared.settle.SettledItem.{SettledItem}
 use Rattle.sx_expand.specs.declared.settle.Step.{Step}
 use Rattle.sx_expand.specs.declared.settle.Step.TheVariants as steps
+use Rattle.sx_expand.proofs.Linked.{linked-keeps}
 use Rattle.sx_fresh_laws.proofs.Eachs.{each_and}
 use Rattle.sx_readable_laws.specs.Stages.{ReadableRecords}
 use Rattle.sx_readable_expansion_laws.proofs.Forms.{Keeps, splice-holds, case-holds, lambda-holds, case-lambda-holds, letrec-holds, application-holds, conditional-holds, set-holds, in-sequence-holds, syntax-case-holds, keyword-holds, with-keywords-holds, keywords-form-holds}
 use Rattle.sx_readable_expansion_laws.proofs.Inserts.{quasi-form-holds}
 use Rattle.sx_readable_expansion_laws.proofs.Items.{WaitingAt, TakenAt, ItemAt, BothAt, define-keyword-holds, item-plan-holds}
 use Rattle.sx_readable_expansion_laws.proofs.Plans.{PlanAt, plan-holds}
-use Rattle.sx_readable_expansion_laws.proofs.Standing.{F, T, Ts, C, Gave, gave-after, gave-if, SpecAt, BoundHolds, asks-variable-holds, use-keyword-holds, use-record-holds}
+use Rattle.sx_readable_expansion_laws.proofs.Standing.{F, T, Ts, C, state-links, Gave, gave-after, gave-if, SpecAt, BoundHolds, asks-variable-holds, use-keyword-holds, use-record-holds}
 
 abbrev Any : {A : Type 0} → A → Type 0
 Any x = Unit {0}
@@ -97,7 +98,7 @@ module _ (rs : List LibRecord) (records : ReadableRecords rs) where
   settle-to-holds zero place level t s h g = gave-after StepAt SettledAt (step rs place level t s) (settled_by (λ k. too_many t place) place t) (step-holds place level t s h g) by
     where
       by : (x : Step) (u : State) → F u → StepAt x → Gave SettledAt (settled_by (λ k. too_many t place) place t x u)
-      by (steps.Plan p) u i y = (i, (g, y))
+      by (steps.Plan p) u i y = linked-keeps (λ v. F v × SettledAt (record { place = place; form = t; plan = p })) t u (λ ls. (state-links u ls i, (g, y))) p
       by (steps.Use k) u i y = tt
   settle-to-holds (suc left) place level t s h g =
       gave-after StepAt SettledAt (step rs place level t s) (settled_by (λ k s'. after (next_form rs left place t k None s') (settle_to rs left (place_of t place) level)) place t) (step-holds place level t s h g)
@@ -105,7 +106,7 @@ module _ (rs : List LibRecord) (records : ReadableRecords rs) where
     where
       by : (x : Step) (u : State) → F u → StepAt x → ((v : Tree) (w : State) → F w → T v → Gave SettledAt (settle_to rs left (place_of t place) level v w))
           → Gave SettledAt (settled_by (λ k s'. after (next_form rs left place t k None s') (settle_to rs left (place_of t place) level)) place t x u)
-      by (steps.Plan p) u i y again = (i, (g, y))
+      by (steps.Plan p) u i y again = linked-keeps (λ v. F v × SettledAt (record { place = place; form = t; plan = p })) t u (λ ls. (state-links u ls i, (g, y))) p
       by (steps.Use k) u i y again =
           let hu = i in
           gave-after T SettledAt (next_form rs left place t k None u) (settle_to rs left (place_of t place) level) (next-form-holds left place t k None u hu g)

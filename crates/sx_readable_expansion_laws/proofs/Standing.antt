@@ -9,7 +9,7 @@ use Rattle.sx_base.specs.declared.name.Label.{Label}
 use Rattle.sx_base.specs.declared.name.Mark.{Mark}
 use Rattle.sx_base.specs.declared.span.Span.{Span}
 use Rattle.sx_tree.specs.Changes.{enter, leave}
-use Rattle.sx_tree.specs.Tree.{Tree}
+use Rattle.sx_tree.specs.Tree.{Tree, span_of}
 use Rattle.sx_tree.specs.declared.change.Change.TheVariants as change
 use Rattle.sx_frames.specs.Scope.{Scope, bound}
 use Rattle.sx_scope.specs.Stands.{row_for}
@@ -22,6 +22,8 @@ use Rattle.sx_core.specs.declared.binding.Binding.TheVariants as binding
 use Rattle.sx_core.specs.declared.binding.VarInfo.{VarInfo}
 use Rattle.sx_core.specs.declared.core_form.CoreForm.{CoreForm}
 use Rattle.sx_core.specs.declared.record.LibRecord.{LibRecord}
+use Rattle.sx_core.specs.declared.link.Link.{Link}
+use Rattle.sx_core.specs.declared.link.LinkKind.TheVariants as kinds
 use Rattle.sx_pattern.specs.Compile as patterns
 use Rattle.sx_pattern.specs.declared.compile.Compiled.{Compiled}
 use Rattle.sx_pattern.specs.declared.compile.PatternVariable.{PatternVariable}
@@ -39,9 +41,10 @@ use Rattle.sx_standing.specs.Binders.{variable_for, row_put, put_row, put_variab
 use Rattle.sx_standing.specs.InScope.{leaving, within, restoring, apart}
 use Rattle.sx_standing.specs.Patterns.{pattern_of, check_literals, put_pattern_variable, bind_pattern_variable, bind_next, bind_pattern, has_variables, first_outside, outside_fault, template_in, template_of}
 use Rattle.sx_standing.specs.RecordUses.{at_state, defines_type, count_record_type, record_tree, record_marked, use_record}
-use Rattle.sx_standing.specs.State.{State, Does, stage_of, staged, on_stage, fresh}
+use Rattle.sx_standing.specs.State.{State, Does, stage_of, staged, on_stage, fresh, note}
 use Rattle.sx_standing.specs.Uses.{macro_expression, use_keyword, asks_variable, put_keyword, bind_keyword_as, bind_keyword, bind_keywords, finish_keyword}
 use Rattle.sx_standing.specs.declared.binders.BoundSpec.{BoundSpec}
+use Rattle.sx_standing.proofs.Noted.{noted-keeps}
 use Rattle.sx_template.specs.Compile as templates
 use Rattle.sx_value.specs.Cells.{Each}
 use Rattle.sx_readable_laws.specs.Readable.{ReadableTree, ReadableCore, ReadableTemplate}
@@ -139,11 +142,15 @@ put-variable-holds l v s h = (
   tt,
 )
 
+-- links have no part in it
+pub state-links : (s : State) (ls : List Link) → F s → F (record s { links = ls })
+state-links s ls h = record { stage = h.stage; bindings = h.bindings }
+
 bind-as-holds : (frame : FrameNo) (id : Tree) (place : Span) (level : ℕ) (top : Bool) (n : Named) (s : State) → F s → T id → Gave Taken (bind_as frame id place level top n s)
 bind-as-holds frame id place level top n s h k =
     gave-after Taken (Taken {A = Label}) (put_row id place frame (record { 0 = n }) s) _ (put-row-holds id place frame (record { 0 = n }) s h)
-    (λ x t i y. gave-after Taken (Taken {A = Label}) (put_variable (record { 0 = n }) (variable_for id level top s.index) t) (λ _. give (record { 0 = n })) (put-variable-holds (record { 0 = n }) (variable_for id level top s.index) t i)
-    (λ z u j w. (j, tt)))
+    (λ x t i y. gave-after Taken (Taken {A = Label}) (put_variable (record { 0 = n }) (variable_for id level top s.index) t) (λ _. note (record { 0 = n }) (span_of id) (record { 0 = n }) kinds.Bind) (put-variable-holds (record { 0 = n }) (variable_for id level top s.index) t i)
+    (λ z u j w. noted-keeps (λ v. F v × Unit {0}) (span_of id) (record { 0 = n }) kinds.Bind u (λ ls. (state-links u ls j, tt))))
 
 pub variable-holds : (frame : FrameNo) (place : Span) (level : ℕ) (top : Bool) (id : Tree) (s : State) → F s → T id → Gave Taken (bind_variable frame place level top id s)
 unfolding bind_variable fresh

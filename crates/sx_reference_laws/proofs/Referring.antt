@@ -11,6 +11,7 @@ use Rattle.sx_expand_laws.specs.Named.{RefersTo, IsUse}
 use Rattle.sx_expand_laws.proofs.Named.{references-named}
 use Rattle.sx_reference_laws.specs.Reference.{NamesItsBinder, ReferencesAreHygienic}
 use Rattle.sx_reference_laws.proofs.Capturing.{captures-hygienic}
+use Rattle.sx_expand.specs.Settle.{linked_code}
 
 pub references-hygienic : ReferencesAreHygienic
 references-hygienic libs own n records room place level depth p x k s u c h e = by (references-named records room place level depth (leaf p x k) s u c refl e)
@@ -19,6 +20,6 @@ references-hygienic libs own n records room place level depth p x k s u c h e = 
     found None i j = absurd j
     found (Some r) i j = record { row = r; captures = i; refers = j; hygienic = captures-hygienic libs own n p x k h s.frames r i }
 
-    by : (RefersTo s (stands s.frames (leaf p x k)) c × (u ≡ s)) ⊎ IsUse s (leaf p x k) → (NamesItsBinder s p x k h.marks h.events c × (u ≡ s)) ⊎ IsUse s (leaf p x k)
+    by : (RefersTo s (stands s.frames (leaf p x k)) c × (u ≡ linked_code (leaf p x k) c s)) ⊎ IsUse s (leaf p x k) → (NamesItsBinder s p x k h.marks h.events c × (u ≡ linked_code (leaf p x k) c s)) ⊎ IsUse s (leaf p x k)
     by (inl r) = inl (found (binder_of s.frames (leaf p x k)) refl (subst (λ (o : Option Label). RefersTo s o c) (label_by-row s.frames x k.stamps) r.0), r.1)
     by (inr i) = inr i

@@ -6,12 +6,14 @@ use Rattle.sx_base.specs.Op.{name_count, is_keyword}
 use Rattle.sx_base.specs.Same.{same_library}
 use Rattle.sx_base.specs.declared.fault.Fault.{Fault}
 use Rattle.sx_base.specs.declared.library.LibName.TheVariants as library
+use Rattle.sx_base.specs.declared.op.Op.{Op}
 use Rattle.sx_base.specs.declared.name.Label.{Label}
 use Rattle.sx_base.specs.declared.span.Span.{Span}
-use Rattle.sx_tree.specs.Tree.{Tree, atom, leaf, pair, vector}
+use Rattle.sx_tree.specs.Tree.{Tree, atom, leaf, pair, vector, span_of}
 use Rattle.sx_scope.specs.Stands.{stands}
 use Rattle.sx_core.specs.Bindings.{bound_to}
-use Rattle.sx_core.specs.Core.{PlainCore, variable, instance}
+use Rattle.sx_core.specs.Core as core
+use Rattle.sx_core.specs.Core.{PlainCore, variable, primitive, instance}
 use Rattle.sx_core.specs.CoreForm.{at_number}
 use Rattle.sx_core.specs.Template.{PlainTemplate}
 use Rattle.sx_core.specs.declared.binding.Binding.{Binding}
@@ -19,6 +21,8 @@ use Rattle.sx_core.specs.declared.binding.Binding.TheVariants as binding
 use Rattle.sx_core.specs.declared.core_form.CoreForm.{CoreForm}
 use Rattle.sx_core.specs.declared.core_form.CoreForm.TheVariants as core_forms
 use Rattle.sx_core.specs.declared.record.LibRecord.{LibRecord}
+use Rattle.sx_core.specs.declared.link.Link.{Link}
+use Rattle.sx_core.specs.declared.link.LinkKind.TheVariants as kinds
 use Rattle.sx_shapes.specs.At.{place_of}
 use Rattle.sx_shapes.specs.Forms.{shape}
 use Rattle.sx_shapes.specs.Lists.{is_leaf, is_nil_atom, proper_elements}
@@ -33,11 +37,12 @@ use Rattle.sx_standing.specs.declared.standing.Role.{Role}
 use Rattle.sx_standing.specs.declared.standing.Role.TheVariants as role
 use Rattle.sx_standing.specs.declared.standing.Standing.{Standing}
 use Rattle.sx_standing.specs.declared.standing.Standing.TheVariants as standing
+use Rattle.sx_standing.proofs.Noted.{noted-keeps}
 use Rattle.sx_heads.specs.Plan.{reference, constant, target_by, assign_to, assign_by, assign, call_of, application, in_sequence, keywords_plan, operand_plan, shape_plan, with_shape, by_role, keyword_plan, by_head, list_plan, plan_of}
 use Rattle.sx_heads.specs.declared.plan.KeywordUse.{KeywordUse}
 use Rattle.sx_heads.specs.declared.plan.Plan.{Plan}
 use Rattle.sx_heads.specs.declared.plan.Plan.TheVariants as plans
-use Rattle.sx_expand.specs.Settle.{next_form, too_many, set_step, step_of, step, settled_by, settle_to, settle}
+use Rattle.sx_expand.specs.Settle.{next_form, too_many, set_step, step_of, step, target_span, linked, linked_code, settled_by, settle_to, settle}
 use Rattle.sx_expand.specs.declared.settle.Settled.{Settled}
 use Rattle.sx_expand.specs.declared.settle.Step.{Step}
 use Rattle.sx_expand.specs.declared.settle.Step.TheVariants as steps
@@ -290,8 +295,57 @@ module _ (rs : List LibRecord) (level : ℕ) where
   unfolding step
   step-so place t s = gave-after (Plans level place t) (Steps place t) (plan_of place level t s) (step_of rs place t) (plan-so place level t s) (λ p u h. step-of-so place t p u h)
 
+  -- a reference and the target of an assignment stay what they are with their links; constants and templates have none
+  refers-links : (t : Tree) (c : PlainCore) (u : State) (ls : List Link) → IsReference t c u → IsReference t c (record u { links = ls })
+  unfolding label_standing
+  refers-links t c u ls h = (h.0, (h.1.0, (h.1.1.0, by h.1.1.1)))
+    where
+      by : RefersTo u (Some h.0) c → RefersTo (record u { links = ls }) (Some h.0) c
+      by (inl e) = inl e
+      by (inr p) = inr (p.0, (p.1.0, p.1.1))
+
+  variable-so : (place : Span) (t : Tree) (l : Label) (u v : State) → (IsReference t (variable l) u → IsReference t (variable l) v) → Plans level place t (plans.Done (variable l)) u → Plans level place t (plans.Done (variable l)) v
+  variable-so place t l u v k (inl r) = inl (k r)
+  variable-so place t l u v k (inr (inl c)) = inr (inl c)
+  variable-so place t l u v k (inr (inr x)) = let e = x.code in absurd (cc)
+
+  primitive-so : (place : Span) (t : Tree) (o : Op) (u v : State) → (IsReference t (primitive o) u → IsReference t (primitive o) v) → Plans level place t (plans.Done (primitive o)) u → Plans level place t (plans.Done (primitive o)) v
+  primitive-so place t o u v k (inl r) = inl (k r)
+  primitive-so place t o u v k (inr (inl c)) = inr (inl c)
+  primitive-so place t o u v k (inr (inr x)) = let e = x.code in absurd (cc)
+
+  code-so : (place : Span) (t : Tree) (u : State) (c : PlainCore) → Plans level place t (plans.Done c) u → Plans level place t (plans.Done c) (linked_code t c u)
+  code-so place t u (core.variable l) h = noted-keeps (Plans level place t (plans.Done (variable l))) (span_of t) l kinds.Refer u (λ ls. variable-so place t l u (record u { links = ls }) (refers-links t (variable l) u ls) h)
+  code-so place t u (core.primitive o) h =
+      noted-keeps (Plans level place t (plans.Done (primitive o))) (span_of t) (record { 0 = record { library = library.Core; number = o.0 } }) (kinds.Prim o) u (λ ls. primitive-so place t o u (record u { links = ls }) (refers-links t (primitive o) u ls) h)
+  code-so place t u (core.quoted d) h = h
+  code-so place t u (core.one_armed c d) h = h
+  code-so place t u (core.two_armed c d e) h = h
+  code-so place t u (core.assignment l c) h = h
+  code-so place t u (core.sequence cs) h = h
+  code-so place t u (core.procedure n cs b) h = h
+  code-so place t u (core.letrec b is c) h = h
+  code-so place t u (core.call c cs) h = h
+  code-so place t u (core.instance p q) h = h
+  code-so place t u (core.matching c cs q) h = h
+
+  links-so : (place : Span) (t : Tree) (u : State) (p : Plan) → Plans level place t p u → Plans level place t p (linked t p u)
+  links-so place t u (plans.Done c) h = code-so place t u c h
+  links-so place t u (plans.Assignment l value) h = noted-keeps (IsTarget place t l value) (target_span t) l kinds.Refer u (λ ls. h)
+  links-so place t u (plans.Call head operands) h = tt
+  links-so place t u (plans.Conditional a b c) h = tt
+  links-so place t u (plans.Sequence forms) h = tt
+  links-so place t u (plans.Lambda ids forms) h = tt
+  links-so place t u (plans.CaseLambda cases) h = tt
+  links-so place t u (plans.Letrec star specs forms) h = tt
+  links-so place t u (plans.Matching subject literals clauses span) h = tt
+  links-so place t u (plans.Keywords recursive specs forms) h = tt
+  links-so place t u (plans.Quasi family template) h = tt
+  links-so place t u (plans.Use k) h = tt
+  links-so place t u (plans.SetUse l id) h = tt
+
   settled-so : (onward : KeywordUse → Does Settled) (place : Span) (t : Tree) (x : Step) (u : State) → ((k : KeywordUse) (v : State) → Gave Settles (onward k v)) → Steps place t x u → Gave Settles (settled_by onward place t x u)
-  settled-so onward place t (steps.Plan p) u more h = h
+  settled-so onward place t (steps.Plan p) u more h = links-so place t u p h
   settled-so onward place t (steps.Use k) u more h = more k u
 
   settle-to-so : (left : ℕ) (place : Span) (t : Tree) (s : State) → Gave Settles (settle_to rs left place level t s)

@@ -48,6 +48,7 @@ use Rattle.sx_expand.specs.declared.settle.Settled.{Settled}
 use Rattle.sx_expand.specs.declared.settle.SettledItem.{SettledItem}
 use Rattle.sx_expand.specs.declared.settle.Step.{Step}
 use Rattle.sx_expand.specs.declared.settle.Step.TheVariants as steps
+use Rattle.sx_expand.proofs.Linked.{linked-keeps}
 use Rattle.sx_expand_laws.proofs.Acts.{Gave, gave-after, gave-less, gave-if, gave-within, gave-each}
 use Rattle.sx_expand_laws.proofs.Inserts.{with_dots, IsNewThere, dots-put}
 use Rattle.sx_expand_laws.proofs.Items.{item-cases}
@@ -126,7 +127,7 @@ module _ (rs : List LibRecord) (level : ℕ) where
   step-told place t s = then-told s (plan_of place level t s) (step_of rs place t) (plan-told place level s t) (λ p v. steps-told place t p v)
 
   by-step : (onward : KeywordUse → Does Settled) (place : Span) (t : Tree) (x : Step) (s : State) → ((k : KeywordUse) → Gave (Untold s) (onward k s)) → Gave (Untold s) (settled_by onward place t x s)
-  by-step onward place t (steps.Plan p) s h = told-self s
+  by-step onward place t (steps.Plan p) s h = linked-keeps (λ v. Tells s.keywords v.keywords) t s (λ ls. told-self s) p
   by-step onward place t (steps.Use k) s h = h k
 
   settle-to-told : (left : ℕ) (place : Span) (t : Tree) (s : State) → Gave (Untold s) (settle_to rs left place level t s)

@@ -11,6 +11,7 @@ use Rattle.sx_standing.specs.State.{State}
 use Rattle.sx_hygiene_laws.specs.Binder.{Captures}
 use Rattle.sx_hygiene_laws.specs.History.{Event}
 use Rattle.sx_expand.specs.Expression.{inside}
+use Rattle.sx_expand.specs.Settle.{linked_code}
 use Rattle.sx_expand_laws.specs.Named.{RefersTo, IsUse}
 use Rattle.sx_fresh_expansion_laws.specs.Events.{HasKnownEvents}
 use Rattle.sx_base.specs.declared.name.Mark.{Mark}
@@ -27,4 +28,4 @@ pub record NamesItsBinder (s : State) (p : Option Span) (x : List ℕ) (k : Leaf
 abbrev pub ReferencesAreHygienic : Type 0
 ReferencesAreHygienic = (libs : List LibName) (own : LibName) (n : ℕ) (records : List LibRecord) (room : ℕ) (place : Span) (level depth : ℕ) (p : Option Span) (x : List ℕ) (k : LeafContext) (s u : State) (c : PlainCore)
     → (h : HasKnownEvents libs own n k) → (inside records room).form place level depth (leaf p x k) s ≡ Ok (c, u)
-    → (NamesItsBinder s p x k h.marks h.events c × (u ≡ s)) ⊎ IsUse s (leaf p x k)
+    → (NamesItsBinder s p x k h.marks h.events c × (u ≡ linked_code (leaf p x k) c s)) ⊎ IsUse s (leaf p x k)

@@ -12,14 +12,15 @@ use Rattle.sx_base.specs.declared.name.FrameNo.{FrameNo}
 use Rattle.sx_base.specs.declared.name.Label.{Label}
 use Rattle.sx_base.specs.declared.span.Span.{Span}
 use Rattle.sx_tree.specs.Changes.{stamp}
-use Rattle.sx_tree.specs.Tree.{Tree, atom, leaf, pair, vector, nil, chain}
+use Rattle.sx_tree.specs.Tree.{Tree, atom, leaf, pair, vector, nil, chain, span_of}
 use Rattle.sx_tree.specs.Leaves.{strip}
 use Rattle.sx_core.specs.Core.{PlainCore, quoted, assignment, call, cores, matching}
 use Rattle.sx_core.specs.CoreView.{clauses}
-use Rattle.sx_core.specs.Labels.{has_label}
+use Rattle.sx_core.specs.Labels.{has_label, with_label}
 use Rattle.sx_core.specs.declared.core_form.CoreForm.{CoreForm}
 use Rattle.sx_core.specs.declared.core_form.CoreForm.TheVariants as core_forms
 use Rattle.sx_core.specs.declared.formals.Formals.{Formals}
+use Rattle.sx_core.specs.declared.link.LinkKind.TheVariants as kinds
 use Rattle.sx_core.specs.declared.record.LibRecord.{LibRecord}
 use Rattle.sx_shapes.specs.At.{fault_at}
 use Rattle.sx_shapes.specs.Forms.{binding, bindings, case_lambda_shape, formals, formals_before, if_shape, lambda_case, lambda_shape, let_syntax_shape, letrec_shape, set_shape, syntax_case_shape, shaped, or_bad, shape_of, shape}
@@ -31,7 +32,7 @@ use Rattle.sx_stage.specs.Patterns.{check_literals as literals_on_stage}
 use Rattle.sx_standing.specs.InScope.{cut, is_in_scope}
 use Rattle.sx_standing.specs.Patterns.{check_literals}
 use Rattle.sx_standing.specs.Standing.{standing_of, role_of}
-use Rattle.sx_standing.specs.State.{State, fresh_frame}
+use Rattle.sx_standing.specs.State.{State, fresh_frame, noted}
 use Rattle.sx_standing.specs.declared.standing.Standing.TheVariants as standing
 use Rattle.sx_standing.specs.declared.standing.Variable.{Variable}
 use Rattle.sx_heads.specs.Depth.{deeper, most_round}
@@ -46,7 +47,7 @@ use Rattle.sx_expand.specs.Body.{lambda_at, sequence_of}
 use Rattle.sx_expand.specs.Expression.{all_clauses, alternate, application as call_form, conditional, in_order, in_sequence, keywords_form, perform, set as set_form, syntax_case, inside, full_room}
 use Rattle.sx_expand.specs.Inside.{Inside}
 use Rattle.sx_expand.specs.Keywords.{keywords as bound_keywords}
-use Rattle.sx_expand.specs.Settle.{step_of}
+use Rattle.sx_expand.specs.Settle.{linked, step_of}
 use Rattle.sx_expand.specs.declared.settle.Step.TheVariants as steps
 use Rattle.sx_room_laws.specs.Counted.{Round, sequence, operator, test, subject, value, keywords, body, one_case, block, initial, IsWord, IsTarget, IsAlone, AreFormals, IsBinder, IsRound, stamp_round, counted, next_frame, in_frames, rounds_in_frames, within, rounds_within, next, left, all_left, AreRound, round, truth, put, put_in, code, code_in, FormsCountOnce}
 use Rattle.sx_room_laws.proofs.Items.{shallow-inside}
@@ -72,12 +73,25 @@ planned (sequence word) s = s
 planned operator s = s
 planned (test word) s = s
 planned (subject word) s = s
-planned (value word id v) s = next (value word id v) s
+planned (value word id v) s = record s { assigned = with_label s.assigned v.label }
 planned (keywords recursive word) s = s
 planned (body word ids fs v) s = s
 planned (one_case word) s = s
 planned (block star word) s = s
 planned (initial star word id l v) s = s
+
+-- the state with the links of the form, in which what is planned is done
+abbrev entered : Round → State → State
+entered (sequence word) s = s
+entered operator s = s
+entered (test word) s = s
+entered (subject word) s = s
+entered (value word id v) s = next (value word id v) s
+entered (keywords recursive word) s = s
+entered (body word ids fs v) s = s
+entered (one_case word) s = s
+entered (block star word) s = s
+entered (initial star word id l v) s = s
 
 not-leaf : (rs : List Round) (t : Tree) → is_leaf t ≡ false → is_leaf (put_in rs t) ≡ false
 not-leaf [] t h = h
@@ -118,12 +132,18 @@ stamp-length : (f : FrameNo) (rs : List Round) → length (map (stamp_round f) r
 stamp-length f [] = refl
 stamp-length f (r ∷ rs) = ap suc (stamp-length f rs)
 
+stamp-span : (f : FrameNo) (t : Tree) → span_of (stamp f t) ≡ span_of t
+stamp-span f (atom o a) = refl
+stamp-span f (leaf o x c) = refl
+stamp-span f (pair o a d) = refl
+stamp-span f (vector o d) = refl
+
 stamp-next : (f : FrameNo) (r : Round) (s : State) → next (stamp_round f r) s ≡ next r s
 stamp-next f (sequence word) s = refl
 stamp-next f operator s = refl
 stamp-next f (test word) s = refl
 stamp-next f (subject word) s = refl
-stamp-next f (value word id v) s = refl
+stamp-next f (value word id v) s = ap (λ o. noted o v.label kinds.Refer (record s { assigned = with_label s.assigned v.label })) (stamp-span f id)
 stamp-next f (keywords recursive word) s = refl
 stamp-next f (body word ids fs v) s = refl
 stamp-next f (one_case word) s = refl
@@ -199,7 +219,7 @@ chosen true true false d v w x y z h i j k = absurd (cc)
 chosen true false c d v w x y z h i j k = absurd (cc)
 chosen false b c d v w x y z h i j k = absurd (cc)
 
-target-is : (place : Span) (level : ℕ) (t id : Tree) (s : State) (v : Variable) (word : Tree) → IsTarget level s id v → target_variable place level t id v s ≡ Ok (v.label, next (value word id v) s)
+target-is : (place : Span) (level : ℕ) (t id : Tree) (s : State) (v : Variable) (word : Tree) → IsTarget level s id v → target_variable place level t id v s ≡ Ok (v.label, planned (value word id v) s)
 unfolding target_variable
 target-is place level t id s v word is =
     chosen v.own (nat_eq v.level level) (is_in_scope s v) (has_label s.exports v.label) _ _ _ _ _ is.own ((unsigned_Decides v.level level).1 is.level) is.in_scope is.inside
@@ -285,11 +305,24 @@ module _ (place : Span) (level : ℕ) (form : Tree) (s : State) (no : is_leaf fo
   plan-settles (block star word) rs u = refl
   plan-settles (initial star word id l v) rs u = refl
 
+  enters : (r : Round) → linked (put r form) (plan place r form) (planned r s) ≡ entered r s
+  enters (sequence word) = refl
+  enters operator = refl
+  enters (test word) = refl
+  enters (subject word) = refl
+  enters (value word id v) = refl
+  enters (keywords recursive word) = refl
+  enters (body word ids fs v) = refl
+  enters (one_case word) = refl
+  enters (block star word) = refl
+  enters (initial star word id l v) = refl
+
   in-round : (records : List LibRecord) (room depth : ℕ) (r : Round) (rs : List Round) → IsRound place level s r rs → depth ≤ most_round
-      → (inside records (suc room)).form place level depth (put r form) s ≡ perform (inside records room) place level depth (put r form) (plan place r form) (planned r s)
+      → (inside records (suc room)).form place level depth (put r form) s ≡ perform (inside records room) place level depth (put r form) (plan place r form) (entered r s)
   in-round records room depth r rs is few =
       form-is records room place level depth (put r form) s
       ∙ done-at (inside records room) place level depth (put r form) s (planned r s) (plan place r form) few (plan-is r rs is) (λ records. plan-settles r records (planned r s))
+      ∙ ap (perform (inside records room) place level depth (put r form) (plan place r form)) (enters r)
 
 -- Right in a body each of these is an expression that waits.
 
@@ -349,7 +382,7 @@ module _ (place : Span) (level : ℕ) (form : Tree) (s : State) where
   abbrev tried : (go : Inside) (depth : ℕ) → PlainCore → State → Result (PlainCore × State) Fault
   tried go depth c u = after (check_literals place [] u) (λ _ w. after (all_clauses go place level (deeper depth) [] [] w) (λ xs. give (matching c (clauses xs) place)))
 
-  faulted : (go : Inside) (depth : ℕ) (t : Tree) (r : Round) (f : Fault) → go.form place level (deeper depth) (within r s form) (next r s) ≡ Err f → Taking go place level (deeper depth) r s form → perform go place level depth t (plan place r form) (planned r s) ≡ Err f
+  faulted : (go : Inside) (depth : ℕ) (t : Tree) (r : Round) (f : Fault) → go.form place level (deeper depth) (within r s form) (next r s) ≡ Err f → Taking go place level (deeper depth) r s form → perform go place level depth t (plan place r form) (entered r s) ≡ Err f
   unfolding perform in_sequence call_form conditional each gather syntax_case set_form keywords_form bound_keywords fresh_frame
   faulted go depth t (sequence word) f e w = ap (λ x. after (after x (λ c u. Ok (c ∷ [], u))) (λ cs. give (sequence_of cs))) e
   faulted go depth t operator f e w = ap (λ x. after x (λ c u. after (in_order go place level (deeper depth) [] u) (λ cs. give (call c (cores cs))))) e
@@ -366,7 +399,7 @@ module _ (place : Span) (level : ℕ) (form : Tree) (s : State) where
   faulted go depth t (initial star word id l v) f e w = initial-faulted go place level (deeper depth) t form s star id l v w.bound truth f e
 
   made : (go : Inside) (depth : ℕ) (t : Tree) (r : Round) (c : PlainCore) (u : State) → go.form place level (deeper depth) (within r s form) (next r s) ≡ Ok (c, u) → ((u : State) → go.form place level (deeper depth) truth u ≡ Ok (quoted (strip truth), u)) → TakesTruth go place level (deeper depth) → Taking go place level (deeper depth) r s form
-      → perform go place level depth t (plan place r form) (planned r s) ≡ Ok (code place r s c, left r s u)
+      → perform go place level depth t (plan place r form) (entered r s) ≡ Ok (code place r s c, left r s u)
   unfolding perform in_sequence call_form conditional each gather syntax_case set_form literals_on_stage keywords_form bound_keywords fresh_frame
   made go depth t (sequence word) c u e k m w = ap (λ x. after (after x (λ c u. Ok (c ∷ [], u))) (λ cs. give (sequence_of cs))) e
   made go depth t operator c u e k m w = ap (λ x. after x (λ c u. after (in_order go place level (deeper depth) [] u) (λ cs. give (call c (cores cs))))) e
@@ -494,7 +527,7 @@ module _ (records : List LibRecord) (place : Span) (level : ℕ) where
 
   -- one more of them
   refused-in : (n : ℕ) → Refuses n → (r : Round) (t : Tree) (rs : List Round) (room depth : ℕ) (s : State) → is_leaf t ≡ false → length rs ≡ n → IsRound place level s r rs → AreRound place level (next r s) (rounds_within r s rs) → depth + suc n ≡ most_round + 1
-      → perform (inside records (n + room)) place level depth (put r (put_in rs t)) (plan place r (put_in rs t)) (planned r s) ≡ Err (fault_at kind.TooDeep t place [])
+      → perform (inside records (n + room)) place level depth (put r (put_in rs t)) (plan place r (put_in rs t)) (entered r s) ≡ Err (fault_at kind.TooDeep t place [])
   refused-in n all (sequence word) t rs room depth s inner e is more h =
       faulted place level (put_in rs t) s (inside records (n + room)) depth (put (sequence word) (put_in rs t)) (sequence word) (fault_at kind.TooDeep t place []) (at-depth (n + room) depth (within (sequence word) s (put_in rs t)) (next (sequence word) s) (omega (arith, h)) ∙ refused-within n all (sequence word) t rs room (suc depth) s inner e more (omega (arith, h))) tt
   refused-in n all operator t rs room depth s inner e is more h =
@@ -615,7 +648,7 @@ module _ (records : List LibRecord) (place : Span) (level : ℕ) where
         (is-taken records (n + room) (lambda_at (next_frame u) place level) (deeper depth) truth (counted u) (few-deeper depth most_round (omega (arith, few)) few) (record { kept = begun.kept; planned = refl }))
 
     made-in : (n : ℕ) → Takes n → (r : Round) (rs : List Round) (room depth : ℕ) (s : State) → length rs ≡ n → IsRound place level s r rs → AreRound place level (next r s) (rounds_within r s rs) → depth + suc n ≤ most_round
-        → perform (inside records (n + suc room)) place level depth (put r (put_in rs (atom o a))) (plan place r (put_in rs (atom o a))) (planned r s) ≡ Ok (code_in place (r ∷ rs) s constant, all_left (r ∷ rs) s)
+        → perform (inside records (n + suc room)) place level depth (put r (put_in rs (atom o a))) (plan place r (put_in rs (atom o a))) (entered r s) ≡ Ok (code_in place (r ∷ rs) s constant, all_left (r ∷ rs) s)
     made-in n all (sequence word) rs room depth s e is more h =
         made place level (put_in rs (atom o a)) s (inside records (n + suc room)) depth (put (sequence word) (put_in rs (atom o a))) (sequence word) (code_in place rs (next (sequence word) s) constant) (all_left rs (next (sequence word) s))
         (at-depth (n + suc room) depth (within (sequence word) s (put_in rs (atom o a))) (next (sequence word) s) (omega (arith, h)) ∙ taken-within n all (sequence word) rs room (suc depth) s e more (omega (arith, h)))

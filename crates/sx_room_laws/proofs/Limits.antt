@@ -24,7 +24,7 @@ use Rattle.sx_expand.specs.Body.{sequence_of}
 use Rattle.sx_expand.specs.Expanding.{expression}
 use Rattle.sx_expand.specs.Expression.{in_sequence, perform, perform_settled, form_at, inside, full_room}
 use Rattle.sx_expand.specs.Inside.{Inside}
-use Rattle.sx_expand.specs.Settle.{next_form, too_many, step_of, step, settled_by, settle_to, settle}
+use Rattle.sx_expand.specs.Settle.{next_form, too_many, step_of, step, linked, settled_by, settle_to, settle}
 use Rattle.sx_expand.specs.declared.settle.Step.TheVariants as steps
 use Rattle.sx_room_laws.specs.Limit.{begun, IsBegin, LimitOfNesting}
 use Rattle.sx_room_laws.proofs.Items.{shallow-inside}
@@ -39,7 +39,7 @@ within-limit depth h = grind (arith, nat_tests)
 -- A form that is no use is done at once.
 
 module _ (go : Inside) (place : Span) (level depth : ℕ) (t : Tree) (s v : State) (p : Plan) (few : depth ≤ most_round) where
-  settled-by : (left : ℕ) → plan_of place level t s ≡ Ok (p, v) → ((rs : List LibRecord) → step_of rs place t p v ≡ Ok (steps.Plan p, v)) → settle_to go.earlier left place level t s ≡ Ok (record { place = place; form = t; plan = p }, v)
+  settled-by : (left : ℕ) → plan_of place level t s ≡ Ok (p, v) → ((rs : List LibRecord) → step_of rs place t p v ≡ Ok (steps.Plan p, v)) → settle_to go.earlier left place level t s ≡ Ok (record { place = place; form = t; plan = p }, linked t p v)
   unfolding settle_to step
   settled-by zero e k =
       ap (λ r. after (after r (step_of go.earlier place t)) (settled_by (λ k. too_many t place) place t)) e ∙ ap (λ r. after r (settled_by (λ k. too_many t place) place t)) (k go.earlier)
@@ -47,7 +47,7 @@ module _ (go : Inside) (place : Span) (level depth : ℕ) (t : Tree) (s v : Stat
       ap (λ r. after (after r (step_of go.earlier place t)) (settled_by (λ m s'. after (next_form go.earlier left place t m None s') (settle_to go.earlier left (place_of t place) level)) place t)) e
       ∙ ap (λ r. after r (settled_by (λ m s'. after (next_form go.earlier left place t m None s') (settle_to go.earlier left (place_of t place) level)) place t)) (k go.earlier)
 
-  pub done-at : plan_of place level t s ≡ Ok (p, v) → ((rs : List LibRecord) → step_of rs place t p v ≡ Ok (steps.Plan p, v)) → form_at go place level depth t s ≡ perform go place level depth t p v
+  pub done-at : plan_of place level t s ≡ Ok (p, v) → ((rs : List LibRecord) → step_of rs place t p v ≡ Ok (steps.Plan p, v)) → form_at go place level depth t s ≡ perform go place level depth t p (linked t p v)
   unfolding form_at
   done-at e k =
       ap (λ b. if b then fault_form kind.TooDeep t place s else after (settle go.earlier place level t s) (perform_settled go level depth)) (within-limit depth few)

@@ -8,19 +8,20 @@ use Rattle.sx_base.specs.declared.name.FrameNo.{FrameNo}
 use Rattle.sx_base.specs.declared.name.Label.{Label}
 use Rattle.sx_base.specs.declared.span.Span.{Span}
 use Rattle.sx_tree.specs.Changes.{stamp}
-use Rattle.sx_tree.specs.Tree.{Tree, atom, pair, nil, chain}
+use Rattle.sx_tree.specs.Tree.{Tree, atom, pair, nil, chain, span_of}
 use Rattle.sx_tree.specs.Leaves.{strip}
 use Rattle.sx_core.specs.Core.{PlainCore, quoted, one_armed, assignment, procedure, letrec, call, matching, none, no_init, init, no_case, case, no_clause}
 use Rattle.sx_core.specs.Labels.{has_label, with_label}
 use Rattle.sx_core.specs.declared.core_form.CoreForm.{CoreForm}
 use Rattle.sx_core.specs.declared.core_form.CoreForm.TheVariants as core_forms
 use Rattle.sx_core.specs.declared.formals.Formals.{Formals}
+use Rattle.sx_core.specs.declared.link.LinkKind.TheVariants as kinds
 use Rattle.sx_core.specs.declared.record.LibRecord.{LibRecord}
 use Rattle.sx_shapes.specs.Lists.{is_leaf, is_nil_atom, all_ids}
 use Rattle.sx_standing.specs.Binders.{bind_variable, bind_formals}
 use Rattle.sx_standing.specs.InScope.{cut, is_in_scope}
 use Rattle.sx_standing.specs.Standing.{standing_of}
-use Rattle.sx_standing.specs.State.{State, fault_form}
+use Rattle.sx_standing.specs.State.{State, fault_form, noted}
 use Rattle.sx_standing.specs.declared.standing.Standing.TheVariants as standing
 use Rattle.sx_standing.specs.declared.standing.Variable.{Variable}
 use Rattle.sx_heads.specs.Depth.{most_round}
@@ -151,7 +152,7 @@ next (sequence word) s = s
 next operator s = s
 next (test word) s = s
 next (subject word) s = s
-next (value word id v) s = record s { assigned = with_label s.assigned v.label }
+next (value word id v) s = noted (span_of id) v.label kinds.Refer (record s { assigned = with_label s.assigned v.label })
 next (keywords recursive word) s = counted s
 next (body word ids fs v) s = counted v
 next (one_case word) s = counted (counted (counted s))

@@ -10,7 +10,7 @@ use Rattle.sx_base.specs.declared.name.Label.{Label}
 use Rattle.sx_base.specs.declared.name.Mark.{Mark}
 use Rattle.sx_base.specs.declared.span.Span.{Span}
 use Rattle.sx_tree.specs.Changes.{enter, leave, stamp}
-use Rattle.sx_tree.specs.Tree.{Tree}
+use Rattle.sx_tree.specs.Tree.{Tree, span_of}
 use Rattle.sx_frames.specs.Scope.{Scope, bound}
 use Rattle.sx_scope.specs.Stands.{row_for}
 use Rattle.sx_core.specs.Bindings.{bound_to}
@@ -18,6 +18,7 @@ use Rattle.sx_core.specs.Core.{PlainCore, instance}
 use Rattle.sx_core.specs.Template.{PlainTemplate}
 use Rattle.sx_core.specs.declared.core_form.CoreForm.{CoreForm}
 use Rattle.sx_core.specs.declared.record.LibRecord.{LibRecord}
+use Rattle.sx_core.specs.declared.link.LinkKind.TheVariants as kinds
 use Rattle.sx_pattern.specs.Compile as patterns
 use Rattle.sx_pattern.specs.declared.compile.Compiled.{Compiled}
 use Rattle.sx_pattern.specs.declared.compile.PatternVariable.{PatternVariable}
@@ -42,6 +43,7 @@ use Rattle.sx_standing.specs.Patterns.{pattern_of, check_literals, bind_pattern_
 use Rattle.sx_standing.specs.RecordUses.{at_state, defines_type, count_record_type, record_tree, record_marked, use_record}
 use Rattle.sx_standing.specs.State.{State, stage_of, with_stage, staged, fresh, fresh_frame}
 use Rattle.sx_standing.specs.Uses.{macro_expression, use_keyword, asks_variable, bind_keyword_as, bind_keyword, bind_keywords, finish_keyword}
+use Rattle.sx_standing.proofs.Noted.{noted-keeps}
 use Rattle.sx_heads.specs.declared.plan.KeywordUse.{KeywordUse}
 use Rattle.sx_heads.specs.declared.plan.KeywordUse.TheVariants as keyword_use
 use Rattle.sx_expand.specs.Settle.{used_form, next_form}
@@ -73,7 +75,8 @@ module _ (own : LibName) where
     unfolding bind_variable fresh
     steps-variable top id s n = gave-if (St own s) (is_leaf id) _ _
         (λ e. steps-counted s (bind_as frame id place level top s.names (counted s))
-        (steps-after own (counted s) (put_row id place frame (as_label s.names) (counted s)) _ (steps-row id place frame (as_label s.names) (counted s) mine n) (λ a t m. stays own t _ m refl)))
+        (steps-after own (counted s) (put_row id place frame (as_label s.names) (counted s)) _ (steps-row id place frame (as_label s.names) (counted s) mine n)
+        (λ a t m. noted-keeps (Steps own t) (span_of id) (as_label s.names) kinds.Bind _ (λ ls. stays own t _ m refl))))
         (λ e. tt)
 
     steps-all : (ids : List Tree) (s : State) → Names own s → Gave (St own s) (bind_all frame place level ids s)

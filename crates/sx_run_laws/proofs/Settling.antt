@@ -35,6 +35,7 @@ use Rattle.sx_expand.specs.declared.settle.Step.TheVariants as steps
 use Rattle.sx_expand.specs.declared.settle.ItemStep.{ItemStep}
 use Rattle.sx_expand.specs.declared.settle.ItemStep.TheVariants as item_steps
 use Rattle.sx_expand.specs.declared.settle.SettledItem.{SettledItem}
+use Rattle.sx_expand.proofs.Linked.{linked-keeps}
 use Rattle.sx_expand_laws.proofs.Acts.{Gave, gave-after, gave-less, gave-if}
 use Rattle.sx_expand_laws.proofs.Items.{item-cases}
 use Rattle.sx_expand_laws.proofs.Plans.{plan-cases}
@@ -88,7 +89,7 @@ module _ (own : LibName) (rs : List LibRecord) where
   steps-settle zero place level t s n = steps-after own s (step rs place level t s) (settled_by (λ l. too_many t place) place t) (steps-step place level t s n) by
     where
       by : (x : Step) (u : State) → Names own u → Gave (St own u) (settled_by (λ l. too_many t place) place t x u)
-      by (steps.Plan p) u m = self own u m
+      by (steps.Plan p) u m = linked-keeps (Steps own u) t u (λ ls. stays own u (record u { links = ls }) m refl) p
       by (steps.Use l) u m = tt
   steps-settle (suc left) place level t s n =
       steps-after own s (step rs place level t s) (settled_by (λ l s'. after (next_form rs left place t l None s') (settle_to rs left (place_of t place) level)) place t) (steps-step place level t s n)
@@ -96,7 +97,7 @@ module _ (own : LibName) (rs : List LibRecord) where
     where
       by : (x : Step) (u : State) → Names own u → ((y : Tree) (v : State) → Names own v → Gave (St own v) (settle_to rs left (place_of t place) level y v))
           → Gave (St own u) (settled_by (λ l s'. after (next_form rs left place t l None s') (settle_to rs left (place_of t place) level)) place t x u)
-      by (steps.Plan p) u m next = self own u m
+      by (steps.Plan p) u m next = linked-keeps (Steps own u) t u (λ ls. stays own u (record u { links = ls }) m refl) p
       by (steps.Use l) u m next = steps-after own u (next_form rs left place t l None u) (settle_to rs left (place_of t place) level) (steps-next own rs left place t l None u m) next
 
   -- Forms of a body, whose frame is one of the library.

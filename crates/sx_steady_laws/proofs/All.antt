@@ -21,6 +21,7 @@ use Rattle.sx_expand.specs.Inside.{Inside}
 use Rattle.sx_expand.specs.Settle.{next_form, too_many, set_step, step_of, step, settled_by, settle_to, settle}
 use Rattle.sx_expand.specs.declared.settle.Step.{Step}
 use Rattle.sx_expand.specs.declared.settle.Step.TheVariants as steps
+use Rattle.sx_expand.proofs.Linked.{linked-keeps}
 use Rattle.sx_expand_laws.proofs.Plans.{plan-later}
 use Rattle.sx_expand_laws.proofs.SparesAll.{inside-spares}
 use Rattle.sx_stuck_laws.specs.Uses.{Around}
@@ -31,7 +32,7 @@ use Rattle.sx_steady_laws.proofs.OnStage.{asks-go, next-go}
 use Rattle.sx_steady_laws.proofs.Plans.{plan-light}
 use Rattle.sx_steady_laws.proofs.Quasi.{quasi-runs}
 use Rattle.sx_steady_laws.proofs.Sure.{Sure, sure-if}
-use Rattle.sx_steady_laws.proofs.Safe.{Safe, B, Goes, goes-self, goes-light, go}
+use Rattle.sx_steady_laws.proofs.Safe.{Safe, B, Goes, goes-self, goes-links, goes-light, go}
 
 module _ (own : LibName) (texts : List CodeNo) (rs : List LibRecord) (x : Around own texts rs) where
   abbrev S : State → Type 0
@@ -78,7 +79,7 @@ module _ (own : LibName) (texts : List CodeNo) (rs : List LibRecord) (x : Around
     settle-goes zero place t s b h = go own texts rs s (step rs place level t s) (settled_by (λ l. too_many t place) place t) (step-goes place t s b h) by
       where
         by : (z : Step) (u : State) → Goes own texts rs s u → Sure (R u) (settled_by (λ l. too_many t place) place t z u)
-        by (steps.Plan p) u g = goes-self own texts rs u g.onward.0 g.safe
+        by (steps.Plan p) u g = linked-keeps (Goes own texts rs u) t u (λ ls. goes-links own texts rs u ls g.onward.0 g.safe) p
         by (steps.Use l) u g = tt
     settle-goes (suc left) place t s b h =
         go own texts rs s (step rs place level t s) (settled_by (λ l s'. after (next_form rs left place t l None s') (settle_to rs left (place_of t place) level)) place t) (step-goes place t s b h)
@@ -86,7 +87,7 @@ module _ (own : LibName) (texts : List CodeNo) (rs : List LibRecord) (x : Around
       where
         by : (z : Step) (u : State) → Goes own texts rs s u → ((y : Tree) (v : State) → Bs v → S v → Sure (R v) (settle_to rs left (place_of t place) level y v))
             → Sure (R u) (settled_by (λ l s'. after (next_form rs left place t l None s') (settle_to rs left (place_of t place) level)) place t z u)
-        by (steps.Plan p) u g next = goes-self own texts rs u g.onward.0 g.safe
+        by (steps.Plan p) u g next = linked-keeps (Goes own texts rs u) t u (λ ls. goes-links own texts rs u ls g.onward.0 g.safe) p
         by (steps.Use l) u g next =
             go own texts rs u (next_form rs left place t l None u) (settle_to rs left (place_of t place) level) (next-go own texts rs x left place t l None u g.onward.0 g.safe) (λ y v j. next y v j.onward.0 j.safe)
 

@@ -1,5 +1,5 @@
 -- Binding identifiers is safe.
-use Rattle.std.proofs.Common.{◌≡◌, ℕ, Bool, true, false, List, [], ◌∷◌, Option, Some, None, Result, Ok, Err, refl, sym, ap, subst, if◌then◌else◌}
+use Rattle.std.proofs.Common.{◌≡◌, ℕ, Bool, true, false, List, [], ◌∷◌, ◌++◌, Option, Some, None, Result, Ok, Err, refl, sym, ap, subst, if◌then◌else◌}
 use Rattle.std.specs.Prelude.{is_some}
 use Rattle.sx_base.specs.Act.{after, give, each}
 use Rattle.sx_base.specs.Named.{Named}
@@ -10,7 +10,7 @@ use Rattle.sx_base.specs.declared.name.CodeNo.{CodeNo}
 use Rattle.sx_base.specs.declared.name.FrameNo.{FrameNo}
 use Rattle.sx_base.specs.declared.name.Label.{Label}
 use Rattle.sx_base.specs.declared.span.Span.{Span}
-use Rattle.sx_tree.specs.Tree.{Tree}
+use Rattle.sx_tree.specs.Tree.{Tree, span_of}
 use Rattle.sx_frames.specs.Rows.{second_binder}
 use Rattle.sx_frames.specs.Scope.{with_row, label_at}
 use Rattle.sx_scope.specs.Stands.{symbol_of, row_for}
@@ -18,6 +18,7 @@ use Rattle.sx_core.specs.Labels.{with_label}
 use Rattle.sx_core.specs.Template.{PlainTemplate}
 use Rattle.sx_core.specs.declared.binding.Binding.TheVariants as binding
 use Rattle.sx_core.specs.declared.record.LibRecord.{LibRecord}
+use Rattle.sx_core.specs.declared.link.LinkKind.TheVariants as kinds
 use Rattle.sx_pattern.specs.Compile as patterns
 use Rattle.sx_pattern.specs.declared.compile.Compiled.{Compiled}
 use Rattle.sx_pattern.specs.declared.compile.PatternVariable.{PatternVariable}
@@ -28,7 +29,8 @@ use Rattle.sx_stage.specs.Patterns as stage_patterns
 use Rattle.sx_standing.specs.Binders.{bind_variable, bind_as, row_put, put_row, put_variable, variable_for, next_index, bind_all, bind_rest, bind_formals, bind_spec, bind_specs}
 use Rattle.sx_standing.specs.InScope.{with_local}
 use Rattle.sx_standing.specs.Patterns.{pattern_of, check_literals, put_pattern_variable, bind_pattern_variable, bind_next, bind_pattern, has_variables, first_outside, outside_fault, template_in, template_of}
-use Rattle.sx_standing.specs.State.{State, Does, fresh, fault_form, stage_of, staged}
+use Rattle.sx_standing.specs.State.{State, Does, fresh, fault_form, note, stage_of, staged}
+use Rattle.sx_standing.proofs.Noted.{noted-keeps}
 use Rattle.sx_template.specs.Compile as templates
 use Rattle.sx_expand_laws.proofs.Acts.{each-cons, each-nil}
 use Rattle.sx_expand_laws.proofs.Naming.{as_label, counted}
@@ -37,7 +39,7 @@ use Rattle.sx_steady_laws.proofs.PatternsSay as patterns_say
 use Rattle.sx_steady_laws.proofs.TemplatesSay as templates_say
 use Rattle.sx_steady_laws.proofs.Says.{Says}
 use Rattle.sx_steady_laws.proofs.Sure.{Sure, sure-after, sure-less, sure-with, sure-if, sure-gather}
-use Rattle.sx_steady_laws.proofs.Safe.{Safe, safe-frames, safe-names, safe-counted, safe-bound, Light, light-self, light-then}
+use Rattle.sx_steady_laws.proofs.Safe.{Safe, safe-frames, safe-names, safe-counted, safe-bound, Light, light-self, light-links, light-then}
 
 module _ (own : LibName) (texts : List CodeNo) (rs : List LibRecord) where
   abbrev S : State → Type 0
@@ -73,16 +75,18 @@ module _ (own : LibName) (texts : List CodeNo) (rs : List LibRecord) where
       (λ e. by (is_some (label_at s.frames f (row_for id (as_label s.names)).symbol (row_for id (as_label s.names)).marks))) (λ e. tt)
     where
       by : (b : Bool)
-          → Sure (L s) (after (row_put id place (counted s) (if b then Err (second_binder (symbol_of id)) else Ok (with_row s.frames f (row_for id (as_label s.names))))) (λ _ t. after (put_variable (as_label s.names) (variable_for id level top (counted s).index) t) (λ _. give (as_label s.names))))
+          → Sure (L s) (after (row_put id place (counted s) (if b then Err (second_binder (symbol_of id)) else Ok (with_row s.frames f (row_for id (as_label s.names))))) (λ _ t. after (put_variable (as_label s.names) (variable_for id level top (counted s).index) t) (λ _. note (as_label s.names) (span_of id) (as_label s.names) kinds.Bind)))
       by true = tt
       by false =
           let t : State = record (counted s) { frames = with_row s.frames f (row_for id (as_label s.names)) } in
           let v = variable_for id level top s.index in
-          record {
+          let w : State = record t { bindings = s.bindings ++ (as_label s.names, binding.Variable v) ∷ []; index = next_index v.level s.index; scope = with_local v.top (as_label s.names) s.scope } in
+          noted-keeps (Light own texts rs s) (span_of id) (as_label s.names) kinds.Bind w
+          (λ ls. light-links own texts rs s w ls (record {
             safe = safe-bound own texts rs (as_label s.names) (binding.Variable v) t (next_index v.level s.index) (with_local v.top (as_label s.names) s.scope) (λ m c e. absurd (cc))
                 (safe-frames own texts rs (with_row s.frames f (row_for id (as_label s.names))) (counted s) (safe-counted own texts rs s h));
             keywords = refl;
-          }
+          }))
 
   rest-light : (f : FrameNo) (place : Span) (level : ℕ) (o : Option Tree) (s : State) → S s → Sure (L s) (bind_rest f place level o s)
   rest-light f place level None s h = light-self own texts rs s h

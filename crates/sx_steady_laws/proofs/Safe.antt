@@ -14,6 +14,7 @@ use Rattle.sx_core.specs.Core.{PlainCore}
 use Rattle.sx_core.specs.declared.binding.Binding.{Binding}
 use Rattle.sx_core.specs.declared.binding.Binding.TheVariants as binding
 use Rattle.sx_core.specs.declared.record.LibRecord.{LibRecord}
+use Rattle.sx_core.specs.declared.link.Link.{Link}
 use Rattle.sx_core_laws.specs.Records.{defined}
 use Rattle.sx_value.specs.declared.value.Value.{Value}
 use Rattle.sx_whole_laws.specs.Extends.{Extends}
@@ -28,7 +29,7 @@ use Rattle.sx_expand_laws.specs.States.{IsOwn, Adds, Later, LaterBut}
 use Rattle.sx_core_laws.specs.Templates.{Depths}
 use Rattle.sx_base.specs.declared.name.FrameNo.{FrameNo}
 use Rattle.sx_expand_laws.proofs.Acts.{Gave}
-use Rattle.sx_expand_laws.proofs.Later.{bound-more}
+use Rattle.sx_expand_laws.proofs.Later.{bound-more, later-links}
 use Rattle.sx_expand_laws.proofs.Naming.{counted}
 use Rattle.sx_expand_laws.specs.Kept.{IsKeptWith, IsGoodState}
 use Rattle.sx_expand_laws.proofs.Spent.{Onward}
@@ -81,6 +82,10 @@ module _ (own : LibName) (texts : List CodeNo) (rs : List LibRecord) where
   pub safe-rest : (s : State) (exports assigned scope : List Label) (uses types : ℕ) → Safe s → Safe (record s { exports = exports; assigned = assigned; scope = scope; uses_left = uses; record_types = types })
   safe-rest s exports assigned scope uses types h = record { stage = h.stage; imported = h.imported; made = h.made }
 
+  -- and so do links
+  pub safe-links : (s : State) (ls : List Link) → Safe s → Safe (record s { links = ls })
+  safe-links s ls h = record { stage = h.stage; imported = h.imported; made = h.made }
+
   -- what the stage leaves
   pub safe-staged : {A : Type 0} (s : State) (r : Result (A × PlainStage) Fault) → Safe s → Ends (λ a g. Steady own texts rs g × OwnMade own g) r → Sure (λ a u. Safe u) (staged s r)
   safe-staged s (Ok p) h k = record { stage = k.0; imported = h.imported; made = k.1 }
@@ -102,6 +107,9 @@ module _ (own : LibName) (texts : List CodeNo) (rs : List LibRecord) where
   pub light-self : (s : State) → Safe s → Light s s
   light-self s h = record { safe = h; keywords = refl }
 
+  pub light-links : (s u : State) (ls : List Link) → Light s u → Light s (record u { links = ls })
+  light-links s u ls k = record { safe = safe-links u ls k.safe; keywords = k.keywords }
+
   pub light-then : (s t u : State) → Light s t → Light t u → Light s u
   light-then s t u h k = record { safe = k.safe; keywords = k.keywords ∙ h.keywords }
 
@@ -122,6 +130,13 @@ module _ (own : LibName) (texts : List CodeNo) (rs : List LibRecord) where
 
   pub goes-self : (s : State) → B s → Safe s → Goes s s
   goes-self s b h = record { onward = onward-self own given s b; safe = h; fresh = fresh-same s s refl }
+
+  pub goes-links : (s : State) (ls : List Link) → B s → Safe s → Goes s (record s { links = ls })
+  goes-links s ls b h = record {
+    onward = onward-later own given s (record s { links = ls }) (later-links own s ls b.sound.next) (λ l c e. e) b;
+    safe = safe-links s ls h;
+    fresh = fresh-same s (record s { links = ls }) refl;
+  }
 
   pub goes-then : (s t u : State) → Goes s t → Goes t u → Goes s u
   goes-then s t u g k = record { onward = onward-then own given s t u g.onward k.onward; safe = k.safe; fresh = λ m e v x o. by m e v o (k.fresh m e v x o) }
