@@ -171,7 +171,7 @@ fn next_step<M: Transformers, N: Ledger, L: Ledger>(
 }
 
 /// A form that is no use, and its plan. The identifier that it is, or that it assigns, is linked.
-fn settled(state: &mut Expansion, place: Span, form: Syn, plan: Plan) -> Result<Settled, Stop>
+fn settled_form(state: &mut Expansion, place: Span, form: Syn, plan: Plan) -> Result<Settled, Stop>
     ensures { GivesAfter (λ d. d) result state.new (Ok (record { place = place; form = form; plan = plan }, linked form plan state.old)) }
 {
     link(state, &form, &plan)?;
@@ -197,7 +197,7 @@ pub(crate) fn settle<M: Transformers, N: Ledger, L: Ledger>(
             ..*at
         };
         let keyword = match next_step(state, &form, &here, counts)? {
-            Step::Plan(plan) => return settled(state, place, form, plan),
+            Step::Plan(plan) => return settled_form(state, place, form, plan),
             Step::Use(keyword) => keyword,
         };
         if left == 0 {
