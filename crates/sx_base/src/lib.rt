@@ -29,5 +29,3 @@ pub mod place;
 pub mod span;
 pub mod steps;
 pub mod symbol;
-#[cfg(test)]
-mod tests;

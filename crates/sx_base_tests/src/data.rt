@@ -1,17 +1,17 @@
-use crate::atom::Atom;
-use crate::bytes::Bytes;
-use crate::fault::{Fault, FaultKind};
-use crate::fault_line::fault_line;
-use crate::items::Items;
-use crate::library::LibName;
-use crate::name::Names;
-use crate::op::{NAME_COUNT, Op, op_text};
-use crate::place::place_of;
-use crate::span::Span;
-use crate::symbol::Symbol;
 use std::alloc::Global;
 use std::rc::Rc;
 use std::test::Fail;
+use sx_base::atom::Atom;
+use sx_base::bytes::Bytes;
+use sx_base::fault::{Fault, FaultKind};
+use sx_base::fault_line::fault_line;
+use sx_base::items::Items;
+use sx_base::library::LibName;
+use sx_base::name::Names;
+use sx_base::op::{NAME_COUNT, Op, op_text};
+use sx_base::place::place_of;
+use sx_base::span::Span;
+use sx_base::symbol::Symbol;
 
 fn place_at(source: &[u8], offset: u32) -> (u64, u64) {
     if (offset as usize) <= source.len() {
