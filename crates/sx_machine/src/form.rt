@@ -1,10 +1,10 @@
 //! The data that complete forms are (R6RS 4.3).
 
-ghost use Rattle.std.specs.Prelude.{◌≡◌, IfOk};
+ghost use Rattle.std.specs.Prelude.{◌≡◌, [], ◌∷◌, IfOk};
 ghost use Rattle.sx_base.specs.Datum.{atom, nil, symbol, vector, chain};
 ghost use Rattle.sx_base.specs.declared.atom.Atom.TheVariants as atoms;
 ghost use Rattle.sx_machine.specs.Extent.{span_at};
-ghost use Rattle.sx_machine.specs.Form.{joined, abbreviated, byte_of_int, byte_of};
+ghost use Rattle.sx_machine.specs.Form.{joined, abbreviated, keyword_of, byte_of_int, byte_of};
 
 use crate::context::SourceContext;
 use crate::extent::{Extent, span_at};
@@ -117,12 +117,25 @@ pub fn abbreviated(
 ) -> Result<Datum, Memory>
     ensures { IfOk result (λ d. d ≡ abbreviated context.now.file.now abbreviation prefix datum all) }
 {
-    let keyword = named(context.file, context.keywords.shared(abbreviation)?, prefix)?;
-    let mut items = Vec::with_capacity(context.alloc, 2)?;
-    items.push(keyword)?;
+    let mut items = keyword_at(context, abbreviation, prefix)?;
     items.push(datum)?;
     let span = span_at(context.file, all)?;
-    joined(context.alloc, span, Items::from_vec(items), nil())
+    joined(context.alloc, span, items, nil())
+}
+
+// The keyword of an abbreviation, with room for the datum behind it.
+fn keyword_at(
+    context: &SourceContext,
+    abbreviation: Abbreviation,
+    prefix: Extent,
+) -> Result<Items<Datum>, Memory>
+    ensures { IfOk result (λ items. items ≡ symbol (span_at context.now.file.now prefix) (keyword_of abbreviation) ∷ []) }
+{
+    let mut items = Items::from_vec(Vec::with_capacity(context.alloc, 2)?);
+    let name = context.keywords.shared(abbreviation)?;
+    let keyword = named(context.file, name, prefix)?;
+    items.push(keyword)?;
+    Ok(items)
 }
 
 /// The byte that a datum is in a bytevector.

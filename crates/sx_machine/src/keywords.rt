@@ -60,15 +60,21 @@ impl Keywords {
     pub fn shared(&self, abbreviation: Abbreviation) -> Result<Symbol, Memory>
         ensures { IfOk result (λ s. s ≡ keyword_of abbreviation) }
     {
+        self.symbol(abbreviation).share()
+    }
+
+    fn symbol(&self, abbreviation: Abbreviation) -> &Symbol
+        ensures { result.now ≡ keyword_of abbreviation }
+    {
         match abbreviation {
-            Abbreviation::Quote => self.quote.share(),
-            Abbreviation::Quasiquote => self.quasiquote.share(),
-            Abbreviation::Unquote => self.unquote.share(),
-            Abbreviation::UnquoteSplicing => self.unquote_splicing.share(),
-            Abbreviation::Syntax => self.syntax.share(),
-            Abbreviation::Quasisyntax => self.quasisyntax.share(),
-            Abbreviation::Unsyntax => self.unsyntax.share(),
-            Abbreviation::UnsyntaxSplicing => self.unsyntax_splicing.share(),
+            Abbreviation::Quote => &self.quote,
+            Abbreviation::Quasiquote => &self.quasiquote,
+            Abbreviation::Unquote => &self.unquote,
+            Abbreviation::UnquoteSplicing => &self.unquote_splicing,
+            Abbreviation::Syntax => &self.syntax,
+            Abbreviation::Quasisyntax => &self.quasisyntax,
+            Abbreviation::Unsyntax => &self.unsyntax,
+            Abbreviation::UnsyntaxSplicing => &self.unsyntax_splicing,
         }
     }
 }

@@ -1,9 +1,9 @@
 //! What a token makes of what is open.
 
-ghost use Rattle.std.specs.Prelude.{◌≡◌, [], ◌∷◌, Ok};
-ghost use Rattle.sx_base.specs.Gives.{Gives};
-ghost use Rattle.sx_machine.specs.Extent.{through};
-ghost use Rattle.sx_machine.specs.Form.{byte_of};
+ghost use Rattle.std.specs.Prelude.{◌≡◌, [], ◌∷◌, Ok, IfOk};
+ghost use Rattle.sx_base.specs.Gives.{Gives, StopsWith};
+ghost use Rattle.sx_machine.specs.Extent.{fault_at, span_at, through};
+ghost use Rattle.sx_machine.specs.Form.{byte_of, joined};
 ghost use Rattle.sx_machine.specs.Step.{list_with, bytes_with, deliver, tail_of, ended, closed, nested, opened, opened_bytes, dot_in, dotted, step, finish};
 
 use crate::context::SourceContext;
@@ -13,12 +13,23 @@ use crate::partial::{Partial, Parts, State, Tail};
 use sx_base::datum::Datum;
 use sx_base::fault::{FaultKind, Stop};
 use sx_base::items::Items;
+use sx_base::memory::Memory;
 use sx_lexer::token::{Bracket, Lexeme, Token};
 
 /// The state after one more token. A fault is at the token, but
 /// where a dot isn't before the last datum of its list it is at that dot.
-pub fn step(context: &SourceContext, state: State, lexeme: Lexeme) -> Result<State, Stop>
+pub fn step(context: &SourceContext, mut state: State, lexeme: Lexeme) -> Result<State, Stop>
     ensures { Gives (λ s. s) result (step context.now.file.now context.now.nesting state lexeme) }
+{
+    match stepped(context, &mut state, lexeme) {
+        Ok(()) => Ok(state),
+        Err(stop) => Err(stop),
+    }
+}
+
+// The same in place. What owned the state would drop it wherever it stops.
+fn stepped(context: &SourceContext, state: &mut State, lexeme: Lexeme) -> Result<(), Stop>
+    ensures { Gives (λ _. state.new) result (step context.now.file.now context.now.nesting state.old lexeme) }
 {
     let Lexeme { token, from, to } = lexeme;
     let at = Extent { from, to };
@@ -53,42 +64,27 @@ pub fn finish(context: &SourceContext, mut state: State) -> Result<Vec<Datum>, S
 {
     match state.stack.pop() {
         None => Ok(exact(state.done)),
-        Some(form) => {
-            let fault = fault_at(
-                context.alloc,
-                context.file,
-                FaultKind::Unclosed,
-                form.opening,
-            )?;
-            Err(Stop::Fault(fault))
-        }
+        Some(form) => Err(stop_at(context, FaultKind::Unclosed, form.opening)),
     }
 }
 
 /// A form other than a comment is opened that counts.
-fn opened(context: &SourceContext, state: State, parts: Parts, at: Extent) -> Result<State, Stop>
-    ensures { Gives (λ s. s) result (opened context.now.file.now context.now.nesting state parts at) }
+fn opened(context: &SourceContext, state: &mut State, parts: Parts, at: Extent) -> Result<(), Stop>
+    ensures { Gives (λ _. state.new) result (opened context.now.file.now context.now.nesting state.old parts at) }
 {
     if let Some(wrong) = state.stack.misplaced(at) {
-        let fault = fault_at(context.alloc, context.file, wrong.kind, wrong.at)?;
-        return Err(Stop::Fault(fault));
+        return Err(stop_at(context, wrong.kind, wrong.at));
     }
     nested(context, state, parts, at)
 }
 
 /// A form is opened that counts one of nesting.
-fn nested(
-    context: &SourceContext,
-    mut state: State,
-    parts: Parts,
-    at: Extent,
-) -> Result<State, Stop>
-    ensures { Gives (λ s. s) result (nested context.now.file.now context.now.nesting state parts at) }
+fn nested(context: &SourceContext, state: &mut State, parts: Parts, at: Extent) -> Result<(), Stop>
+    ensures { Gives (λ _. state.new) result (nested context.now.file.now context.now.nesting state.old parts at) }
 {
     let room = state.stack.room(context.nesting);
     if room == 0 {
-        let fault = fault_at(context.alloc, context.file, FaultKind::TooNested, at)?;
-        return Err(Stop::Fault(fault));
+        return Err(stop_at(context, FaultKind::TooNested, at));
     }
     let room = room - 1;
     let opening = at;
@@ -97,16 +93,15 @@ fn nested(
         room,
         parts,
     })?;
-    Ok(state)
+    Ok(())
 }
 
 /// A bytevector is opened. It doesn't count as nesting, since no form stands in it.
-fn opened_bytes(context: &SourceContext, mut state: State, at: Extent) -> Result<State, Stop>
-    ensures { Gives (λ s. s) result (opened_bytes context.now.file.now context.now.nesting state at) }
+fn opened_bytes(context: &SourceContext, state: &mut State, at: Extent) -> Result<(), Stop>
+    ensures { Gives (λ _. state.new) result (opened_bytes context.now.file.now context.now.nesting state.old at) }
 {
     if let Some(wrong) = state.stack.misplaced(at) {
-        let fault = fault_at(context.alloc, context.file, wrong.kind, wrong.at)?;
-        return Err(Stop::Fault(fault));
+        return Err(stop_at(context, wrong.kind, wrong.at));
     }
     let room = state.stack.room(context.nesting);
     let opening = at;
@@ -116,22 +111,22 @@ fn opened_bytes(context: &SourceContext, mut state: State, at: Extent) -> Result
         room,
         parts,
     })?;
-    Ok(state)
+    Ok(())
 }
 
 /// A datum is complete: it goes into what is open, and may complete abbreviations there.
 fn deliver(
     context: &SourceContext,
-    mut state: State,
+    state: &mut State,
     mut datum: Datum,
     mut at: Extent,
-) -> Result<State, Stop>
-    ensures { Gives (λ s. s) result (deliver context.now.file.now state.stack state.done datum at) }
+) -> Result<(), Stop>
+    ensures { Gives (λ _. state.new) result (deliver context.now.file.now state.old.stack state.old.done datum at) }
 {
     loop {
         let Some(form) = state.stack.pop() else {
             state.done.push(datum)?;
-            return Ok(state);
+            return Ok(());
         };
         let Partial {
             opening,
@@ -146,7 +141,7 @@ fn deliver(
                     room,
                     parts,
                 })?;
-                return Ok(state);
+                return Ok(());
             }
             Parts::Vector(mut items) => {
                 items.push(datum)?;
@@ -156,24 +151,36 @@ fn deliver(
                     room,
                     parts,
                 })?;
-                return Ok(state);
+                return Ok(());
             }
             Parts::Bytes(bytes) => {
-                let parts = bytes_with(context, bytes, byte_of(&datum), at)?;
+                let byte = byte_of(&datum);
+                drop(datum);
+                let parts = bytes_with(context, bytes, byte, at)?;
                 state.stack.push(Partial {
                     opening,
                     room,
                     parts,
                 })?;
-                return Ok(state);
+                return Ok(());
             }
             Parts::Abbreviation(kind) => {
                 let all = through(opening, at);
                 datum = abbreviated(context, kind, opening, datum, all)?;
                 at = all;
             }
-            Parts::Skipped => return Ok(state),
+            Parts::Skipped => return Ok(()),
         }
+    }
+}
+
+/// The stop that a fault at these bytes is. No call that owns an open form makes a fault itself.
+fn stop_at(context: &SourceContext, kind: FaultKind, at: Extent) -> Stop
+    ensures { StopsWith result (fault_at context.now.file.now kind at) }
+{
+    match fault_at(context.alloc, context.file, kind, at) {
+        Ok(fault) => Stop::Fault(fault),
+        Err(memory) => Stop::from(memory),
     }
 }
 
@@ -202,10 +209,7 @@ fn list_with(
             Ok(Parts::List(bracket, items, Tail::Absent))
         }
         Tail::Dotted(dot) => Ok(Parts::List(bracket, items, Tail::Given(dot, datum))),
-        Tail::Given(dot, _) => {
-            let fault = fault_at(context.alloc, context.file, FaultKind::BadDot, dot)?;
-            Err(Stop::Fault(fault))
-        }
+        Tail::Given(dot, _) => Err(stop_at(context, FaultKind::BadDot, dot)),
     }
 }
 
@@ -223,24 +227,20 @@ fn bytes_with(
             bytes.push(byte)?;
             Ok(Parts::Bytes(bytes))
         }
-        None => {
-            let fault = fault_at(context.alloc, context.file, FaultKind::BadNumber, at)?;
-            Err(Stop::Fault(fault))
-        }
+        None => Err(stop_at(context, FaultKind::BadNumber, at)),
     }
 }
 
 fn closed(
     context: &SourceContext,
-    mut state: State,
+    state: &mut State,
     bracket: Bracket,
     at: Extent,
-) -> Result<State, Stop>
-    ensures { Gives (λ s. s) result (closed context.now.file.now state.stack state.done bracket at) }
+) -> Result<(), Stop>
+    ensures { Gives (λ _. state.new) result (closed context.now.file.now state.old.stack state.old.done bracket at) }
 {
     let Some(form) = state.stack.pop() else {
-        let fault = fault_at(context.alloc, context.file, FaultKind::StrayClose, at)?;
-        return Err(Stop::Fault(fault));
+        return Err(stop_at(context, FaultKind::StrayClose, at));
     };
     let all = through(form.opening, at);
     let datum = ended(context, form.parts, bracket, at, all)?;
@@ -261,25 +261,41 @@ fn ended(
         Parts::List(opened_by, items, tail) => {
             let tail = tail_of(context, tail)?;
             if bracket == opened_by {
-                let span = span_at(context.file, all)?;
-                return Ok(joined(context.alloc, span, items, tail)?);
+                Ok(list_ended(context, items, tail, all)?)
+            } else {
+                Err(stop_at(context, FaultKind::StrayClose, at))
             }
         }
         Parts::Vector(items) => {
             if bracket == Bracket::Round {
-                return Ok(vector(context.file, items, all)?);
+                Ok(vector(context.file, items, all)?)
+            } else {
+                Err(stop_at(context, FaultKind::StrayClose, at))
             }
         }
         Parts::Bytes(bytes) => {
             if bracket == Bracket::Round {
-                return Ok(bytevector(context.file, bytes, all)?);
+                Ok(bytevector(context.file, bytes, all)?)
+            } else {
+                Err(stop_at(context, FaultKind::StrayClose, at))
             }
         }
-        Parts::Abbreviation(_) => {}
-        Parts::Skipped => {}
+        Parts::Abbreviation(_) => Err(stop_at(context, FaultKind::StrayClose, at)),
+        Parts::Skipped => Err(stop_at(context, FaultKind::StrayClose, at)),
     }
-    let fault = fault_at(context.alloc, context.file, FaultKind::StrayClose, at)?;
-    Err(Stop::Fault(fault))
+}
+
+/// A list that ends here, with the span of all of it.
+fn list_ended(
+    context: &SourceContext,
+    items: Items<Datum>,
+    tail: Datum,
+    all: Extent,
+) -> Result<Datum, Memory>
+    ensures { IfOk result (λ d. d ≡ joined (span_at context.now.file.now all) items tail) }
+{
+    let span = span_at(context.file, all)?;
+    joined(context.alloc, span, items, tail)
 }
 
 /// The tail of a list that ends here.
@@ -288,20 +304,16 @@ fn tail_of(context: &SourceContext, tail: Tail) -> Result<Datum, Stop>
 {
     match tail {
         Tail::Absent => Ok(nil()),
-        Tail::Dotted(dot) => {
-            let fault = fault_at(context.alloc, context.file, FaultKind::BadDot, dot)?;
-            Err(Stop::Fault(fault))
-        }
+        Tail::Dotted(dot) => Err(stop_at(context, FaultKind::BadDot, dot)),
         Tail::Given(_, datum) => Ok(datum),
     }
 }
 
-fn dotted(context: &SourceContext, mut state: State, at: Extent) -> Result<State, Stop>
-    ensures { Gives (λ s. s) result (dotted context.now.file.now state.stack state.done at) }
+fn dotted(context: &SourceContext, state: &mut State, at: Extent) -> Result<(), Stop>
+    ensures { Gives (λ _. state.new) result (dotted context.now.file.now state.old.stack state.old.done at) }
 {
     let Some(form) = state.stack.pop() else {
-        let fault = fault_at(context.alloc, context.file, FaultKind::BadDot, at)?;
-        return Err(Stop::Fault(fault));
+        return Err(stop_at(context, FaultKind::BadDot, at));
     };
     let Partial {
         opening,
@@ -317,12 +329,9 @@ fn dotted(context: &SourceContext, mut state: State, at: Extent) -> Result<State
                 room,
                 parts,
             })?;
-            Ok(state)
+            Ok(())
         }
-        _ => {
-            let fault = fault_at(context.alloc, context.file, FaultKind::BadDot, at)?;
-            Err(Stop::Fault(fault))
-        }
+        _ => Err(stop_at(context, FaultKind::BadDot, at)),
     }
 }
 
@@ -338,18 +347,11 @@ fn dot_in(
     match tail {
         Tail::Absent => {
             if items.as_slice().is_empty() {
-                let fault = fault_at(context.alloc, context.file, FaultKind::BadDot, at)?;
-                return Err(Stop::Fault(fault));
+                return Err(stop_at(context, FaultKind::BadDot, at));
             }
             Ok(Tail::Dotted(at))
         }
-        Tail::Dotted(dot) => {
-            let fault = fault_at(context.alloc, context.file, FaultKind::BadDot, dot)?;
-            Err(Stop::Fault(fault))
-        }
-        Tail::Given(dot, _) => {
-            let fault = fault_at(context.alloc, context.file, FaultKind::BadDot, dot)?;
-            Err(Stop::Fault(fault))
-        }
+        Tail::Dotted(dot) => Err(stop_at(context, FaultKind::BadDot, dot)),
+        Tail::Given(dot, _) => Err(stop_at(context, FaultKind::BadDot, dot)),
     }
 }
