@@ -46,7 +46,6 @@ pub struct LibraryBody<'a> {
 }
 
 /// The state of one library's expansion, and whether a call was refused. After a refusal it is of no use.
-#[derive(Drop)]
 pub struct Expander {
     /// In a box: what owns an expander moves and drops a pointer.
     state: Box<Expansion>,
@@ -55,6 +54,18 @@ pub struct Expander {
     /// The path of the library's file.
     path: Symbol,
     failed: bool,
+}
+
+impl Drop for Expander {
+    /// The parts are dropped here alone: what owns an expander makes one call, and needn't know them.
+    fn drop(self) {
+        let Expander {
+            state: _,
+            frame: _,
+            path: _,
+            failed: _,
+        } = self;
+    }
 }
 
 impl Model for Expander {
