@@ -13,15 +13,15 @@ WIDTH = 110
 
 HEAD = '''# The laws
 
-`docs/laws.py` writes this page from the comments in the sources, and `.ci/run` compares it. It lists what `rt ci`
-proves, crate by crate, lowest first:
+`docs/laws.py` writes this page from the comments in the sources, and `.ci/run` compares it. It lists what
+`rt ci` proves, crate by crate, lowest first:
 
 - a *law* is a public function without parameters, whose clause is the statement;
-- a *function* has clauses on its answer. Nearly all say that it is exactly what a definition in `specs/` gives,
-  fault and place included; a call that allocates may also answer that memory ran out.
+- a *function* has clauses on its answer. Nearly all say that it is exactly what a definition in `specs/`
+  gives, fault and place included; a call that allocates may also answer that memory ran out.
 
-A name such as `laws::changes_compose` is a path within its crate. Where a comment and a clause differ, the clause
-is what is proved. `docs/THEOREMS.md` has the ten laws that matter most, `docs/GLOSSARY.md` the words.
+A name such as `laws::changes_compose` is a path within its crate. Where a comment and a clause differ, the
+clause is what is proved. `docs/THEOREMS.md` has the ten laws that matter most, `docs/GLOSSARY.md` the words.
 '''
 
 
