@@ -1,9 +1,9 @@
 #!/usr/bin/env python3
 """Writes docs/LAWS.md from the doc comments of the public laws and functions of all crates; --check compares it.
 
-A law is a public function without parameters that ensures something. Both are listed with the first paragraph of the
-comment that stands above them: of a law all of it, of a function its first sentence. What has no comment, as an
-accessor, or only makes another owner of a value, is left out.
+A law is a public function without parameters and answer that ensures something. Laws and other functions are listed
+with the first paragraph of the comment that stands above them: of a law all of it, of a function its first sentence.
+What has no comment, as an accessor, or only makes another owner of a value, is left out.
 """
 import os, re, sys, textwrap
 
@@ -16,7 +16,7 @@ HEAD = '''# The laws
 `docs/laws.py` writes this page from the comments in the sources, and `.ci/run` compares it. It lists what
 `rt ci` proves, crate by crate, lowest first:
 
-- a *law* is a public function without parameters, whose clause is the statement;
+- a *law* is a public function without parameters and answer, whose clause is the statement;
 - a *function* has clauses on its answer. Nearly all say that it is exactly what a definition in `specs/`
   gives, fault and place included; a call that allocates may also answer that memory ran out.
 
@@ -95,7 +95,8 @@ def items(module, rows):
         if not any(re.match(r'\s*ensures\b', part) for part in signature(rows, at, head.group(1))):
             continue
         name = '::'.join(part for part in (module, holder, head.group(2)) if part)
-        yield bool(head.group(3)) and not holder, name, comment_above(rows, at)
+        law = bool(head.group(3)) and not holder and '->' not in row
+        yield law, name, comment_above(rows, at)
 
 
 def opening(rows):
