@@ -1,0 +1,147 @@
+#!/usr/bin/env python3
+"""Writes docs/LAWS.md from the doc comments of the public laws and functions of all crates; --check compares it.
+
+A law is a public function without parameters and answer that ensures something. Laws and other functions are listed
+with the first paragraph of the comment that stands above them: of a law all of it, of a function its first sentence.
+What has no comment, as an accessor, or only makes another owner of a value, is left out.
+"""
+import os, re, sys, textwrap
+
+top = os.path.dirname(os.path.dirname(os.path.abspath(__file__)))
+page = os.path.join(top, 'docs', 'LAWS.md')
+WIDTH = 110
+
+HEAD = '''# The laws
+
+`docs/laws.py` writes this page from the comments in the sources, and `.ci/run` compares it. It lists what
+`rt ci` proves, crate by crate, lowest first:
+
+- a *law* is a public function without parameters and answer, whose clause is the statement;
+- a *function* has clauses on its answer. Nearly all say that it is exactly what a definition in `specs/`
+  gives, fault and place included; a call that allocates may also answer that memory ran out.
+
+A name such as `laws::changes_compose` is a path within its crate. Where a comment and a clause differ, the
+clause is what is proved. `docs/THEOREMS.md` has the ten laws that matter most, `docs/GLOSSARY.md` the words.
+'''
+
+
+def crates():
+    """The crates of crates.txt, lowest first."""
+    with open(os.path.join(top, 'crates.txt'), encoding='utf-8') as rows:
+        return [row.split(':')[0].split()[0] for row in rows if row.strip() and not row.startswith('#')]
+
+
+def sources(folder):
+    """The modules that other crates can name, the root first, each with its path and its rows."""
+    found = []
+
+    def take(module, path):
+        with open(path, encoding='utf-8') as text:
+            rows = text.read().split('\n')
+        found.append((module, rows))
+        for row in rows:
+            below = re.match(r'(pub )?mod (\w+);', row)
+            if below and (below.group(1) or any(re.match(rf'pub use (crate::)?{below.group(2)}::', r) for r in rows)):
+                inner = f'{module}::{below.group(2)}' if module else below.group(2)
+                stem = os.path.join(folder, *inner.split('::'))
+                take(inner, stem + '.rt' if os.path.exists(stem + '.rt') else os.path.join(stem, 'mod.rt'))
+
+    root = os.path.join(folder, 'lib.rt')
+    if os.path.exists(root):
+        take('', root)
+    return found
+
+
+def first_sentence(text):
+    """A text up to its first full stop that ends a sentence."""
+    found = re.match(r'((?:`[^`]*`|[^`])*?\.)(?=\s+[A-Z`]|$)', text)
+    return found.group(1) if found else text
+
+
+def comment_above(rows, at):
+    """The first paragraph of the doc comment above a row; attributes may stand between."""
+    at -= 1
+    while at >= 0 and rows[at].strip().startswith('#['):
+        at -= 1
+    words = []
+    while at >= 0 and rows[at].strip().startswith('///'):
+        words.insert(0, rows[at].strip()[3:].strip())
+        at -= 1
+    return ' '.join(words[:words.index('')] if '' in words else words)
+
+
+def signature(rows, at, indent):
+    """The rows of a function from its name to its body."""
+    taken = []
+    for row in rows[at:]:
+        if taken and (row.startswith((indent + '{', indent + '}')) or not row.strip()):
+            break
+        taken.append(row)
+    return taken
+
+
+def items(module, rows):
+    """The laws and the functions with clauses of a module: whether it is a law, its name and its comment."""
+    holder, public = '', 'pub '
+    for at, row in enumerate(rows):
+        block = re.match(r'(?:impl(?:<[^{]*?>)? (?:[\w<>:, &]+ for )?|(pub trait ))(\w+)', row)
+        if block:
+            holder, public = block.group(2), '' if block.group(1) else 'pub '
+        elif row.startswith('}'):
+            holder, public = '', 'pub '
+        head = re.match(rf'(\s*){public}fn (\w+)(?:<.*?>)?\((\))?', row)
+        if not head or (head.group(1) and not holder):
+            continue
+        if not any(re.match(r'\s*ensures\b', part) for part in signature(rows, at, head.group(1))):
+            continue
+        name = '::'.join(part for part in (module, holder, head.group(2)) if part)
+        law = bool(head.group(3)) and not holder and '->' not in row
+        yield law, name, comment_above(rows, at)
+
+
+def opening(rows):
+    """The first paragraph of the head of a root file."""
+    words = []
+    for row in rows:
+        if not row.startswith('//!') or row.strip() == '//!':
+            break
+        words.append(row[3:].strip())
+    return ' '.join(words)
+
+
+def bullet(name, text):
+    return textwrap.fill(f'`{name}`: {text}', WIDTH, initial_indent='- ', subsequent_indent='  ',
+                         break_long_words=False, break_on_hyphens=False) + '\n'
+
+
+def written():
+    parts = [HEAD]
+    for crate in crates():
+        modules = sources(os.path.join(top, 'crates', crate, 'src'))
+        laws, functions = [], []
+        for module, rows in modules:
+            for law, name, text in items(module, rows):
+                if text and not text.startswith('Another owner of'):
+                    (laws if law else functions).append(bullet(name, text if law else first_sentence(text)))
+        if laws or functions:
+            head = textwrap.fill(opening(modules[0][1]), WIDTH, break_on_hyphens=False)
+            parts.append(f'\n## {crate}\n\n{head}\n')
+            parts.extend('\n' + title + ''.join(rows) for title, rows in (('', laws), ('Functions:\n\n', functions)) if rows)
+    return ''.join(parts)
+
+
+def main():
+    text = written()
+    if sys.argv[1:] == ['--check']:
+        with open(page, encoding='utf-8') as kept:
+            if kept.read() != text:
+                sys.exit('docs/LAWS.md is not what docs/laws.py writes: run docs/laws.py')
+    elif len(sys.argv) == 1:
+        with open(page, 'w', encoding='utf-8') as out:
+            out.write(text)
+    else:
+        sys.exit('usage: docs/laws.py [--check]')
+
+
+if __name__ == '__main__':
+    main()
