@@ -1,0 +1,3 @@
+pub mod Known
+pub mod Loop
+pub mod Utf8
