@@ -109,9 +109,15 @@ def opening(rows):
     return ' '.join(words)
 
 
+def filled(text, first='', further=''):
+    """The text in lines, none of which ends within a piece of code."""
+    kept = re.sub('`[^`]*`', lambda code: code.group().replace(' ', '\0'), text)
+    return textwrap.fill(kept, WIDTH, initial_indent=first, subsequent_indent=further, break_long_words=False,
+                         break_on_hyphens=False).replace('\0', ' ') + '\n'
+
+
 def bullet(name, text):
-    return textwrap.fill(f'`{name}`: {text}', WIDTH, initial_indent='- ', subsequent_indent='  ',
-                         break_long_words=False, break_on_hyphens=False) + '\n'
+    return filled(f'`{name}`: {text}', '- ', '  ')
 
 
 def written():
@@ -124,8 +130,7 @@ def written():
                 if text and not text.startswith('Another owner of'):
                     (laws if law else functions).append(bullet(name, text if law else first_sentence(text)))
         if laws or functions:
-            head = textwrap.fill(opening(modules[0][1]), WIDTH, break_on_hyphens=False)
-            parts.append(f'\n## {crate}\n\n{head}\n')
+            parts.append(f'\n## {crate}\n\n' + filled(opening(modules[0][1])))
             parts.extend('\n' + title + ''.join(rows) for title, rows in (('', laws), ('Functions:\n\n', functions)) if rows)
     return ''.join(parts)
 
