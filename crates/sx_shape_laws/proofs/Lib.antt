@@ -1,3 +1,7 @@
 mod Complete
 mod Sound
+mod RecordForms
+mod RecordTrees
+mod RecordSlots
 mod Records
+mod Places

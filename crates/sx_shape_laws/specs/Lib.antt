@@ -1,3 +1,5 @@
 pub mod Grammar
 pub mod Laws
 pub mod Records
+pub mod RecordTypes
+pub mod Places

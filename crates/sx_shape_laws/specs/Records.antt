@@ -1,21 +1,17 @@
 -- How the forms of records are written, by cases (libraries report 6.2). A clause, and the two words of fields, are known by what their
 -- first identifier stands for.
-use Rattle.std.specs.Prelude.{◌≡◌, ◌⊎◌, ℕ, Bool, List, [], ◌∷◌, Option, None, Some, Err}
+use Rattle.std.specs.Prelude.{◌≡◌, ℕ, Bool, List, [], ◌∷◌, ◌++◌, codes, Option, None, Some}
 use Rattle.sx_base.specs.declared.atom.Atom.TheVariants as atoms
-use Rattle.sx_base.specs.declared.fault.FaultKind.TheVariants as kind
+use Rattle.sx_base.specs.declared.library.LibName.TheVariants as library
+use Rattle.sx_base.specs.declared.name.Label.{Label}
 use Rattle.sx_base.specs.declared.span.Span.{Span}
-use Rattle.sx_tree.specs.Tree.{Tree, atom}
+use Rattle.sx_tree.specs.Leaves.{marks_of, stamps_of}
+use Rattle.sx_tree.specs.Tree.{Tree, atom, leaf}
 use Rattle.sx_frames.specs.Scope.{Scope}
+use Rattle.sx_scope.specs.Stands.{symbol_of, stands}
+use Rattle.sx_core.specs.CoreForm.{number}
 use Rattle.sx_core.specs.declared.core_form.CoreForm.{CoreForm}
 use Rattle.sx_core.specs.declared.core_form.CoreForm.TheVariants as form
-use Rattle.sx_shapes.specs.At.{fault_at}
-use Rattle.sx_shapes.specs.Lists.{elements}
-use Rattle.sx_records.specs.Clauses.{keyword_of, field_with, fixed_field, no_clauses, with_clause}
-use Rattle.sx_records.specs.Definitions.{type_word, constructor_word, definitions}
-use Rattle.sx_records.specs.Forms.{at_form, record_forms}
-use Rattle.sx_records.specs.Introduced.{list_of_two}
-use Rattle.sx_records.specs.Names.{made_accessor, made_mutator, made_names}
-use Rattle.sx_records.specs.declared.clause.Clauses.{Clauses}
 use Rattle.sx_records.specs.declared.clause.Field.{Field}
 use Rattle.sx_records.specs.declared.clause.Parent.TheVariants as parents
 use Rattle.sx_records.specs.declared.clause.RecordClause.{RecordClause}
@@ -24,27 +20,54 @@ use Rattle.sx_records.specs.declared.clause.Uid.TheVariants as uid
 use Rattle.sx_records.specs.declared.names.RecordNames.{RecordNames}
 use Rattle.sx_shape_laws.specs.Grammar.{IsId, IsList, AreWritten}
 
--- `name`, or `(name constructor predicate)`
-pub data AreNames : RecordNames → Tree → Type 0 where
-  made : {x : Tree} → IsId x → AreNames (made_names x) x
-  given : {name make test spec : Tree} → IsId name → IsId make → IsId test → IsList (name ∷ make ∷ test ∷ []) spec → AreNames (record { name = name; constructor = make; predicate = test }) spec
+-- Names.
+
+-- the label of a keyword of the implementation
+abbrev pub keyword_label : CoreForm → Label
+keyword_label which = record { 0 = record { library = library.Core; number = number which } }
 
 -- an identifier that stands for a keyword
-abbrev pub IsWord : Scope → CoreForm → Tree → Type 0
-IsWord fs which t = keyword_of fs t ≡ Some which
+pub record IsWord (fs : Scope) (which : CoreForm) (t : Tree) : Type 0 where
+  pub is_id : IsId t
+  pub label : stands fs t ≡ Some (keyword_label which)
 
--- A field of the record type with a name; a procedure that isn't named has a name that is made of both.
+-- an identifier with this symbol, and with the marks and stamps of another
+abbrev pub beside : Tree → List ℕ → Tree
+beside t symbol = leaf None symbol (record { marks = marks_of t; stamps = stamps_of t })
+
+-- `make-name`, `name?`, `name-field` and `name-field-set!`
+abbrev pub constructor_name : Tree → Tree
+constructor_name name = beside name (codes "make-" ++ symbol_of name)
+
+abbrev pub predicate_name : Tree → Tree
+predicate_name name = beside name (symbol_of name ++ codes "?")
+
+abbrev pub accessor_name : Tree → Tree → Tree
+accessor_name name field = beside name ((symbol_of name ++ codes "-") ++ symbol_of field)
+
+abbrev pub mutator_name : Tree → Tree → Tree
+mutator_name name field = beside name (((symbol_of name ++ codes "-") ++ symbol_of field) ++ codes "-set!")
+
+-- `name`, or `(name constructor predicate)`
+pub data AreNames : RecordNames → Tree → Type 0 where
+  made : {x : Tree} → IsId x → AreNames (record { name = x; constructor = constructor_name x; predicate = predicate_name x }) x
+  given : {name make test spec : Tree} → IsId name → IsId make → IsId test → IsList (name ∷ make ∷ test ∷ []) spec → AreNames (record { name = name; constructor = make; predicate = test }) spec
+
+-- Clauses.
+
+-- A field of the record type with a name. It is mutable where it has a mutator; a procedure that isn't named has a name that is made of both.
 pub data IsField (fs : Scope) (name : Tree) : Field → Tree → Type 0 where
   -- `id`
-  alone : {x : Tree} → IsId x → IsField fs name (fixed_field name x) x
+  alone : {x : Tree} → IsId x → IsField fs name (record { id = x; accessor = accessor_name name x; mutator = None }) x
   -- `(immutable id)`
-  immutable : {head x t : Tree} → IsWord fs form.Immutable head → IsId x → IsList (head ∷ x ∷ []) t → IsField fs name (fixed_field name x) t
+  immutable : {head x t : Tree} → IsWord fs form.Immutable head → IsId x → IsList (head ∷ x ∷ []) t → IsField fs name (record { id = x; accessor = accessor_name name x; mutator = None }) t
   -- `(immutable id accessor)`
-  immutable_by : {head x get t : Tree} → IsWord fs form.Immutable head → IsId x → IsId get → IsList (head ∷ x ∷ get ∷ []) t → IsField fs name (field_with x get None) t
+  immutable_by : {head x get t : Tree} → IsWord fs form.Immutable head → IsId x → IsId get → IsList (head ∷ x ∷ get ∷ []) t → IsField fs name (record { id = x; accessor = get; mutator = None }) t
   -- `(mutable id)`
-  mutable : {head x t : Tree} → IsWord fs form.Mutable head → IsId x → IsList (head ∷ x ∷ []) t → IsField fs name (field_with x (made_accessor name x) (Some (made_mutator name x))) t
+  mutable : {head x t : Tree} → IsWord fs form.Mutable head → IsId x → IsList (head ∷ x ∷ []) t
+      → IsField fs name (record { id = x; accessor = accessor_name name x; mutator = Some (mutator_name name x) }) t
   -- `(mutable id accessor mutator)`
-  mutable_by : {head x get put t : Tree} → IsWord fs form.Mutable head → IsId x → IsId get → IsId put → IsList (head ∷ x ∷ get ∷ put ∷ []) t → IsField fs name (field_with x get (Some put)) t
+  mutable_by : {head x get put t : Tree} → IsWord fs form.Mutable head → IsId x → IsId get → IsId put → IsList (head ∷ x ∷ get ∷ put ∷ []) t → IsField fs name (record { id = x; accessor = get; mutator = Some put }) t
 
 -- a clause, by what stands behind its word
 pub data IsClause (fs : Scope) (name : Tree) : CoreForm → RecordClause → List Tree → Type 0 where
@@ -65,40 +88,27 @@ pub data IsClause (fs : Scope) (name : Tree) : CoreForm → RecordClause → Lis
   -- `(nongenerative uid)`
   nongenerative : {x : Tree} → IsId x → IsClause fs name form.Nongenerative (clause.Nongenerative (uid.Given x)) (x ∷ [])
 
--- Clauses in order, each of a kind that none before it has: from what was known to what is known.
-pub data AreClauses (fs : Scope) (name : Tree) : Clauses → List Tree → Clauses → Type 0 where
-  no_more : {cs : Clauses} → AreClauses fs name cs [] cs
-  one_more : {which : CoreForm} {x : RecordClause} {head t : Tree} {operands ts : List Tree} {cs ds es : Clauses}
-      → IsList (head ∷ operands) t → IsWord fs which head → IsClause fs name which x operands → with_clause cs x ≡ Some ds → AreClauses fs name ds ts es → AreClauses fs name cs (t ∷ ts) es
+-- the keyword is the head of one of these forms
+pub data Has (fs : Scope) (which : CoreForm) : List Tree → Type 0 where
+  headed_here : {head t : Tree} {operands ts : List Tree} → IsList (head ∷ operands) t → IsWord fs which head → Has fs which (t ∷ ts)
+  headed_behind : {t : Tree} {ts : List Tree} → Has fs which ts → Has fs which (t ∷ ts)
 
--- `(define-record-type names clause ...)`
-pub data IsRecordType (fs : Scope) (names : RecordNames) (cs : Clauses) (t : Tree) : Type 0 where
-  record_type : {head spec : Tree} {ts : List Tree} → IsList (head ∷ spec ∷ ts) t → AreNames names spec → AreClauses fs names.name no_clauses ts cs → IsRecordType fs names cs t
+abbrev pub Lacks : Scope → CoreForm → List Tree → Type 0
+Lacks fs which ts = Has fs which ts → ⊥
 
--- What is written so comes to the definitions of its parts, unless these pass a limit of trees.
-abbrev pub RecordTypesAreDefined : Type 0
-RecordTypesAreDefined = (fs : Scope) (t : Tree) (place : Span) (own : List ℕ) (names : RecordNames) (cs : Clauses) → IsRecordType fs names cs t
-    → record_forms fs t form.DefineRecordType place own ≡ at_form t place (definitions own names cs)
+-- `parent` and `parent-rtd` are clauses of one kind
+abbrev pub LacksKind : Scope → CoreForm → List Tree → Type 0
+LacksKind fs form.Parent ts = Lacks fs form.Parent ts × Lacks fs form.ParentRtd ts
+LacksKind fs form.ParentRtd ts = Lacks fs form.Parent ts × Lacks fs form.ParentRtd ts
+LacksKind fs which ts = Lacks fs which ts
 
-abbrev pub IsIn : Tree → List Tree → Type 0
-IsIn x [] = ⊥
-IsIn x (y ∷ ys) = (x ≡ y) ⊎ IsIn x ys
+-- clauses in any order, of each kind one at most
+pub data AreClauses (fs : Scope) (name : Tree) : List Tree → Type 0 where
+  no_more : AreClauses fs name []
+  one_more : {which : CoreForm} {c : RecordClause} {head t : Tree} {operands ts : List Tree}
+      → IsList (head ∷ operands) t → IsWord fs which head → IsClause fs name which c operands → LacksKind fs which ts → AreClauses fs name ts → AreClauses fs name (t ∷ ts)
 
--- What is written otherwise is at fault, at the form or at one of its clauses.
-pub record IsBad (fs : Scope) (t : Tree) (place : Span) (own : List ℕ) : Type 0 where
-  pub bad : Tree
-  pub here : (bad ≡ t) ⊎ IsIn bad (elements t)
-  pub is : record_forms fs t form.DefineRecordType place own ≡ Err (fault_at kind.BadForm bad place [])
-
-abbrev pub OtherRecordTypesAreBad : Type 0
-OtherRecordTypesAreBad = (fs : Scope) (t : Tree) (place : Span) (own : List ℕ) → ((names : RecordNames) (cs : Clauses) → IsRecordType fs names cs t → ⊥) → IsBad fs t place own
-
--- `(record-type-descriptor name)` and `(record-constructor-descriptor name)`
-abbrev pub IsDescriptor : Tree → Tree → Type 0
-IsDescriptor x t = (head : Tree) × (IsId x × IsList (head ∷ x ∷ []) t)
-
-pub record DescriptorsAreWritten : Type 0 where
-  pub types : (fs : Scope) (t : Tree) (place : Span) (own : List ℕ) (x : Tree) → IsDescriptor x t → record_forms fs t form.RecordTypeDescriptor place own ≡ at_form t place (list_of_two x type_word)
-  pub constructors : (fs : Scope) (t : Tree) (place : Span) (own : List ℕ) (x : Tree) → IsDescriptor x t → record_forms fs t form.RecordConstructorDescriptor place own ≡ at_form t place (list_of_two x constructor_word)
-  pub other_types : (fs : Scope) (t : Tree) (place : Span) (own : List ℕ) → ((x : Tree) → IsDescriptor x t → ⊥) → record_forms fs t form.RecordTypeDescriptor place own ≡ Err (fault_at kind.BadForm t place [])
-  pub other_constructors : (fs : Scope) (t : Tree) (place : Span) (own : List ℕ) → ((x : Tree) → IsDescriptor x t → ⊥) → record_forms fs t form.RecordConstructorDescriptor place own ≡ Err (fault_at kind.BadForm t place [])
+-- one of the clauses is this
+pub data Says (fs : Scope) (name : Tree) (c : RecordClause) : List Tree → Type 0 where
+  said_here : {which : CoreForm} {head t : Tree} {operands ts : List Tree} → IsList (head ∷ operands) t → IsWord fs which head → IsClause fs name which c operands → Says fs name c (t ∷ ts)
+  said_behind : {t : Tree} {ts : List Tree} → Says fs name c ts → Says fs name c (t ∷ ts)

@@ -1,6 +1,7 @@
 //! Laws of shapes. The function here computes nothing: what it promises is the law.
 
-ghost use Rattle.sx_shape_laws.specs.Records.{RecordTypesAreDefined, OtherRecordTypesAreBad, DescriptorsAreWritten};
+ghost use Rattle.sx_shape_laws.specs.RecordTypes.{RecordTypesAreDefined, DefinitionsAreStoodFor, OtherRecordTypesAreBad, DescriptorsAreWritten};
+ghost use Rattle.sx_shape_laws.specs.Places.{FaultsArePlaced};
 ghost use Rattle.sx_shape_laws.specs.Laws.{WrittenHaveShapes, ShapesAreWritten, OneShape, OthersAreBad};
 
 /// A form has just the shape by whose case of the grammar it is written: each that is written has its
@@ -12,10 +13,17 @@ pub fn shapes_are_the_grammar()
     ensures others { OthersAreBad }
 {}
 
-/// A form of records that is written by the cases of the libraries report comes to what its parts stand for, and any other
-/// is `BadForm`: at the form, or at one of its clauses.
-pub fn record_forms_are_the_grammar()
+/// A form of records comes to the definitions that it stands for by the cases of the libraries report: what the procedures
+/// of 6.3 are called with, under which names, and what a clause that is left out stands for. It stands for what it comes to,
+/// and any other is `BadForm`: at the form, or at one of its clauses.
+pub fn record_forms_are_those_of_the_report()
     ensures written { RecordTypesAreDefined }
+    ensures found { DefinitionsAreStoodFor }
     ensures others { OtherRecordTypesAreBad }
     ensures descriptors { DescriptorsAreWritten }
+{}
+
+/// A fault of a form stands at the form's span, or where the form has none at the place round it.
+pub fn faults_are_placed()
+    ensures { FaultsArePlaced }
 {}
