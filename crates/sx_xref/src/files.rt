@@ -1,0 +1,65 @@
+//! Files by numbers, in the order of their first links.
+
+ghost use Rattle.std.specs.Prelude.{◌≡◌, IfOk};
+ghost use Rattle.sx_xref.specs.Rows.{files_of, number_of, file_at, at_of, span_at};
+
+use crate::rows::At;
+use std::alloc::Global;
+use sx_base::memory::Memory;
+use sx_base::span::Span;
+use sx_base::symbol::Symbol;
+use sx_core::link::Link;
+use sx_import::table::Table;
+
+/// The files of links, each once in the order of first links.
+pub(crate) fn files_of(alloc: Global, links: &[Link]) -> Result<Table<()>, Memory>
+    ensures { IfOk result (λ fs. fs ≡ files_of links.now) }
+{
+    let mut files = Table::new(alloc);
+    for link in links {
+        let file = link.span.file.share()?;
+        files.put_first(file, ())?;
+    }
+    Ok(files)
+}
+
+fn number_of(files: &Table<()>, file: &Symbol) -> usize
+    ensures { result ≡ number_of files.now file.now }
+{
+    match files.place_of(file) {
+        Some(number) => number,
+        None => 0,
+    }
+}
+
+fn file_at(alloc: Global, files: &Table<()>, number: usize) -> Result<Symbol, Memory>
+    ensures { IfOk result (λ f. f ≡ file_at files.now number) }
+{
+    match files.at(number) {
+        Some((file, _)) => file.share(),
+        None => Symbol::new(alloc, ""),
+    }
+}
+
+/// A span, in a file by its number.
+pub(crate) fn at_of(files: &Table<()>, span: &Span) -> At
+    ensures { result ≡ at_of files.now span.now }
+{
+    At {
+        file: number_of(files, &span.file),
+        from: span.from,
+        to: span.to,
+    }
+}
+
+/// A span, in a file by its name.
+pub(crate) fn span_at(alloc: Global, files: &Table<()>, at: At) -> Result<Span, Memory>
+    ensures { IfOk result (λ s. s ≡ span_at files.now at) }
+{
+    let file = file_at(alloc, files, at.file)?;
+    Ok(Span {
+        file,
+        from: at.from,
+        to: at.to,
+    })
+}
