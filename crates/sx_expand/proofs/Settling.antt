@@ -16,7 +16,7 @@ use Rattle.sx_heads.specs.declared.plan.KeywordUse.{KeywordUse}
 use Rattle.sx_heads.specs.declared.plan.Plan.{Plan}
 use Rattle.sx_heads.specs.declared.taken.BodyAt.{BodyAt}
 use Rattle.sx_heads.specs.declared.taken.Taken.{Taken}
-use Rattle.sx_expand.specs.Settle.{next_form, step, too_many, settled_by, settle_to, at_use, item_step, item_by, settle_item_to}
+use Rattle.sx_expand.specs.Settle.{next_form, step, too_many, linked, settled_by, settle_to, at_use, item_step, item_by, settle_item_to}
 use Rattle.sx_expand.specs.declared.settle.Step.TheVariants as steps
 use Rattle.sx_expand.specs.declared.settle.Settled.{Settled}
 use Rattle.sx_expand.specs.declared.settle.ItemStep.TheVariants as item_steps
@@ -45,7 +45,7 @@ module _ (rs : List LibRecord) (place : Span) (level : ℕ) (t : Tree) (s : Stat
 
   -- the form is no use
   pub settle_ends : (left : ℕ) (p : Plan) (new : State) → step rs place level t s ≡ Ok (steps.Plan p, new) → settle_to rs left place level t s ≡ total
-      → total ≡ Ok (record { place = place; form = t; plan = p }, new)
+      → total ≡ Ok (record { place = place; form = t; plan = p }, linked t p new)
   settle_ends left p new h so_far = sym so_far ∙ settle_here left ∙ ap (λ r. after r (settled_by (onward left) place t)) h
 
   -- a use: what it gives comes in place of the form

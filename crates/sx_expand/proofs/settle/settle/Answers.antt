@@ -10,7 +10,7 @@ returns-in_err-plan g c =
 
 pub returns-in-Plan : goal.returns-in-Plan
 returns-in-Plan g c =
-    settle_ends (g.M.Transformers.records c.args.at.now.means.now) c.loop-place.place c.args.at.now.level c.loop-place.form c.loop-place.state _ c.loop-place.left c.in-Plan.plan c.next_step.new.state (rw c.in-Plan.is at c.in_ok-plan.ensures) c.loop-place.invariant
+    rw (settle_ends (g.M.Transformers.records c.args.at.now.means.now) c.loop-place.place c.args.at.now.level c.loop-place.form c.loop-place.state _ c.loop-place.left c.in-Plan.plan c.next_step.new.state (rw c.in-Plan.is at c.in_ok-plan.ensures) c.loop-place.invariant) c.settled_form.ensures
 
 pub returns-then-left-eq0 : goal.returns-then-left-eq0
 returns-then-left-eq0 g c =
