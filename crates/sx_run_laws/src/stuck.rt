@@ -1,9 +1,9 @@
 //! No run gets stuck.
 //!
-//! A run loads a program with all that it imports, expands one library after another, and writes the core text. On
-//! the way it evaluates: transformers, and libraries on demand. For cells of an evaluation that don't fit the
-//! definition has a fault of its own, `Stuck`, so that the contracts of the code need to ask nothing of the cells.
-//! Here it is told that no run ends with it, whatever the files hold and whatever the words are:
+//! A run loads a program with all that it imports, expands one library after another, and writes the core text or
+//! the binding map. On the way it evaluates: transformers, and libraries on demand. For cells of an evaluation that
+//! don't fit the definition has a fault of its own, `Stuck`, so that the contracts of the code need to ask nothing of
+//! the cells. Here it is told that no run ends with it, whatever the files hold and whatever the words are:
 //!
 //! ```text
 //! (import (rnrs) (util stack))                       a program
@@ -26,7 +26,7 @@
 
 ghost use Rattle.sx_run_laws.specs.Stuck.{RunsNeverStuck, WrittenTextsAreTexts, WholeNeverStuck};
 
-/// A program has a core text, or a fault other than that of cells that don't fit.
+/// A program has a core text and a binding map, or a fault other than that of cells that don't fit.
 pub fn no_run_gets_stuck()
     ensures { RunsNeverStuck }
 {}
