@@ -5,7 +5,7 @@ ghost use Rattle.sx_base.specs.Gives.{Gives, StopsWith};
 ghost use Rattle.sx_base.specs.declared.fault.Fault as faults;
 ghost use Rattle.sx_eval.specs.Codes as table;
 ghost use Rattle.sx_expand.specs.Expanding.{ready, library_linked};
-ghost use Rattle.sx_expand.specs.declared.top.Linked as linked;
+ghost use Rattle.sx_expand.specs.declared.top.Linked as declared;
 ghost use Rattle.sx_prelude.specs.Prelude.{kept};
 ghost use Rattle.sx_library.specs.Records.{needed_records};
 ghost use Rattle.sx_library.specs.Library.{at_datum, tree_at, trees_at, export_tree, expander_of, body_of, expand_body, unlinked};
@@ -110,7 +110,7 @@ pub fn expand_body<N: Ledger, L: Ledger>(
 
 /// The record alone.
 pub fn unlinked(linked: Result<Linked, Stop>) -> Result<LibRecord, Stop>
-    ensures { (d : Result linked.Linked faults.Fault) → Gives (λ l. l) linked d → Gives (λ r. r) result (unlinked d) }
+    ensures { (d : Result declared.Linked faults.Fault) → Gives (λ l. l) linked d → Gives (λ r. r) result (unlinked d) }
 {
     match linked {
         Ok(linked) => {
