@@ -27,7 +27,7 @@
 //! From a whole state each form leads to a whole state, in which each transformer that is kept has its procedure, and every expansion of a run
 //! begins in one.
 //!
-//! What is not told here stands in `docs/PROVED.md`.
+//! What no law says is told in `docs/TESTED.md`.
 
 ghost use Rattle.sx_run_laws.specs.Expansion.{OwnFramesAreBound, NewLabelsAreUnbound, StartsAreNumbered, RecordsAreOnceOver};
 ghost use Rattle.sx_run_laws.specs.Fitting.{RecordsFit, ExpansionsBegin};
