@@ -1,6 +1,6 @@
 -- An instance is what the report says, or lengths differ.
-use Rattle.std.proofs.Common.{◌≡◌, ℕ, zero, suc, ◌+◌, ◌-◌, ◌<◌, ◌≤◌, Bool, true, false, List, [], ◌∷◌, ◌++◌, length, take, slice_get, Option, Some, None, Result, Ok, Err, refl, ap, sym, ◌∙◌, subst, append-nil, append_assoc, arith, if◌then◌else◌}
-use Rattle.std.specs.Prelude.{nat_eq, nat_lt}
+use Rattle.std.proofs.Common.{◌≡◌, ℕ, zero, suc, ◌+◌, ◌-◌, ◌<◌, ◌≤◌, Bool, true, false, List, [], ◌∷◌, ◌++◌, length, take, slice_get, Option, Some, None, Result, Ok, Err, refl, ap, sym, ◌∙◌, subst, append-nil, append_assoc, arith, inl, inr, if◌then◌else◌}
+use Rattle.std.specs.Prelude.{◌⊎◌, nat_eq, nat_lt}
 use Rattle.std.specs.Cmp.{unsigned_Decides}
 use Rattle.std.proofs.lemmas.Bool.{eqb-true, ltb-true, ltb-false}
 use Rattle.sx_base.specs.Gives.{◌>>=◌}
@@ -25,7 +25,7 @@ use Rattle.sx_template.specs.Lengths.{lengths, items_lengths, differing, agree, 
 use Rattle.sx_template.specs.Instance.{then_add, turned, item, counts, is_end, ending, instance, parts}
 use Rattle.sx_template_laws.specs.Ready.{HasDepth}
 use Rattle.sx_template_laws.proofs.Sight.{Sees, AllSeen, ItemsSeen, agreed_all, seen_next, seen_ready}
-use Rattle.sx_report_laws.specs.Instances.{IsBound, IsTurn, IsReached, IsSeen, HasLength, AreLengths, AreItemLengths, AllAre, IsAgreed, IsListed, IsNil, IsInstance, IsEnd, AreInstances, AreRepeated, AreTurns, IsUneven, InstancesAreGiven}
+use Rattle.sx_report_laws.specs.Instances.{IsBound, IsTurn, IsReached, IsSeen, HasLength, AreLengths, AreItemLengths, AllAre, IsAgreed, IsListed, IsNil, IsInstance, IsEnd, AreInstances, AreRepeated, AreTurns, IsItem, AreUneven, IsUneven, InstancesAreGiven}
 use Rattle.sx_report_laws.specs.Instances as r
 
 -- Variables.
@@ -194,7 +194,7 @@ nil-is _ r.nil = refl
 module _ (a : Absent) (binds : Binds) where
   abbrev Given : List ℕ → PlainTemplate → List Cell → Result (Value × List Cell) Bare → Type 0
   Given turns t cells (Ok p) = Keeps cells p.1 × IsInstance binds p.1 turns t p.0
-  Given turns t cells (Err f) = IsUneven binds f
+  Given turns t cells (Err f) = IsUneven binds t f
 
   -- values behind those that are done
   record Gave (Are : List Cell → List Value → Type 0) (done : List Value) (cells : List Cell) (p : List Value × List Cell) : Type 0 where
@@ -203,9 +203,28 @@ module _ (a : Absent) (binds : Binds) where
     pub keeps : Keeps cells p.1
     pub are : Are p.1 xs
 
-  abbrev GivenAll : (List Cell → List Value → Type 0) → List Value → List Cell → Result (List Value × List Cell) Bare → Type 0
-  GivenAll Are done cells (Ok p) = Gave Are done cells p
-  GivenAll Are done cells (Err f) = IsUneven binds f
+  abbrev GivenAll : (List Cell → List Value → Type 0) → (Bare → Type 0) → List Value → List Cell → Result (List Value × List Cell) Bare → Type 0
+  GivenAll Are Bad done cells (Ok p) = Gave Are done cells p
+  GivenAll Are Bad done cells (Err f) = Bad f
+
+  -- lengths that differ at one of the ellipses behind a template, or inside it
+  abbrev UnevenAt : PlainTemplate → ℕ → Bare → Type 0
+  UnevenAt t ellipses f = ((inside : ℕ) × ((inside < ellipses) × AreUneven binds t inside f)) ⊎ IsUneven binds t f
+
+  record UnevenIn (is : PlainItems) (f : Bare) : Type 0 where
+    pub part : PlainTemplate
+    pub ellipses : ℕ
+    pub inside : ℕ
+    pub within : IsItem part ellipses is
+    pub below : inside < ellipses
+    pub differ : AreUneven binds part inside f
+
+  uneven-first : (t : PlainTemplate) (e : ℕ) (is : PlainItems) (f : Bare) → UnevenAt t e f → UnevenIn (more t e is) f
+  uneven-first t e is f (inl x) = record { part = t; ellipses = e; inside = x.0; within = r.this_item; below = x.1.0; differ = x.1.1 }
+  uneven-first t e is f (inr x) = record { part = x.part; ellipses = x.ellipses; inside = x.inside; within = r.inside_item x.within; below = x.below; differ = x.differ }
+
+  uneven-later : (t : PlainTemplate) (e : ℕ) (is : PlainItems) (f : Bare) → UnevenIn is f → UnevenIn (more t e is) f
+  uneven-later t e is f x = record { part = x.part; ellipses = x.ellipses; inside = x.inside; within = r.later_item x.within; below = x.below; differ = x.differ }
 
   variable-given : (l : Label) (d : ℕ) (turns : List ℕ) (cells : List Cell) → Sees binds turns 0 l d → Given turns (variable l d) cells (Ok (value_of a (reached binds l d turns), cells))
   variable-given l d turns cells s =
@@ -223,74 +242,74 @@ module _ (a : Absent) (binds : Binds) where
   Repeated turns t e cells xs = AreRepeated binds cells turns t e xs
 
   -- one turn, and those behind it
-  turn-on : (turns : List ℕ) (t : PlainTemplate) (e n i : ℕ) (done : List Value) (cells : List Cell) (p : List Value × List Cell) → Gave (Repeated (turns ++ i ∷ []) t e) done cells p → (x : Result (List Value × List Cell) Bare)
-      → GivenAll (Turns turns t e n (i + 1)) p.0 p.1 x → GivenAll (Turns turns t e (suc n) i) done cells x
-  turn-on turns t e n i done cells p g (Ok q) h = record {
+  turn-on : (Bad : Bare → Type 0) (turns : List ℕ) (t : PlainTemplate) (e n i : ℕ) (done : List Value) (cells : List Cell) (p : List Value × List Cell) → Gave (Repeated (turns ++ i ∷ []) t e) done cells p → (x : Result (List Value × List Cell) Bare)
+      → GivenAll (Turns turns t e n (i + 1)) Bad p.0 p.1 x → GivenAll (Turns turns t e (suc n) i) Bad done cells x
+  turn-on Bad turns t e n i done cells p g (Ok q) h = record {
     xs = g.xs ++ h.xs;
     is = h.is ∙ ap (λ ys. ys ++ h.xs) g.is ∙ append_assoc done g.xs h.xs;
     keeps = keeps_then cells p.1 q.1 g.keeps h.keeps;
     are = r.a_turn (repeated-still binds p.1 q.1 h.keeps g.are) h.are;
   }
-  turn-on turns t e n i done cells p g (Err f) h = h
+  turn-on Bad turns t e n i done cells p g (Err f) h = h
 
-  turns-given : (turns : List ℕ) (t : PlainTemplate) (e count n i : ℕ) (done : List Value) (cells : List Cell) → n + i ≤ count
-      → ((j : ℕ) (done : List Value) (cells : List Cell) → j < count → GivenAll (Repeated (turns ++ j ∷ []) t e) done cells (item (instance a binds t) (counts a binds t) e (turns ++ j ∷ []) done cells))
-      → GivenAll (Turns turns t e n i) done cells (turned (item (instance a binds t) (counts a binds t) e) n i turns done cells)
-  turns-given turns t e count zero i done cells h k = record { xs = []; is = sym (append-nil done); keeps = keeps_refl cells; are = r.no_turn }
-  turns-given turns t e count (suc n) i done cells h k =
-      on (λ xs cells. turns-given turns t e count n (i + 1) xs cells (omega arith) k) (item (instance a binds t) (counts a binds t) e (turns ++ i ∷ []) done cells) (k i done cells (omega arith))
+  turns-given : (Bad : Bare → Type 0) (turns : List ℕ) (t : PlainTemplate) (e count n i : ℕ) (done : List Value) (cells : List Cell) → n + i ≤ count
+      → ((j : ℕ) (done : List Value) (cells : List Cell) → j < count → GivenAll (Repeated (turns ++ j ∷ []) t e) Bad done cells (item (instance a binds t) (counts a binds t) e (turns ++ j ∷ []) done cells))
+      → GivenAll (Turns turns t e n i) Bad done cells (turned (item (instance a binds t) (counts a binds t) e) n i turns done cells)
+  turns-given Bad turns t e count zero i done cells h k = record { xs = []; is = sym (append-nil done); keeps = keeps_refl cells; are = r.no_turn }
+  turns-given Bad turns t e count (suc n) i done cells h k =
+      on (λ xs cells. turns-given Bad turns t e count n (i + 1) xs cells (omega arith) k) (item (instance a binds t) (counts a binds t) e (turns ++ i ∷ []) done cells) (k i done cells (omega arith))
     where
-      on : ((xs : List Value) (cells : List Cell) → GivenAll (Turns turns t e n (i + 1)) xs cells (turned (item (instance a binds t) (counts a binds t) e) n (i + 1) turns xs cells))
-          → (x : Result (List Value × List Cell) Bare) → GivenAll (Repeated (turns ++ i ∷ []) t e) done cells x
-          → GivenAll (Turns turns t e (suc n) i) done cells (then_add x (turned (item (instance a binds t) (counts a binds t) e) n (i + 1) turns))
-      on ih (Ok p) g = turn-on turns t e n i done cells p g (turned (item (instance a binds t) (counts a binds t) e) n (i + 1) turns p.0 p.1) (ih p.0 p.1)
+      on : ((xs : List Value) (cells : List Cell) → GivenAll (Turns turns t e n (i + 1)) Bad xs cells (turned (item (instance a binds t) (counts a binds t) e) n (i + 1) turns xs cells))
+          → (x : Result (List Value × List Cell) Bare) → GivenAll (Repeated (turns ++ i ∷ []) t e) Bad done cells x
+          → GivenAll (Turns turns t e (suc n) i) Bad done cells (then_add x (turned (item (instance a binds t) (counts a binds t) e) n (i + 1) turns))
+      on ih (Ok p) g = turn-on Bad turns t e n i done cells p g (turned (item (instance a binds t) (counts a binds t) e) n (i + 1) turns p.0 p.1) (ih p.0 p.1)
       on ih (Err f) g = g
 
-  module _ (t : PlainTemplate) (ih : (turns : List ℕ) (cells : List Cell) → AllSeen binds turns 0 t → Given turns t cells (instance a binds t turns cells)) where
-    one-given : (turns : List ℕ) (done : List Value) (cells : List Cell) (x : Result (Value × List Cell) Bare) → Given turns t cells x → GivenAll (Repeated turns t 0) done cells (then_add x (λ v cells. Ok (done ++ v ∷ [], cells)))
+  module _ (t : PlainTemplate) (k : ℕ) (ih : (turns : List ℕ) (cells : List Cell) → AllSeen binds turns 0 t → Given turns t cells (instance a binds t turns cells)) where
+    one-given : (turns : List ℕ) (done : List Value) (cells : List Cell) (x : Result (Value × List Cell) Bare) → Given turns t cells x → GivenAll (Repeated turns t 0) (UnevenAt t k) done cells (then_add x (λ v cells. Ok (done ++ v ∷ [], cells)))
     one-given turns done cells (Ok p) h = record { xs = p.0 ∷ []; is = refl; keeps = h.0; are = r.no_ellipsis h.1 }
-    one-given turns done cells (Err f) h = h
+    one-given turns done cells (Err f) h = inr h
 
-    item-given : (e : ℕ) (turns : List ℕ) (done : List Value) (cells : List Cell) → AllSeen binds turns e t → GivenAll (Repeated turns t e) done cells (item (instance a binds t) (counts a binds t) e turns done cells)
-    item-given zero turns done cells s = one-given turns done cells (instance a binds t turns cells) (ih turns cells s)
-    item-given (suc e) turns done cells s = by (lengths a binds turns e t) refl (are-lengths a binds turns e t s) (item-given e)
+    item-given : (e : ℕ) → e ≤ k → (turns : List ℕ) (done : List Value) (cells : List Cell) → AllSeen binds turns e t → GivenAll (Repeated turns t e) (UnevenAt t k) done cells (item (instance a binds t) (counts a binds t) e turns done cells)
+    item-given zero le turns done cells s = one-given turns done cells (instance a binds t turns cells) (ih turns cells s)
+    item-given (suc e) le turns done cells s = by (lengths a binds turns e t) refl (are-lengths a binds turns e t s) (item-given e (omega (arith, le)))
       where
-        with_turns : (n : ℕ) (ns : List ℕ) → AreLengths binds turns e t ns → IsAgreed n ns → (x : Result (List Value × List Cell) Bare) → GivenAll (Turns turns t e n 0) done cells x → GivenAll (Repeated turns t (suc e)) done cells x
+        with_turns : (n : ℕ) (ns : List ℕ) → AreLengths binds turns e t ns → IsAgreed n ns → (x : Result (List Value × List Cell) Bare) → GivenAll (Turns turns t e n 0) (UnevenAt t k) done cells x → GivenAll (Repeated turns t (suc e)) (UnevenAt t k) done cells x
         with_turns n ns l g (Ok p) h = record { xs = h.xs; is = h.is; keeps = h.keeps; are = r.an_ellipsis l g h.are }
         with_turns n ns l g (Err f) h = h
 
-        all_turns : (n : ℕ) (ns : List ℕ) → lengths a binds turns e t ≡ ns → agree None ns ≡ Ok (Some n) → ((turns : List ℕ) (done : List Value) (cells : List Cell) → AllSeen binds turns e t → GivenAll (Repeated turns t e) done cells (item (instance a binds t) (counts a binds t) e turns done cells))
-            → GivenAll (Turns turns t e n 0) done cells (turned (item (instance a binds t) (counts a binds t) e) n 0 turns done cells)
-        all_turns n ns is g go = turns-given turns t e n n 0 done cells (omega arith)
+        all_turns : (n : ℕ) (ns : List ℕ) → lengths a binds turns e t ≡ ns → agree None ns ≡ Ok (Some n) → ((turns : List ℕ) (done : List Value) (cells : List Cell) → AllSeen binds turns e t → GivenAll (Repeated turns t e) (UnevenAt t k) done cells (item (instance a binds t) (counts a binds t) e turns done cells))
+            → GivenAll (Turns turns t e n 0) (UnevenAt t k) done cells (turned (item (instance a binds t) (counts a binds t) e) n 0 turns done cells)
+        all_turns n ns is g go = turns-given (UnevenAt t k) turns t e n n 0 done cells (omega arith)
             (λ j done cells below. go (turns ++ j ∷ []) done cells (seen_next a binds turns n j below e t s (agreed_all (lengths a binds turns e t) (Some n) (ap (agree None) is ∙ g))))
 
-        by : (ns : List ℕ) → lengths a binds turns e t ≡ ns → AreLengths binds turns e t ns → ((turns : List ℕ) (done : List Value) (cells : List Cell) → AllSeen binds turns e t → GivenAll (Repeated turns t e) done cells (item (instance a binds t) (counts a binds t) e turns done cells))
-            → GivenAll (Repeated turns t (suc e)) done cells (agree None ns >>= λ n. turned (item (instance a binds t) (counts a binds t) e) (or_none n) 0 turns done cells)
+        by : (ns : List ℕ) → lengths a binds turns e t ≡ ns → AreLengths binds turns e t ns → ((turns : List ℕ) (done : List Value) (cells : List Cell) → AllSeen binds turns e t → GivenAll (Repeated turns t e) (UnevenAt t k) done cells (item (instance a binds t) (counts a binds t) e turns done cells))
+            → GivenAll (Repeated turns t (suc e)) (UnevenAt t k) done cells (agree None ns >>= λ n. turned (item (instance a binds t) (counts a binds t) e) (or_none n) 0 turns done cells)
         by [] is l go = record { xs = []; is = sym (append-nil done); keeps = keeps_refl cells; are = r.an_ellipsis l r.no_lengths r.no_turn }
         by (m ∷ ns) is l go = on (agree (Some m) ns) refl (agrees m ns)
           where
-            on : (x : Result (Option ℕ) Bare) → agree (Some m) ns ≡ x → Agrees m ns x → GivenAll (Repeated turns t (suc e)) done cells (x >>= λ n. turned (item (instance a binds t) (counts a binds t) e) (or_none n) 0 turns done cells)
-            on (Ok o) g h = subst (λ q. GivenAll (Repeated turns t (suc e)) done cells (turned (item (instance a binds t) (counts a binds t) e) (or_none q) 0 turns done cells)) (sym h.0)
+            on : (x : Result (Option ℕ) Bare) → agree (Some m) ns ≡ x → Agrees m ns x → GivenAll (Repeated turns t (suc e)) (UnevenAt t k) done cells (x >>= λ n. turned (item (instance a binds t) (counts a binds t) e) (or_none n) 0 turns done cells)
+            on (Ok o) g h = subst (λ q. GivenAll (Repeated turns t (suc e)) (UnevenAt t k) done cells (turned (item (instance a binds t) (counts a binds t) e) (or_none q) 0 turns done cells)) (sym h.0)
                 (with_turns m (m ∷ ns) l (r.same_lengths h.1) (turned (item (instance a binds t) (counts a binds t) e) m 0 turns done cells) (all_turns m (m ∷ ns) is (g ∙ ap Ok h.0) go))
-            on (Err f) g h = subst (IsUneven binds) (sym h.fault) (r.uneven turns e m h.n t h.before h.after (subst (λ ks. AreLengths binds turns e t (m ∷ ks)) h.is l) h.same h.other)
+            on (Err f) g h = inl (e, ((let below : e < k = omega (arith, le) in below), subst (AreUneven binds t e) (sym h.fault) (r.uneven turns m h.n h.before h.after (subst (λ ks. AreLengths binds turns e t (m ∷ ks)) h.is l) h.same h.other)))
 
   abbrev Items : List ℕ → PlainItems → List Cell → List Value → Type 0
   Items turns is cells xs = AreInstances binds cells turns is xs
 
   items-on : (turns : List ℕ) (t : PlainTemplate) (e : ℕ) (is : PlainItems) (done : List Value) (cells : List Cell) (p : List Value × List Cell) → Gave (Repeated turns t e) done cells p → (x : Result (List Value × List Cell) Bare)
-      → GivenAll (Items turns is) p.0 p.1 x → GivenAll (Items turns (more t e is)) done cells x
+      → GivenAll (Items turns is) (UnevenIn is) p.0 p.1 x → GivenAll (Items turns (more t e is)) (UnevenIn (more t e is)) done cells x
   items-on turns t e is done cells p g (Ok q) h = record {
     xs = g.xs ++ h.xs;
     is = h.is ∙ ap (λ ys. ys ++ h.xs) g.is ∙ append_assoc done g.xs h.xs;
     keeps = keeps_then cells p.1 q.1 g.keeps h.keeps;
     are = r.with_instances (repeated-still binds p.1 q.1 h.keeps g.are) h.are;
   }
-  items-on turns t e is done cells p g (Err f) h = h
+  items-on turns t e is done cells p g (Err f) h = uneven-later t e is f h
 
-  items-then : (turns : List ℕ) (t : PlainTemplate) (e : ℕ) (is : PlainItems) (done : List Value) (cells : List Cell) → ((xs : List Value) (cells : List Cell) → GivenAll (Items turns is) xs cells (parts a binds is turns xs cells))
-      → (x : Result (List Value × List Cell) Bare) → GivenAll (Repeated turns t e) done cells x → GivenAll (Items turns (more t e is)) done cells (then_add x (parts a binds is turns))
+  items-then : (turns : List ℕ) (t : PlainTemplate) (e : ℕ) (is : PlainItems) (done : List Value) (cells : List Cell) → ((xs : List Value) (cells : List Cell) → GivenAll (Items turns is) (UnevenIn is) xs cells (parts a binds is turns xs cells))
+      → (x : Result (List Value × List Cell) Bare) → GivenAll (Repeated turns t e) (UnevenAt t e) done cells x → GivenAll (Items turns (more t e is)) (UnevenIn (more t e is)) done cells (then_add x (parts a binds is turns))
   items-then turns t e is done cells ih (Ok p) g = items-on turns t e is done cells p g (parts a binds is turns p.0 p.1) (ih p.0 p.1)
-  items-then turns t e is done cells ih (Err f) g = g
+  items-then turns t e is done cells ih (Err f) g = uneven-first t e is f g
 
   -- the end of a list, and its pairs
   listed-given : (turns : List ℕ) (is : PlainItems) (t : PlainTemplate) (cells : List Cell) (p : List Value × List Cell) → Gave (Items turns is) [] cells p → (q : Value × List Cell) → Keeps p.1 q.1 → IsEnd binds q.1 turns t q.0
@@ -302,21 +321,21 @@ module _ (a : Absent) (binds : Binds) where
         r.as_list (all-still binds p.1 s.1 (keeps_then p.1 q.1 s.1 k last) (subst (AreInstances binds p.1 turns is) (sym g.is) g.are)) (end-still binds q.1 s.1 last e) (pairs-listed p.0 q.0 q.1),
       )
 
-  list-given : (turns : List ℕ) (is : PlainItems) (t : PlainTemplate) (cells : List Cell) → ((cells : List Cell) → Given turns t cells (instance a binds t turns cells)) → (x : Result (List Value × List Cell) Bare) → GivenAll (Items turns is) [] cells x
+  list-given : (turns : List ℕ) (is : PlainItems) (t : PlainTemplate) (cells : List Cell) → ((cells : List Cell) → Given turns t cells (instance a binds t turns cells)) → (x : Result (List Value × List Cell) Bare) → GivenAll (Items turns is) (UnevenIn is) [] cells x
       → Given turns (list is t) cells (then_add x (λ xs cells. then_add (ending t (instance a binds t turns) cells) (λ v cells. Ok (pairs_stored xs (v, cells)))))
-  list-given turns is t cells ih (Err f) g = g
+  list-given turns is t cells ih (Err f) g = record { part = g.part; ellipses = g.ellipses; inside = g.inside; within = r.in_items g.within; below = g.below; differ = g.differ }
   list-given turns is t cells ih (Ok p) g = by (is_end t) refl
     where
       other : is_end t ≡ false → (y : Result (Value × List Cell) Bare) → Given turns t p.1 y → Given turns (list is t) cells (then_add y (λ v cells. Ok (pairs_stored p.0 (v, cells))))
       other e (Ok q) h = listed-given turns is t cells p g q h.0 (r.other_end (λ n. let k = sym e ∙ nil-is t n in let f : ⊥ = cc in f) h.1)
-      other e (Err f) h = h
+      other e (Err f) h = record { part = h.part; ellipses = h.ellipses; inside = h.inside; within = r.in_end h.within; below = h.below; differ = h.differ }
 
       by : (b : Bool) → is_end t ≡ b → Given turns (list is t) cells (then_add (if b then Ok (value.Atom Nil, p.1) else instance a binds t turns p.1) (λ v cells. Ok (pairs_stored p.0 (v, cells))))
       by true e = listed-given turns is t cells p g (value.Atom Nil, p.1) (keeps_refl p.1) (r.plain_end (is-nil t e))
       by false e = other e (instance a binds t turns p.1) (ih p.1)
 
-  vector-given : (turns : List ℕ) (is : PlainItems) (cells : List Cell) (x : Result (List Value × List Cell) Bare) → GivenAll (Items turns is) [] cells x → Given turns (vector is) cells (then_add x (λ xs cells. Ok (vector_stored (xs, cells))))
-  vector-given turns is cells (Err f) g = g
+  vector-given : (turns : List ℕ) (is : PlainItems) (cells : List Cell) (x : Result (List Value × List Cell) Bare) → GivenAll (Items turns is) (UnevenIn is) [] cells x → Given turns (vector is) cells (then_add x (λ xs cells. Ok (vector_stored (xs, cells))))
+  vector-given turns is cells (Err f) g = record { part = g.part; ellipses = g.ellipses; inside = g.inside; within = r.in_vector g.within; below = g.below; differ = g.differ }
   vector-given turns is cells (Ok p) g =
       let c = cell.Vector p.0 in
       let last = keeps_added p.1 p.1 c (keeps_refl p.1) in
@@ -329,12 +348,12 @@ module _ (a : Absent) (binds : Binds) where
     given (list is t) turns cells s = list-given turns is t cells (λ cells. given t turns cells s.1) (parts a binds is turns [] cells) (all-given is turns [] cells s.0)
     given (vector is) turns cells s = vector-given turns is cells (parts a binds is turns [] cells) (all-given is turns [] cells s)
 
-    all-given : (is : PlainItems) (turns : List ℕ) (done : List Value) (cells : List Cell) → ItemsSeen binds turns 0 is → GivenAll (Items turns is) done cells (parts a binds is turns done cells)
+    all-given : (is : PlainItems) (turns : List ℕ) (done : List Value) (cells : List Cell) → ItemsSeen binds turns 0 is → GivenAll (Items turns is) (UnevenIn is) done cells (parts a binds is turns done cells)
     all-given none turns done cells s = record { xs = []; is = sym (append-nil done); keeps = keeps_refl cells; are = r.no_instance }
     all-given (more t e is) turns done cells s =
         let same : 0 + e ≡ e = omega arith in
         items-then turns t e is done cells (λ xs cells. all-given is turns xs cells s.1) (item (instance a binds t) (counts a binds t) e turns done cells)
-        (item-given t (given t) e turns done cells (subst (λ m. AllSeen binds turns m t) same s.0))
+        (item-given t e (given t) e (omega arith) turns done cells (subst (λ m. AllSeen binds turns m t) same s.0))
 
 pub instances-are-given : InstancesAreGiven
 instances-are-given absent binds t cells h = given absent binds t [] cells (seen_ready binds 0 t h)

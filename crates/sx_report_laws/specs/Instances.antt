@@ -111,15 +111,36 @@ mutual
     a_turn : {turns : List ℕ} {t : PlainTemplate} {ellipses n i : ℕ} {xs ys : List Value}
         → AreRepeated binds cells (turns ++ i ∷ []) t ellipses xs → AreTurns binds cells turns t ellipses n (i + 1) ys → AreTurns binds cells turns t ellipses (suc n) i (xs ++ ys)
 
--- the first length, and the first behind it that is another, are the words
-pub data IsUneven (binds : Binds) : Bare → Type 0 where
-  uneven : (turns : List ℕ) (inside m n : ℕ) (t : PlainTemplate) (before after : List ℕ) → AreLengths binds turns inside t (m ∷ before ++ n ∷ after) → AllAre m before → (m ≡ n → ⊥)
-      → IsUneven binds (record { kind = kind.EllipsisLength; words = decimal m ∷ decimal n ∷ [] })
+-- a template with so many ellipses behind it, somewhere in another
+mutual
+  pub data IsWithin (u : PlainTemplate) (ellipses : ℕ) : PlainTemplate → Type 0 where
+    in_items : {is : PlainItems} {t : PlainTemplate} → IsItem u ellipses is → IsWithin u ellipses (list is t)
+    in_end : {is : PlainItems} {t : PlainTemplate} → IsWithin u ellipses t → IsWithin u ellipses (list is t)
+    in_vector : {is : PlainItems} → IsItem u ellipses is → IsWithin u ellipses (vector is)
+
+  pub data IsItem (u : PlainTemplate) (ellipses : ℕ) : PlainItems → Type 0 where
+    this_item : {is : PlainItems} → IsItem u ellipses (more u ellipses is)
+    inside_item : {t : PlainTemplate} {n : ℕ} {is : PlainItems} → IsWithin u ellipses t → IsItem u ellipses (more t n is)
+    later_item : {t : PlainTemplate} {n : ℕ} {is : PlainItems} → IsItem u ellipses is → IsItem u ellipses (more t n is)
+
+-- The first length at an ellipsis, and the first behind it that is another, are the words.
+pub data AreUneven (binds : Binds) (t : PlainTemplate) (inside : ℕ) : Bare → Type 0 where
+  uneven : (turns : List ℕ) (m n : ℕ) (before after : List ℕ) → AreLengths binds turns inside t (m ∷ before ++ n ∷ after) → AllAre m before → (m ≡ n → ⊥)
+      → AreUneven binds t inside (record { kind = kind.EllipsisLength; words = decimal m ∷ decimal n ∷ [] })
+
+-- They differ at one of the ellipses behind a part of the template.
+pub record IsUneven (binds : Binds) (t : PlainTemplate) (f : Bare) : Type 0 where
+  pub part : PlainTemplate
+  pub ellipses : ℕ
+  pub inside : ℕ
+  pub within : IsWithin part ellipses t
+  pub below : inside < ellipses
+  pub differ : AreUneven binds part inside f
 
 -- Cells are added, and the value is an instance over them; or lengths differ.
 abbrev pub IsGiven : Binds → PlainTemplate → List Cell → Result (Value × List Cell) Bare → Type 0
 IsGiven binds t cells (Ok r) = Keeps cells r.1 × IsInstance binds r.1 [] t r.0
-IsGiven binds t cells (Err f) = IsUneven binds f
+IsGiven binds t cells (Err f) = IsUneven binds t f
 
 abbrev pub InstancesAreGiven : Type 0
 InstancesAreGiven = (absent : Absent) (binds : Binds) (t : PlainTemplate) (cells : List Cell) → Ready binds 0 t → IsGiven binds t cells (instance absent binds t [] cells)
