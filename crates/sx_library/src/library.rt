@@ -23,7 +23,6 @@ use sx_base::name::{CodeNo, Label};
 use sx_base::span::Span;
 use sx_base::symbol::Symbol;
 use sx_core::code::Code;
-use sx_core::record::LibRecord;
 use sx_derived::implementation::Implementation;
 use sx_expand::expander::{Expander, LibraryBody};
 use sx_expand::top::Linked;
