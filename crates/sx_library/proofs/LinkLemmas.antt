@@ -56,3 +56,11 @@ library_alone prelude records path form body =
 pub found_alone : (prelude : Result Codes Fault) (records : List LibRecord) (found : Found) (body : List PlainDatum)
     → unlinked (link_found prelude records found body) ≡ expand_found prelude records found body
 found_alone prelude records found body = library_alone prelude _ found.opened.path found.opened.form body
+
+-- what a library gives without its links
+module _ (prelude : Result Codes Fault) (records : List LibRecord) (path : List ℕ) (form : LibraryForm) (body : List PlainDatum) where
+  pub record_given : (x : Linked) → link_library prelude records path form body ≡ Ok x → expand_library prelude records path form body ≡ Ok x.library
+  record_given x h = sym (library_alone prelude records path form body) ∙ ap unlinked h
+
+  pub record_stops : (f : Fault) → link_library prelude records path form body ≡ Err f → expand_library prelude records path form body ≡ Err f
+  record_stops f h = sym (library_alone prelude records path form body) ∙ ap unlinked h

@@ -1,14 +1,12 @@
 //! The record of a library or a program.
 
-ghost use Rattle.std.specs.Prelude.{◌≡◌, [], false, IfOk, Ok, Result, map};
+ghost use Rattle.std.specs.Prelude.{◌≡◌, [], false, IfOk, Ok, map};
 ghost use Rattle.sx_base.specs.Gives.{Gives, StopsWith};
-ghost use Rattle.sx_base.specs.declared.fault.Fault as faults;
 ghost use Rattle.sx_eval.specs.Codes as table;
 ghost use Rattle.sx_expand.specs.Expanding.{ready, library_linked};
-ghost use Rattle.sx_expand.specs.declared.top.Linked as declared;
 ghost use Rattle.sx_prelude.specs.Prelude.{kept};
 ghost use Rattle.sx_library.specs.Records.{needed_records};
-ghost use Rattle.sx_library.specs.Library.{at_datum, tree_at, trees_at, export_tree, expander_of, body_of, expand_body, unlinked};
+ghost use Rattle.sx_library.specs.Library.{at_datum, tree_at, trees_at, export_tree, expander_of, body_of, expand_body};
 
 use crate::imports::form_names;
 use crate::records::Needed;
@@ -25,7 +23,6 @@ use sx_base::name::{CodeNo, Label};
 use sx_base::span::Span;
 use sx_base::symbol::Symbol;
 use sx_core::code::Code;
-use sx_core::record::LibRecord;
 use sx_derived::implementation::Implementation;
 use sx_expand::expander::{Expander, LibraryBody};
 use sx_expand::top::Linked;
@@ -106,19 +103,6 @@ pub fn expand_body<N: Ledger, L: Ledger>(
         version,
     };
     linked_behind(begun, needed, body, implementation.primitives, counts)
-}
-
-/// The record alone.
-pub fn unlinked(linked: Result<Linked, Stop>) -> Result<LibRecord, Stop>
-    ensures { (d : Result declared.Linked faults.Fault) → Gives (λ l. l) linked d → Gives (λ r. r) result (unlinked d) }
-{
-    match linked {
-        Ok(linked) => {
-            let Linked { library, .. } = linked;
-            Ok(library)
-        }
-        Err(stop) => Err(stop),
-    }
 }
 
 // An expander behind the records that are marked, which knows what the procedures mean that are texts.

@@ -8,7 +8,7 @@ ghost use Rattle.sx_import.specs.Turns.{turns};
 ghost use Rattle.sx_forms.specs.Form.{library_body, program_body};
 ghost use Rattle.sx_library.specs.Loaded.{expand_found, expand_next, all_records, planned_text, text_behind, fault_behind, link_found, link_next, with_linked, derived_linked, all_linked, links_behind};
 
-use crate::library::{Unexpanded, body_of, expand_body, unlinked};
+use crate::library::{Unexpanded, body_of, expand_body};
 use crate::records::{Needed, Records};
 use std::alloc::Global;
 use std::sync::ledger::Ledger;
@@ -65,6 +65,7 @@ fn expand_next<N: Ledger, L: Ledger>(
 }
 
 // The record of a library alone.
+#[tactic(auto, using(crate::proofs::LinkLemmas::record_given, crate::proofs::LinkLemmas::record_stops))]
 fn record_of_one<N: Ledger, L: Ledger>(
     alloc: Global,
     implementation: &Implementation,
@@ -74,7 +75,13 @@ fn record_of_one<N: Ledger, L: Ledger>(
 ) -> Result<LibRecord, Stop>
     ensures { Gives (λ r. r) result (expand_found (kept implementation.now.prelude) records.now found (library_body found.opened.«data»)) }
 {
-    unlinked(expand_one(alloc, implementation, records, found, counts))
+    match expand_one(alloc, implementation, records, found, counts) {
+        Ok(linked) => {
+            let Linked { library, .. } = linked;
+            Ok(library)
+        }
+        Err(stop) => Err(stop),
+    }
 }
 
 // The record and the links of a library behind the records that it needs. Its data go once they are syntax objects.
@@ -122,6 +129,7 @@ fn expand_program<N: Ledger, L: Ledger>(
 }
 
 // The record of a program alone.
+#[tactic(auto, using(crate::proofs::LinkLemmas::record_given, crate::proofs::LinkLemmas::record_stops))]
 fn record_of_program<N: Ledger, L: Ledger>(
     alloc: Global,
     implementation: &Implementation,
@@ -131,7 +139,13 @@ fn record_of_program<N: Ledger, L: Ledger>(
 ) -> Result<LibRecord, Stop>
     ensures { Gives (λ r. r) result (expand_found (kept implementation.now.prelude) records.now found (program_body found.opened.«data»)) }
 {
-    unlinked(expand_program(alloc, implementation, records, found, counts))
+    match expand_program(alloc, implementation, records, found, counts) {
+        Ok(linked) => {
+            let Linked { library, .. } = linked;
+            Ok(library)
+        }
+        Err(stop) => Err(stop),
+    }
 }
 
 // Records, and behind them those of libraries in the order of loading.
