@@ -5,8 +5,9 @@
 
 CHECKER is the built program, as crates/core_check/out/core_check. The tables of tests/verdicts say what is told of each
 text; the core texts of tests/cases and of the examples are all accepted. With EXPANDER, as
-crates/scheme_expand/out/scheme_expand, so are those of the programs of examples/report that it expands.
-So are runs with other words, files and streams tried. Each that comes to something else is printed. The exit status is 0 where there is none.
+crates/scheme_expand/out/scheme_expand, so are those of the programs of examples/report that it expands. Runs with
+other words, files and streams are tried, too. Each that comes to something else is printed, and the exit status is 0
+where there is none.
 """
 import argparse
 import glob
@@ -49,7 +50,7 @@ def in_tables():
 
 
 def in_cases():
-    """The core texts that the tables of programs tell, and so none of a run that was cut off."""
+    """The core texts that the tables of programs tell: no binding map, no fault, and none of a run that was cut off."""
     for table in sorted(glob.glob(os.path.join(top, "tests/cases/*.txt"))):
         with open(table, encoding="utf-8", newline="") as it:
             for number, case in enumerate(it.read().removesuffix("\n").split("\n\n"), 1):
@@ -58,7 +59,7 @@ def in_cases():
                 text = FIRST + (answer + "\n" if answer else "")
                 if head.startswith("run"):
                     text = json.loads("[" + answer.partition(" ")[2].replace('" "', '", "') + "]")[0]
-                elif "§" in head or answer.startswith("p.sps:"):
+                elif re.match("map[ \n]", head) or "§" in head or answer.startswith("p.sps:"):
                     continue
                 if text.startswith(FIRST) and text.endswith("\n"):
                     yield f"{os.path.basename(table)}: program {number}", text.encode(), "yes"
@@ -68,11 +69,20 @@ def in_examples():
     """The core texts beside the examples."""
     for shown in sorted(glob.glob(os.path.join(top, "examples/*/p.out"))):
         with open(shown, "rb") as it:
-            yield shown.removeprefix(top + "/"), it.read(), "yes"
+            if not is_map(os.path.join(os.path.dirname(shown), "words")):
+                yield shown.removeprefix(top + "/"), it.read(), "yes"
+
+
+def is_map(path):
+    """Whether the words of an example in this file ask for its binding map."""
+    if not os.path.exists(path):
+        return False
+    with open(path, encoding="utf-8") as it:
+        return "xref" in it.read()
 
 
 def programs_of_reports():
-    """The programs of the reports' examples: where each ends, and its files. examples/report/run tells how they stand."""
+    """The programs of the reports' examples: where each ends, and its files, as examples/report/run tells."""
     for table in sorted(glob.glob(os.path.join(top, "examples/report/*.txt"))):
         files, path = {}, "p.sps"
         with open(table, encoding="utf-8") as it:
@@ -145,7 +155,8 @@ def outside(checker, folder):
         ("a byte more", [longer], None, 1, b"no: longer\n", b""),
     ]
     if os.path.exists("/dev/full"):
-        runs += [("a full disk", [yes], "stdout", 4, b"", b""), ("a full disk for the usage line", [], "stderr", 4, b"", b"")]
+        runs.append(("a full disk", [yes], "stdout", 4, b"", b""))
+        runs.append(("a full disk for the usage line", [], "stderr", 4, b"", b""))
     for what, words, full, *wanted in runs:
         streams = {"stdout": subprocess.PIPE, "stderr": subprocess.PIPE}
         with open("/dev/full", "wb") if full else open(os.devnull, "wb") as sink:
