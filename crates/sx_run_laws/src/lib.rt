@@ -52,7 +52,8 @@ pub mod stuck;
 
 ghost use Rattle.sx_run_laws.specs.Run.{RecordsStand, RunsAreClosedOnce};
 
-/// Each record of a run stands behind those that its library needs, and no two have one name.
+/// Each record of a run is good for the records that its library needs, has an index for each variable
+/// and at most 2,404 levels, and no two records have one name.
 pub fn records_stand()
     ensures { RecordsStand }
 {}
