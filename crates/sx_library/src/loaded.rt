@@ -64,8 +64,23 @@ fn expand_next<N: Ledger, L: Ledger>(
     Ok(())
 }
 
+// The record of an expansion, without its links.
+fn without_links(linked: Linked) -> LibRecord
+    ensures { result ≡ linked.library }
+{
+    let Linked { library, .. } = linked;
+    library
+}
+
+// The links of an expansion, without its record.
+fn links_of(linked: Linked) -> Items<Link>
+    ensures { result ≡ linked.links }
+{
+    let Linked { links, .. } = linked;
+    links
+}
+
 // The record of a library alone.
-#[tactic(auto, using(crate::proofs::LinkLemmas::record_given, crate::proofs::LinkLemmas::record_stops))]
 fn record_of_one<N: Ledger, L: Ledger>(
     alloc: Global,
     implementation: &Implementation,
@@ -75,13 +90,8 @@ fn record_of_one<N: Ledger, L: Ledger>(
 ) -> Result<LibRecord, Stop>
     ensures { Gives (λ r. r) result (expand_found (kept implementation.now.prelude) records.now found (library_body found.opened.«data»)) }
 {
-    match expand_one(alloc, implementation, records, found, counts) {
-        Ok(linked) => {
-            let Linked { library, .. } = linked;
-            Ok(library)
-        }
-        Err(stop) => Err(stop),
-    }
+    let linked = expand_one(alloc, implementation, records, found, counts)?;
+    Ok(without_links(linked))
 }
 
 // The record and the links of a library behind the records that it needs. Its data go once they are syntax objects.
@@ -129,7 +139,6 @@ fn expand_program<N: Ledger, L: Ledger>(
 }
 
 // The record of a program alone.
-#[tactic(auto, using(crate::proofs::LinkLemmas::record_given, crate::proofs::LinkLemmas::record_stops))]
 fn record_of_program<N: Ledger, L: Ledger>(
     alloc: Global,
     implementation: &Implementation,
@@ -139,13 +148,8 @@ fn record_of_program<N: Ledger, L: Ledger>(
 ) -> Result<LibRecord, Stop>
     ensures { Gives (λ r. r) result (expand_found (kept implementation.now.prelude) records.now found (program_body found.opened.«data»)) }
 {
-    match expand_program(alloc, implementation, records, found, counts) {
-        Ok(linked) => {
-            let Linked { library, .. } = linked;
-            Ok(library)
-        }
-        Err(stop) => Err(stop),
-    }
+    let linked = expand_program(alloc, implementation, records, found, counts)?;
+    Ok(without_links(linked))
 }
 
 // Records, and behind them those of libraries in the order of loading.
@@ -228,6 +232,14 @@ pub fn first_fault<N: Ledger, L: Ledger>(
 pub struct Gathered {
     pub records: Records,
     pub links: Items<Link>,
+}
+
+// The links that were gathered, without the records.
+fn gathered_links(all: Gathered) -> Items<Link>
+    ensures { result ≡ all.links }
+{
+    let Gathered { links, .. } = all;
+    links
 }
 
 // Adds links at the end.
@@ -318,10 +330,8 @@ pub fn program_links<N: Ledger, L: Ledger>(
 ) -> Result<Items<Link>, Stop>
     ensures { Gives (λ ls. ls) result (links_behind (kept implementation.now.prelude) libraries found) }
 {
-    let all = all_linked(alloc, implementation, libraries, counts)?;
+    let mut all = all_linked(alloc, implementation, libraries, counts)?;
     let linked = expand_program(alloc, implementation, &all.records, found, counts)?;
-    let Gathered { links: mut all, .. } = all;
-    let Linked { links, .. } = linked;
-    append(&mut all, links)?;
-    Ok(all)
+    append(&mut all.links, links_of(linked))?;
+    Ok(gathered_links(all))
 }
