@@ -190,7 +190,7 @@ module _ (T : Tree → Type 0) (lawful : IsLawful T) where
       by_cases no_case k = tt
       by_cases (case f c cs) k = k.0
 
-  -- In a setting, whose leaves may be met when this is the next name.
+  -- In a setting, of whose trees the law holds.
 
   module _ (w : PlainSetting) (setting : SettingHolds T w) where
     holds-primitive : (op : ℕ) (args : List Value) (s : State) (n : ℕ) → StateHolds T s → ValuesHold T args → OutcomeHolds T (primitive_called w op args s n)

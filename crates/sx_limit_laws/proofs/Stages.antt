@@ -52,7 +52,7 @@ module _ (T : Tree → Type 0) (lawful : IsLawful T) where
   pub changed-holds : (xs : List Change) (t : Tree) → T t → T (changed xs t)
   changed-holds xs t h = lawful.changed xs t h
 
-  -- Where it gives a value and a stage, all on the stage can be read, and this holds of the value.
+  -- Where it gives a value and a stage, the law holds of all on the stage, and this holds of the value.
   abbrev pub GaveStage : {A : Type 0} → (A → Type 0) → Result (A × PlainStage) Fault → Type 0
   GaveStage W (Ok p) = StageHolds T p.1 × W p.0
   GaveStage W (Err f) = Unit {0}
