@@ -1,8 +1,10 @@
 -- An expansion with its links gives the record of one without them.
 use Rattle.std.proofs.Common.{◌≡◌, ℕ, List, [], ◌∷◌, ◌++◌, map, Result, Ok, Err, refl, sym, ap, ◌∙◌}
 use Rattle.sx_base.specs.Datum.{PlainDatum}
-use Rattle.sx_base.specs.Gives.{◌>>=◌}
+use Rattle.sx_base.specs.Gives.{Stops, ◌>>=◌}
 use Rattle.sx_base.specs.declared.fault.Fault.{Fault}
+use Rattle.sx_base.specs.declared.fault.Stop.{Stop}
+use Rattle.sx_base.specs.declared.fault.Stop.TheVariants as stops
 use Rattle.sx_core.specs.declared.record.LibRecord.{LibRecord}
 use Rattle.sx_eval.specs.Codes.{Codes}
 use Rattle.sx_expand.specs.Expanding.{Expanding, library_record, library_linked}
@@ -58,9 +60,10 @@ pub found_alone : (prelude : Result Codes Fault) (records : List LibRecord) (fou
 found_alone prelude records found body = library_alone prelude _ found.opened.path found.opened.form body
 
 -- what a library gives without its links
-module _ (prelude : Result Codes Fault) (records : List LibRecord) (path : List ℕ) (form : LibraryForm) (body : List PlainDatum) where
-  pub record_given : (x : Linked) → link_library prelude records path form body ≡ Ok x → expand_library prelude records path form body ≡ Ok x.library
-  record_given x h = sym (library_alone prelude records path form body) ∙ ap unlinked h
+module _ (prelude : Result Codes Fault) (records : List LibRecord) (found : Found) (body : List PlainDatum) where
+  pub record_given : (l : Linked) (r : LibRecord) → link_found prelude records found body ≡ Ok l → r ≡ l.library → expand_found prelude records found body ≡ Ok r
+  record_given l r given is = sym (found_alone prelude records found body) ∙ ap unlinked given ∙ ap Ok (sym is)
 
-  pub record_stops : (f : Fault) → link_library prelude records path form body ≡ Err f → expand_library prelude records path form body ≡ Err f
-  record_stops f h = sym (library_alone prelude records path form body) ∙ ap unlinked h
+  pub record_stops : (stop : Stop) → Stops stop (link_found prelude records found body) → Stops stop (expand_found prelude records found body)
+  record_stops stops.Memory given = tt
+  record_stops (stops.Fault f) given = sym (found_alone prelude records found body) ∙ ap unlinked given
