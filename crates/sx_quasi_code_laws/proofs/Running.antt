@@ -103,8 +103,16 @@ module _ (given : List (Tree × Value)) (cells : List Cell) where
   joined_one : (t : Tree) (v : Value) → Shows given cells t v → Joined given cells (t ∷ []) (v ∷ [])
   unfolding elements_joined
   joined_one t v h = record {
-    fronts = []; last = v; joined = []; trees = []; end = t;
-    are = refl; join = λ done. ap Some (sym (append-nil done)); tree = refl; each = no_more; ended = h;
+    fronts = [];
+    last = v;
+    joined = [];
+    trees = [];
+    end = t;
+    are = refl;
+    join = λ done. ap Some (sym (append-nil done));
+    tree = refl;
+    each = no_more;
+    ended = h;
   }
 
   -- a list before others
@@ -112,7 +120,11 @@ module _ (given : List (Tree × Value)) (cells : List Cell) where
       → Joined given cells (u ∷ ts) vs → Joined given cells (t ∷ u ∷ ts) (v ∷ vs)
   unfolding elements_joined
   joined_more t u ts v vs xs e h j = record {
-    fronts = v ∷ j.fronts; last = j.last; joined = xs ++ j.joined; trees = elements t ++ j.trees; end = j.end;
+    fronts = v ∷ j.fronts;
+    last = j.last;
+    joined = xs ++ j.joined;
+    trees = elements t ++ j.trees;
+    end = j.end;
     are = ap (λ zs. v ∷ zs) j.are;
     join = λ done. ap (λ o. if_some o (λ ys. elements_joined cells (done ++ ys) j.fronts)) e ∙ j.join (done ++ xs) ∙ ap Some (append_assoc done xs j.joined);
     tree = ap (chain (elements t)) j.tree ∙ sym (chain_joined (elements t) j.trees j.end);
@@ -135,8 +147,14 @@ module _ (given : List (Tree × Value)) (cells : List Cell) where
   star_ended t [] v vs h no_more = record { fronts = []; last = v; trees = []; end = t; are = refl; tree = refl; each = no_more; ended = h }
   star_ended t (u ∷ ts) v vs h (one_more {x = x} {xs = xs} g k) =
       let r = star_ended u ts x xs g k in record {
-        fronts = v ∷ r.fronts; last = r.last; trees = t ∷ r.trees; end = r.end;
-        are = ap (λ zs. v ∷ zs) r.are; tree = ap (pair None t) r.tree; each = one_more h r.each; ended = r.ended;
+        fronts = v ∷ r.fronts;
+        last = r.last;
+        trees = t ∷ r.trees;
+        end = r.end;
+        are = ap (λ zs. v ∷ zs) r.are;
+        tree = ap (pair None t) r.tree;
+        each = one_more h r.each;
+        ended = r.ended;
       }
 
 module _ (w : PlainSetting) (scope : Place) (given : List (Tree × Value)) (f : Given) where
