@@ -24,6 +24,9 @@ signal.signal(signal.SIGXFSZ, signal.SIG_IGN)
 resource.setrlimit(resource.RLIMIT_FSIZE, (int(sys.argv[1]),) * 2)
 os.execv(sys.argv[2], sys.argv[2:])"""
 
+# The signs that stand before identifiers, in whatever order.
+SIGNS = "①②③④⑤⑥⑦⑧⑨⑩⑪⑫⑬⑭⑮⑯⑰⑱⑲⑳"
+
 
 @dataclasses.dataclass
 class Case:
@@ -67,12 +70,36 @@ def read_run(head, answer):
     return case
 
 
+def read_map(head, answer):
+    """The case of a binding map that is told by signs before identifiers."""
+    orders, *files = head.split("\nfile ")
+    first, _, program = orders.partition("\n")
+    roots = first.split(" ")[1:]
+    words = (["--root", ":".join(roots)] if roots else []) + ["--write", "xref", "p.sps"]
+    case, places = Case(words, {}, 0, "", ""), {}
+    for path, text in [("p.sps", program), *(it.partition("\n")[::2] for it in files)]:
+        line, column, held = 1, 1, ""
+        for it in text:
+            if it in SIGNS:
+                places[it] = f"{path}:{line}:{column}"
+                continue
+            held += it
+            line, column = (line + 1, 1) if it == "\n" else (line, column + 1)
+        case.files[path] = held.encode()
+    for it in answer.split():
+        case.out += f"{places[it[0]]} {places.get(it[1:], it[1:])}\n"
+    return case
+
+
 def read(text):
     """The case of this text."""
     head, _, answer = text.partition("\n=>")
     answer = answer.removeprefix(" ")
-    if head.partition("\n")[0].partition(" ")[0] == "run":
+    kind = head.partition("\n")[0].partition(" ")[0]
+    if kind == "run":
         return read_run(head, answer)
+    if kind == "map":
+        return read_map(head, answer)
     words = ["p.sps"]
     if head.startswith("root "):
         first, _, head = head.partition("\n")

@@ -5,13 +5,13 @@ ghost use Rattle.sx_builtin.specs.declared.library.Library.{Library as AnyLibrar
 ghost use Rattle.sx_builtin.specs.declared.library.Library.TheVariants.{Rnrs};
 ghost use Rattle.sx_builtin.specs.Libraries.{library_numbers, among, once, is_on_records};
 
-/// A library has each of its names once.
+/// A given library exports no name twice.
 pub fn each_name_stands_once()
     ensures { (library : AnyLibrary) → once (library_numbers library) ≡ true }
 {}
 
-/// A name that a library exports is a name of `(rnrs)` too, unless it is of a library on records. It
-/// has the same label there, since a label is a matter of the name alone.
+/// Each name that a given library exports is exported by `(rnrs)` too, with the same label, unless the
+/// library is one of the two on records.
 pub fn rnrs_has_the_others_names()
     ensures { (library : AnyLibrary) (n : ℕ) → is_on_records library ≡ false → among n (library_numbers library) ≡ true → among n (library_numbers Rnrs) ≡ true }
 {}

@@ -93,7 +93,7 @@ pub const CORE_FORMS: [CoreForm; 36] = [
 ];
 
 impl CoreForm {
-    /// Its place among them.
+    /// The place of the keyword among those that expansion itself knows.
     pub fn place(self) -> u8
         ensures { result ≡ place self }
     {
@@ -182,14 +182,14 @@ impl CoreForm {
         }
     }
 
-    /// The one at a place.
+    /// The keyword at a place among those that expansion itself knows.
     pub fn at_place(place: u8) -> Option<CoreForm>
         ensures { result ≡ at_place place }
     {
         form_at(&CORE_FORMS, place as usize)
     }
 
-    /// The one of a number.
+    /// The keyword of a number in the table of names, if expansion itself knows it.
     pub fn at_number(op: &Op) -> Option<CoreForm>
         ensures { result ≡ at_number op.now.0 }
     {

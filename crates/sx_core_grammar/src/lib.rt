@@ -20,36 +20,40 @@ ghost use Rattle.sx_core_grammar.specs.Laws.{TextsAreSpellings, LineTextsAreSpel
 
 use sx_grammar::spellings_are_read_by_the_grammar;
 
-/// Core code without forms of `syntax` and `syntax-case` whose variables have names has a spelling, and so has a line.
+/// Core code has a spelling if its variables have names and it has no form of `syntax` or
+/// `syntax-case`; so has a line of a program.
 pub fn core_code_is_spelled()
     ensures code { CodeIsSpelled }
     ensures lines { LinesAreSpelled }
 {}
 
-/// The text of core code is that of the datum that spells it, and so it is with a line.
+/// The text of core code, or of a line, is that of the datum that spells it.
 pub fn core_texts_are_spellings()
     ensures code { TextsAreSpellings }
     ensures lines { LineTextsAreSpellings }
 {}
 
-/// Core code has one spelling.
+/// Core code has one spelling at most.
 pub fn a_code_has_one_spelling()
     ensures { OneSpelling }
 {}
 
-/// A datum spells one code but for its variables, and these have the same names.
+/// A datum spells one core code, once each variable is replaced by its name and spans and the numbers
+/// of procedures are left out.
 pub fn a_datum_spells_one_code_by_names()
     ensures code { OneCodeByNames }
     ensures lines { OneLineByNames }
 {}
 
-/// A datum spells one code, where names tell variables apart.
+/// A datum spells one core code, if no two variables have one name and spans and the numbers of
+/// procedures are left out.
 pub fn a_datum_spells_one_code()
     ensures code { OneCode }
     ensures lines { OneLine }
 {}
 
-/// The core text of a program is read as `(import (rnrs))` and one datum for each line, which spells it.
+/// The core text of a program whose lines can be spelled and whose constants can be read is read as
+/// `(import (rnrs))` and one datum for each line, which spells it.
 pub fn core_text_is_read_back()
     ensures spellings { SpellingsCanBeRead }
     ensures whole { CoreTextIsReadBack }
@@ -57,22 +61,23 @@ pub fn core_text_is_read_back()
     spellings_are_read_by_the_grammar();
 }
 
-/// One core text is of one list of lines, but for their variables, and these have the same names.
+/// Two programs with one core text have the same lines, once each variable is replaced by its name and
+/// spans and the numbers of procedures are left out.
 pub fn core_text_tells_its_lines()
     ensures { CoreTextTellsItsLines }
 {
     spellings_are_read_by_the_grammar();
 }
 
-/// Each variable that is bound with an index has a name. These names are generated ones; and where no two of the variables share
-/// library and index, they tell them apart.
+/// Each variable that is bound with an index has a generated name, and no two variables have one name
+/// if no two share library and index.
 pub fn names_are_told_by_bindings()
     ensures given { BoundHaveNames }
     ensures generated { NamesAreGenerated }
     ensures apart { NamesTellApart }
 {}
 
-/// Small examples, of what is spelled and of what is not.
+/// Examples of core code with its spelling and text, and of core code that has none.
 pub fn examples_are_spelled()
     ensures { SpellingExamples }
 {}

@@ -18,33 +18,34 @@ ghost use Rattle.sx_core_laws.specs.Given.{ReferencesAreGiven};
 ghost use Rattle.sx_core_laws.specs.Following.{FollowersAreClosed};
 ghost use Rattle.sx_core_laws.specs.Examples.{ClosedExamples, WellMadeExamples, RecordExamples, FollowsExamples};
 
-/// Whether core code is closed under some labels is told by a test.
+/// A test decides whether core code is closed under given labels.
 pub fn closed_is_decided()
     ensures { ClosedIsDecided }
 {}
 
-/// Each label that closed core code references or assigns, and that no binder in it binds, is a given
-/// one.
+/// Each label that closed core code refers to or assigns, and that no binder in it binds, is one of
+/// those under which it is closed.
 pub fn references_are_given()
     ensures { ReferencesAreGiven }
 {}
 
-/// Whether core code is well made under pattern variables of some depths is told by a test.
+/// A test decides whether core code is well made under pattern variables of given depths.
 pub fn well_made_is_decided()
     ensures { WellMadeIsDecided }
 {}
 
-/// Whether each line of records is closed under what their lines define is told by a test.
+/// A test decides whether each line of some records is closed under what the lines of all of them
+/// define.
 pub fn records_closed_is_decided()
     ensures { RecordsClosedIsDecided }
 {}
 
-/// Whether records are bound once is told by a test.
+/// A test decides whether some records bind each label once.
 pub fn bound_once_is_decided()
     ensures { BoundOnceIsDecided }
 {}
 
-/// Whether a record follows earlier ones is told by a test.
+/// A test decides whether a record follows others.
 pub fn follows_is_decided()
     ensures { FollowsIsDecided }
 {}
@@ -54,7 +55,8 @@ pub fn followers_are_closed()
     ensures { FollowersAreClosed }
 {}
 
-/// Small examples, of what each test takes and of what it refuses.
+/// Examples of what the tests of closed and well made code, of records bound once and of followers
+/// accept and refuse.
 pub fn examples_are_told()
     ensures closed { ClosedExamples }
     ensures well_made { WellMadeExamples }

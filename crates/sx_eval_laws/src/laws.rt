@@ -7,29 +7,29 @@ ghost use Rattle.sx_eval_laws.specs.Kept.{ExpressionsEndLater, CallsEndLater, Li
 ghost use Rattle.sx_eval_laws.specs.MoreFuel.{MoreIsLeft, LeftIsNotNeeded, SpentWhereMoreIsNeeded, FuelFalls, Unrolls, AnyDepth};
 ghost use Rattle.sx_eval_laws.specs.Runs.{Everywhere};
 
-/// More fuel gives the same answer, with that much more left, where the fuel wasn't spent.
+/// With more fuel an evaluation whose fuel wasn't spent gives the same, with that much more left.
 pub fn more_fuel_gives_the_same()
     ensures { Everywhere MoreIsLeft }
 {}
 
-/// What fuel is left wasn't needed: the same comes with less by that much.
+/// The fuel that an evaluation leaves wasn't needed: it gives the same with less by that much.
 pub fn what_is_left_was_not_needed()
     ensures { Everywhere LeftIsNotNeeded }
 {}
 
-/// The fault is `FuelSpent` exactly where more than the given fuel is needed. No other fault takes its name:
-/// where an evaluation is `FuelSpent` with each amount of fuel, it goes on without end.
+/// An evaluation is `FuelSpent` if it needs more fuel than it has, and only then, unless with some
+/// amount of fuel it would get stuck.
 pub fn fuel_is_spent_where_more_is_needed()
     ensures { Everywhere SpentWhereMoreIsNeeded }
 {}
 
-/// No more fuel is left than was given, also at a fault.
+/// An evaluation leaves no more fuel than it was given, also at a fault.
 pub fn fuel_only_falls()
     ensures { Everywhere FuelFalls }
 {}
 
-/// The meaning of an expression is given by those of its parts, and every depth that is no less than the
-/// fuel gives it.
+/// What an expression means is determined by what its parts mean, and the depth that bounds the
+/// definition doesn't show if it is no less than the fuel.
 pub fn depth_does_not_show()
     ensures parts { Unrolls }
     ensures depth { AnyDepth }
@@ -44,7 +44,7 @@ pub fn old_cells_are_kept()
     ensures libraries { LibrariesEndLater }
 {}
 
-/// The op that is called on the elements of its last argument is the one of the name `apply`.
+/// The primitive that is called on the elements of its last argument is the one named `apply`.
 pub fn apply_is_by_name()
     ensures { op_named (codes "apply") ≡ Some names.APPLY }
 {}

@@ -44,8 +44,8 @@ pub fn marked_numbers_go_wrong_in_digits()
     ensures { MarkedFaultsAre }
 {}
 
-/// From an offset on the lexer refuses exactly what goes wrong in a gap, or behind one in a token, and
-/// nothing goes wrong in two ways.
+/// From an offset on the lexer refuses exactly the bytes that go wrong in a gap, or after one in a
+/// token, and no bytes go wrong in two ways.
 pub fn bytes_go_wrong_in_gaps_and_tokens()
     ensures faults { FaultsAre }
     ensures one { OneFault }

@@ -33,7 +33,7 @@ pub fn leading(alloc: Global, items: &[Datum]) -> Result<Items<Symbol>, Memory>
     Ok(parts)
 }
 
-/// What stands behind them.
+/// What comes after the identifiers at the front of a list.
 pub fn behind(items: &[Datum]) -> &[Datum]
     ensures { result.now ≡ behind items.now }
 {

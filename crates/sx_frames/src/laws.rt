@@ -9,25 +9,25 @@ ghost use Rattle.sx_frames.specs.Listed.{rows_from, rows_in, AreOrdered};
 ghost use Rattle.sx_frames.specs.Rows.{Row};
 ghost use Rattle.sx_frames.specs.Scope.{Scope, same_frame, rows_at, with_row, row_in, adopted};
 
-/// To bind adds the row at the end of its frame's, and changes no other frame.
+/// To bind adds the row at the end of its frame, and changes no other frame.
 pub fn a_bind_is_a_row_more()
     ensures own { (fs : Scope) (f : FrameNo) (r : Row) → rows_at f (with_row fs f r) ≡ rows_at f fs ++ r ∷ [] }
     ensures others { (fs : Scope) (f g : FrameNo) (r : Row) → g ≢ f → rows_at g (with_row fs f r) ≡ rows_at g fs }
 {}
 
-/// To adopt adds to each frame the rows that name it, in their order.
+/// To adopt rows adds to each frame the rows that name it, in their order.
 pub fn adopted_rows_keep_their_order()
     ensures { (fs : Scope) (f : FrameNo) (rs : List FrameRow) →
         rows_at f (adopted fs rs) ≡ rows_at f fs ++ map row_in (filter (λ r. same_frame f r.frame) rs) }
 {}
 
-/// To give the frames of a library, of which none is there, is to adopt its rows.
+/// To put in the frames of a library, none of which is there, is to adopt its rows one after another.
 pub fn given_frames_are_adopted()
     ensures { (fs : Scope) (rs : List FrameRow) → are_apart (adopted [] rs) fs ≡ true → fs ++ adopted [] rs ≡ adopted fs rs }
 {}
 
-/// The rows of a library are those of its frames, each frame's in the order of binding, and the
-/// frames in order. Both together say what the list is.
+/// The rows of a library are those of its frames, frame after frame, each frame's in the order of
+/// binding, and no others.
 pub fn rows_are_ordered_and_complete()
     ensures own { (fs : Scope) (f : FrameNo) → filter (λ r. same_frame f r.frame) (rows_in f.0.library fs) ≡ rows_from f (rows_at f fs) }
     ensures ordered { (l : LibName) (fs : Scope) → AreOrdered l 0 (rows_in l fs) }

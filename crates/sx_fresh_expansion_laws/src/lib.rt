@@ -30,37 +30,40 @@ ghost use Rattle.sx_fresh_expansion_laws.specs.Made.{StampsAreMade};
 ghost use Rattle.sx_fresh_expansion_laws.specs.RecordMarks.{RecordsHaveOwnMarks, StartsAreKnown};
 ghost use Rattle.sx_fresh_expansion_laws.specs.Uses.{UsesTakeNewMarks};
 
-/// The mark that a use of a keyword or of a record form takes is new, in the form and in all that is kept.
+/// The mark that a use of a macro or of a record form takes is on no identifier of the form, and in
+/// nothing that the state keeps.
 pub fn uses_take_new_marks()
     ensures { UsesTakeNewMarks }
 {}
 
-/// An expansion begins with known marks and frames.
+/// In the state in which the expansion of a library begins all marks and frames are known.
 pub fn starts_are_known()
     ensures { StartsAreKnown }
 {}
 
-/// Expansion keeps that all marks and frames are known, in forms round others and however deep these nest.
+/// Expansion keeps that all marks and frames in its state are known, however deep forms nest.
 pub fn marks_stay_known()
     ensures { MarksStayKnown }
 {}
 
-/// No leaf has a stamp of a frame that is made later.
+/// No identifier of an expansion has a stamp of a frame that is made later.
 pub fn stamps_are_made()
     ensures { StampsAreMade }
 {}
 
-/// Each leaf that expansion comes to is what it was made as, then entered, left and stamped with what was there before.
+/// Each identifier that an expansion comes to is what it was read or made as, then entered, left and
+/// stamped with marks and frames that were there.
 pub fn histories_stay()
     ensures { HistoriesStay }
 {}
 
-/// Each leaf that expansion comes to is what it was made as, then stamped and introduced by uses, by none of them twice.
+/// Each identifier that an expansion comes to is what it was read or made as, then stamped with frames
+/// and introduced by uses, by none of them twice.
 pub fn events_stay()
     ensures { EventsStay }
 {}
 
-/// The marks and frames in a record are of its library's names, or of those of libraries before it.
+/// The marks and frames in a record are named by its own library, or by libraries before it.
 pub fn records_have_own_marks()
     ensures { RecordsHaveOwnMarks }
 {}

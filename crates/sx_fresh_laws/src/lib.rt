@@ -24,18 +24,20 @@
 ghost use Rattle.sx_fresh_laws.specs.Below.{MarksStayBefore, TheNextIsNew};
 ghost use Rattle.sx_fresh_laws.specs.Coming.{LeavesWereThere};
 
-/// Each leaf of what an evaluation gives was in its code, its cells, its arguments or the variables of libraries, or
-/// is a temporary of a name that it took.
+/// The marks and stamps of each identifier in what an evaluation gives are those of one in its code,
+/// its cells, its arguments or the variables of libraries, or of a temporary that it made; its symbol
+/// may be new.
 pub fn leaves_were_there()
     ensures { LeavesWereThere }
 {}
 
-/// Where all marks were taken before the next name, they are so after an evaluation.
+/// If all marks were taken before the next name of a library, so are those of the value and the cells
+/// after an evaluation in that library, and no name that was taken is free again.
 pub fn marks_stay_before()
     ensures { MarksStayBefore }
 {}
 
-/// The mark of the next name is new then.
+/// The mark of a library's next name is on no tree and no row whose marks were taken before.
 pub fn the_next_is_new()
     ensures { TheNextIsNew }
 {}

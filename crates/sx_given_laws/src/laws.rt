@@ -15,27 +15,29 @@ ghost use Rattle.sx_given_laws.specs.Given.{built_in, Maps, MapsBy, Mapped, Visi
 ghost use Rattle.sx_given_laws.specs.InTurn.{AllGive, AllEnd, AllGiveBy, SearchGives, SearchEnds, chosen, others};
 ghost use Rattle.sx_given_laws.specs.Texts.{HasTexts, Includes, written_table};
 
-/// The numbers of the procedures of which the laws speak, by their report names.
+/// The procedures of the laws of this crate are those named `map`, `for-each`, `filter`, `remp`,
+/// `find`, `memp`, `for-all`, `exists`, `fold-left` and `fold-right`.
 pub fn numbers_are_by_name()
     ensures { map op_named (codes "map" ∷ codes "for-each" ∷ codes "filter" ∷ codes "remp" ∷ codes "find" ∷ codes "memp" ∷ codes "for-all" ∷ codes "exists" ∷ codes "fold-left" ∷ codes "fold-right" ∷ []) ≡
         Some names.MAP ∷ Some names.FOR_EACH ∷ Some names.FILTER ∷ Some names.REMP ∷ Some names.FIND ∷ Some names.MEMP ∷ Some names.FOR_ALL ∷ Some names.EXISTS ∷ Some names.FOLD_LEFT ∷ Some names.FOLD_RIGHT ∷ [] }
 {}
 
-/// A call that gives a value with some fuel gives it with all that is more, and no other value and no other state.
+/// A call that gives a value with some fuel gives that value and that state with any more.
 pub fn some_fuel_is_enough()
     ensures enough { (w : PlainSetting) (f : Value) (args : List Value) (s : State) (n m : ℕ) (v : Value) (t : State) → call_of w f args s n ≡ done v t m → Calls w f args s v t }
     ensures one { (w : PlainSetting) (f : Value) (args : List Value) (s : State) (v x : Value) (t u : State) → Calls w f args s v t → Calls w f args s x u → (v ≡ x) × (t ≡ u) }
 {}
 
-/// The codes of the texts alone have the texts, and codes of other numbers that come behind them leave them there.
+/// The codes of the texts in Scheme contain these texts, and codes of other numbers that come after
+/// them leave them there.
 pub fn texts_stay()
     ensures begin { Includes written_table written_table }
     ensures stay { (cs : Codes) (c : PlainCode) → code_at written_table c.number ≡ None → Includes cs written_table → Includes (with_code c cs) written_table }
 {}
 
-/// `map` calls its procedure on each element of a list, from the first to the last, and gives the list of the answers
-/// (R6RS 11.9). And whenever it gives a value it has done so. Where each answer is what a function says, it is the list of what that says. Where a call faults, it is the last
-/// that is made, and its fault is that of `map`.
+/// `map` calls its procedure on each element of a list, from the first to the last, and gives the list
+/// of the answers; whenever it gives a value it has done so, and where a call faults, that call is the
+/// last and its fault that of `map` (R6RS 11.9).
 pub fn map_gives_the_answers()
     ensures answers { (w : PlainSetting) (f l : Value) (xs : List Value) (s : State) → HasTexts w → IsList s.cells xs l → AllGive w f xs s → Maps w (built_in names.MAP) (f ∷ l ∷ []) f xs s }
     ensures only { (w : PlainSetting) (f l : Value) (xs : List Value) (s t : State) (v : Value) → HasTexts w → IsList s.cells xs l → Calls w (built_in names.MAP) (f ∷ l ∷ []) s v t → Mapped w f xs s v t }
@@ -45,9 +47,9 @@ pub fn map_gives_the_answers()
         Maps w (built_in names.MAP) (f ∷ l ∷ []) f xs s ⊎ Faults w (built_in names.MAP) (f ∷ l ∷ []) f xs s }
 {}
 
-/// `for-each` calls its procedure on each element of a list, from the first to the last, and gives nothing of it
-/// (R6RS 11.9). And whenever it gives a value it has done so. Where a call faults, it is the last that is made, and its fault
-/// is that of `for-each`.
+/// `for-each` calls its procedure on each element of a list, from the first to the last; whenever it
+/// gives a value it has done so, and where a call faults, that call is the last and its fault that of
+/// `for-each` (R6RS 11.9).
 pub fn for_each_calls_in_order()
     ensures calls { (w : PlainSetting) (f l : Value) (xs : List Value) (s : State) → HasTexts w → IsList s.cells xs l → AllGive w f xs s →
         Visits w (built_in names.FOR_EACH) (f ∷ l ∷ []) f xs s value.Unspecified }
@@ -56,9 +58,9 @@ pub fn for_each_calls_in_order()
         Visits w (built_in names.FOR_EACH) (f ∷ l ∷ []) f xs s value.Unspecified ⊎ Faults w (built_in names.FOR_EACH) (f ∷ l ∷ []) f xs s }
 {}
 
-/// `filter` gives the list of the elements whose answer is not `#f`, and `remp` of those whose answer is `#f`, in their
-/// order; each is asked once, from the first to the last (R6RS libraries 3). And whenever one gives a value it
-/// has done so. Where a call faults, it is the last that is made, and its fault is given.
+/// `filter` gives the list of the elements whose answer is not `#f`, `remp` of those whose answer is,
+/// in order; each is asked once, from the first on, and where a call faults, that call is the last and
+/// its fault is given (R6RS libraries 3).
 pub fn filter_keeps_and_remp_leaves_out()
     ensures filter { (w : PlainSetting) (f l : Value) (xs : List Value) (s : State) → HasTexts w → IsList s.cells xs l → AllGive w f xs s → Filters w (built_in names.FILTER) (f ∷ l ∷ []) f chosen xs s }
     ensures filter_only { (w : PlainSetting) (f l : Value) (xs : List Value) (s t : State) (v : Value) → HasTexts w → IsList s.cells xs l → Calls w (built_in names.FILTER) (f ∷ l ∷ []) s v t → Filtered w f chosen xs s v t }
@@ -70,9 +72,9 @@ pub fn filter_keeps_and_remp_leaves_out()
         Filters w (built_in names.REMP) (f ∷ l ∷ []) f others xs s ⊎ Faults w (built_in names.REMP) (f ∷ l ∷ []) f xs s }
 {}
 
-/// `find` gives the first element whose answer is not `#f`, and `memp` what is left of the list itself from there on; both
-/// give `#f` where there is none, and ask no element behind the first (R6RS libraries 3). And whenever one gives a value it
-/// has done so. Where a call faults before an answer isn't `#f`, it is the last that is made, and its fault is given.
+/// `find` gives the first element whose answer is not `#f`, and `memp` what is left of the list from
+/// there on; both give `#f` if there is none, ask no later element, and give the fault of a call that
+/// faults before (R6RS libraries 3).
 pub fn find_and_memp_stop_at_the_first()
     ensures find { (w : PlainSetting) (f l : Value) (xs : List Value) (s : State) → HasTexts w → IsList s.cells xs l → SearchGives w f xs s → Finds w (built_in names.FIND) (f ∷ l ∷ []) f xs s }
     ensures memp { (w : PlainSetting) (f l : Value) (xs : List Value) (s : State) → HasTexts w → IsList s.cells xs l → SearchGives w f xs s → FindsTail w (built_in names.MEMP) (f ∷ l ∷ []) f l xs s }

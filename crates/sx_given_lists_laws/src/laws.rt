@@ -16,7 +16,8 @@ ghost use Rattle.sx_given_lists_laws.specs.Done.{MapDid, VisitDid};
 ghost use Rattle.sx_given_lists_laws.specs.RowCalls.{AllEnd, AllGive, ForAll, ForAllEnds, ForAllGives, Exists, ExistsEnds, ExistsGives, FoldLeft, FoldLeftEnds, FoldLeftGives, FoldRight, FoldRightEnds, FoldRightGives};
 ghost use Rattle.sx_given_lists_laws.specs.Rows.{InRows, AllLong, rows_of};
 
-/// Lists of one length stand in rows: the first row is their first elements, and so on. The rows of one list are its elements.
+/// Lists of one length form rows, the first of their first elements, and so on; the rows of one list
+/// are its elements.
 pub fn lists_stand_in_rows()
     ensures all { (cells : List Cell) (n : ℕ) (columns : List (List Value)) (ls : List Value) → AreLists cells columns ls → AllLong n columns → InRows cells (rows_of n columns) ls }
     ensures one { (cells : List Cell) (xs : List Value) (l : Value) → IsList cells xs l → InRows cells (map (λ x. x ∷ []) xs) (l ∷ []) }
@@ -88,9 +89,9 @@ pub fn fold_right_goes_from_the_right()
         CallEnds w (built_in names.FOLD_RIGHT) (f ∷ z ∷ l ∷ more) s r t → FoldRight w f z rows s r t }
 {}
 
-/// Of one list `for-all` gives `#f` at the first answer that is `#f`, else the last answer, and `#t` of the empty list; `exists` gives
-/// the first answer that is not `#f`, else the last, and `#f` of the empty list (R6RS libraries 3). And whenever one gives a value
-/// it has done so.
+/// On one list `for-all` gives `#f` at the first answer that is `#f`, else the last answer, and `#t`
+/// for `()`; `exists` gives the first answer that is not `#f`, else the last, and `#f` for `()` (R6RS
+/// libraries 3).
 pub fn one_list_is_asked_in_order()
     ensures all { (w : PlainSetting) (f l : Value) (xs : List Value) (s : State) → HasTexts w → IsList s.cells xs l → given.ForAllGives w f xs s → ForAlls w (built_in names.FOR_ALL) (f ∷ l ∷ []) f xs s }
     ensures all_only { (w : PlainSetting) (f l : Value) (xs : List Value) (s t : State) (v : Value) → HasTexts w → IsList s.cells xs l → Calls w (built_in names.FOR_ALL) (f ∷ l ∷ []) s v t → given.ForAll w f xs s v t }
@@ -98,9 +99,9 @@ pub fn one_list_is_asked_in_order()
     ensures exists_only { (w : PlainSetting) (f l : Value) (xs : List Value) (s t : State) (v : Value) → HasTexts w → IsList s.cells xs l → Calls w (built_in names.EXISTS) (f ∷ l ∷ []) s v t → given.Exists w f xs s v t }
 {}
 
-/// Of one list `fold-left` calls its procedure on a value and the first element, then on what that gave and the second, and so on;
-/// `fold-right` on the last element and a value, then on the element before and what that gave, and so on to the first. Each gives what
-/// the last call gave (R6RS libraries 3). And whenever one gives a value it has done so.
+/// On one list `fold-left` calls its procedure on a value and the first element, then on the answer and
+/// the second, and so on; `fold-right` on the last element and a value, then on the one before and the
+/// answer, and so on; each gives the last answer (R6RS libraries 3).
 pub fn one_list_is_folded()
     ensures left { (w : PlainSetting) (f z l : Value) (xs : List Value) (s : State) → HasTexts w → IsList s.cells xs l → given.FoldLeftGives w f z xs s → FoldsLeft w (built_in names.FOLD_LEFT) (f ∷ z ∷ l ∷ []) f z xs s }
     ensures left_only { (w : PlainSetting) (f z l : Value) (xs : List Value) (s t : State) (v : Value) → HasTexts w → IsList s.cells xs l → Calls w (built_in names.FOLD_LEFT) (f ∷ z ∷ l ∷ []) s v t → given.FoldLeft w f z xs s v t }

@@ -30,7 +30,8 @@ use sx_fault_laws::{bytes_go_wrong_in_gaps_and_tokens, starts_are_marks_and_line
 use sx_lexer::laws::lexemes_are_tokens_behind_gaps;
 use sx_reader::read::read_deep;
 
-/// What `sx_reader` calls spelt is exactly what this grammar relates to the bytes.
+/// What `sx_reader` calls spelled by the lexemes of a source is exactly what the relation `Reads` says
+/// of its bytes.
 pub fn spellings_are_read_by_the_grammar()
     ensures { SpellingsAre }
 {
@@ -38,7 +39,8 @@ pub fn spellings_are_read_by_the_grammar()
     starts_are_marks_and_lines();
 }
 
-/// What `sx_reader` calls the first fault is exactly what these cases relate to the bytes.
+/// What `sx_reader` calls the first fault of a source is exactly what the relation `Fails` says of its
+/// bytes.
 pub fn failures_are_told_by_bytes()
     ensures { FailuresAre }
 {

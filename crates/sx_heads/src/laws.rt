@@ -15,12 +15,12 @@ ghost use Rattle.sx_heads.specs.KeptLaws.{with_binder, AreNamed, AreOthers};
 ghost use Rattle.sx_standing.specs.State.{State};
 ghost use Rattle.sx_core.specs.declared.binding.Binding.{Binding};
 
-/// Of the heads kept, those of a symbol are all that have it, in the order of keeping.
+/// Of the heads that a body keeps, those of a symbol are all that have it, in the order of keeping.
 pub fn a_symbol_has_all_its_heads()
     ensures { (x : List ℕ) (ks : List KeptHead) → heads_of x (kept_all [] ks) ≡ filter (λ k. pointwise nat_eq x k.symbol) ks }
 {}
 
-/// A binder changes what no identifier of another symbol stands for.
+/// A binder affects only identifiers of its own symbol.
 pub fn a_bind_changes_its_symbol_alone()
     ensures { (fs : Scope) (f : FrameNo) (r : Row) (t : Tree) → pointwise nat_eq (symbol_of t) r.symbol ≡ false → stands (with_row fs f r) t ≡ stands fs t }
 {}

@@ -28,74 +28,87 @@ ghost use Rattle.sx_hygiene_laws.specs.Examples.{MyOr};
 ghost use Rattle.sx_hygiene_laws.specs.History.{BySameUses};
 ghost use Rattle.sx_hygiene_laws.specs.Bound.{BindsWhereStamped};
 
-/// A leaf stands for the label of the binder that captures it, which has just the marks that the leaf
-/// had at a stamp.
+/// An identifier stands for the label of the binder that captures it, which has the identifier's symbol
+/// and just the marks that the identifier had at one of its stamps.
 pub fn binders_have_the_marks_of_a_stamp()
     ensures { WhatCaptures }
 {}
 
-/// Only the stamps of frames change what captures a leaf, and each asks its frame for the marks of now.
+/// To enter with a mark, or to leave without a frame, doesn't change what captures an identifier; to
+/// stamp a frame asks that frame for the marks that the identifier has then.
 pub fn only_frames_bind()
     ensures { OnlyFramesBind }
 {}
 
-/// A bind changes only what has a stamp of its frame at its marks, and its symbol.
+/// A bind changes what captures an identifier only if this has the binder's symbol and a stamp of the
+/// binder's frame with just the binder's marks; there the binder captures it, unless that stamp or a
+/// newer one finds another.
 pub fn a_bind_needs_a_stamp()
     ensures { BindsWhereStamped }
 {}
 
-/// What came in comes out as it was, at its place.
+/// A part of a macro's input that is in its output is there as it was in the form, once the mark has
+/// left.
 pub fn what_came_in_comes_out()
     ensures { WhatCameInComesOut }
 {}
 
-/// An introduced reference is captured by a binder that the same use introduced, or by what captured it
-/// in the transformer.
+/// An identifier that a use introduced is captured by a binder with the mark of that use, or by what
+/// captured it before it was left with the mark, in the same frames.
 pub fn introduced_references_are_kept()
     ensures { IntroducedReferences }
 {}
 
-/// An introduced binder captures no leaf that the same use didn't introduce.
+/// A binder with the mark of a use captures no identifier that the use hasn't touched, and one more
+/// such binder changes nothing of what captures it.
 pub fn introduced_binders_capture_no_others()
     ensures { IntroducedBinders }
 {}
 
-/// The rows that have the mark of a use are those of the binders that it introduced.
+/// The rows that have the mark of a use are those of identifiers that the use introduced, and before
+/// the use there are none.
 pub fn introduced_binders_are_told()
     ensures { WhichAreIntroduced }
 {}
 
-/// But for the binders that a use introduced, all leaves stand for what they stood for.
+/// Without the binders that a use introduced, what it introduced stands for what it stood for before
+/// the use, and untouched identifiers for what they stand for with them.
 pub fn nothing_else_changes()
     ensures { TakenOut }
 {}
 
-/// What transformers can make of their input and their own constants is an output.
+/// A macro's output may be its input entered with the mark, constants and temporaries that have nothing
+/// to do with the use, pairs and parts of outputs, and data with the context of an identifier of an
+/// output.
 pub fn outputs_are_told()
     ensures { WhatIsAnOutput }
 {}
 
-/// Each leaf of a use's output is hygienic, and no binder of the use captures a leaf round it.
+/// Each identifier of an output came in and comes out as it was, or is captured by a binder of the use
+/// or by what captured it before; and no binder of the use captures an identifier around it.
 pub fn a_use_is_hygienic()
     ensures { AWholeUse }
 {}
 
-/// What one use introduced is captured by no binder that another introduced.
+/// An identifier that one use introduced is captured by no binder that another use introduced.
 pub fn uses_stay_apart()
     ensures { TwoUses }
 {}
 
-/// In a whole expansion a binder captures a leaf only where the same uses had introduced both.
+/// In a history of uses and frames a binder captures an identifier only if, at some moment, just the
+/// uses that had introduced the binder had introduced the identifier.
 pub fn the_same_uses_introduced_both()
     ensures { BySameUses }
 {}
 
-/// A mark that is not among those that are known so far is new.
+/// A mark that isn't among the known ones is on no tree and no row of known marks, and changes with
+/// known marks keep it so.
 pub fn unknown_marks_are_new()
     ensures { NewMarks }
 {}
 
-/// The example above, and what would become of it without marks.
+/// In the example `my-or` the `t` of the use stays that of the program, the template's is that of the
+/// `let`, and without marks the `let` would capture the first.
 pub fn my_or_is_told()
     ensures { MyOr }
 {}

@@ -18,12 +18,13 @@
 
 ghost use Rattle.sx_identifier_laws.specs.Identifiers.{IdentifiersStay, ReferencesStay};
 
-/// What an identifier stands for stays while a form is expanded.
+/// What an identifier of an expansion stands for doesn't change while a form is expanded.
 pub fn identifiers_stay()
     ensures { IdentifiersStay }
 {}
 
-/// And so does what a reference names.
+/// An identifier that is expanded after a form becomes a reference to what it stood for before that
+/// form, or is a use of a macro.
 pub fn references_stay()
     ensures { ReferencesStay }
 {}

@@ -23,8 +23,8 @@ ghost use Rattle.sx_import.specs.Table.{value_of};
 ghost use Rattle.sx_import.specs.declared.set.NameAt.{NameAt};
 ghost use Rattle.sx_import.specs.declared.set.Renaming.{Renaming};
 
-/// `only` and `except` select names, `prefix` moves each name, and after a `rename` each name of the set
-/// stands for its label under its new name.
+/// Of the names of an import set `only` selects those that it lists and `except` the others; `prefix`
+/// moves each to its new name, and so does `rename` (R6RS 7.1).
 pub fn words_select_and_move()
     ensures only { (ids : List NameAt) (names : Labelled) (n : List ℕ) → value_of n (only ids names) ≡ (if is_among ids n then value_of n names else None) }
     ensures except { (ids : List NameAt) (names : Labelled) (n : List ℕ) → value_of n (except ids names) ≡ (if is_among ids n then None else value_of n names) }
@@ -32,8 +32,8 @@ pub fn words_select_and_move()
     ensures rename { (span : Span) (rs : List Renaming) (names r : Labelled) → joined span [] (renamed rs names) ≡ Ok r → Has r (renamed rs names) }
 {}
 
-/// Joined names are the union of both maps, in which no name stands twice and none is lost. It is refused
-/// exactly where a name stood before for another label.
+/// Joined names are the union of two sets, in which no name comes twice and none is lost; joining is
+/// refused exactly if a name has another label in each.
 pub fn joined_names_are_a_union()
     ensures union { (span : Span) (all more r : Labelled) → joined span all more ≡ Ok r → (n : List ℕ) → value_of n r ≡ or_else (value_of n all) (value_of n more) }
     ensures has { (span : Span) (all more r : Labelled) → joined span all more ≡ Ok r → Has r more }
@@ -41,14 +41,14 @@ pub fn joined_names_are_a_union()
     ensures conflict { (span : Span) (all more : Labelled) (f : Fault) → joined span all more ≡ Err f → Conflicts span all more f }
 {}
 
-/// After a `prefix` each name has it, in its place and with its label.
+/// After a `prefix` each name of an import set has it, in its place and with its label.
 pub fn prefixes_move_each_name()
     ensures in_place { PrefixMovesEachInPlace }
     ensures none_without { PrefixLeavesNoneWithout }
     ensures once { PrefixKeepsNamesOnce }
 {}
 
-/// A `rename` keeps labels and order, and two names become one only where they stand for one label.
+/// A `rename` keeps labels and order, and two names become one only if they have one label.
 pub fn renames_keep_names_apart()
     ensures once { RenameGivesEachOnce }
     ensures labels { RenameKeepsLabels }
@@ -57,13 +57,13 @@ pub fn renames_keep_names_apart()
     ensures one_to_one { RenameIsOneToOne }
 {}
 
-/// What an import set gives has each name once.
+/// An import set gives each name once.
 pub fn imports_give_each_name_once()
     ensures { ImportsGiveEachOnce }
 {}
 
-/// A version reference takes what its parts tell: `and` fits where each part does, `or` where one does, `not`
-/// where its part doesn't, and a list of parts where each fits the number at its place.
+/// A version reference fits by its parts: `and` if each fits, `or` if one does, `not` if its part
+/// doesn't, and a list if each part fits the number at its place (R6RS 7.1).
 pub fn versions_fit_by_parts()
     ensures any_version { VersionsMakeNoReference }
     ensures all { AndFitsWhereAllDo }
@@ -72,7 +72,8 @@ pub fn versions_fit_by_parts()
     ensures places { ListFitsByPlaces }
 {}
 
-/// The same of one number of a version: a number takes itself, `>=` what isn't less, `<=` what isn't more.
+/// A reference to one number of a version fits by its parts: a number fits itself, `(>= n)` fits what
+/// isn't less, `(<= n)` what isn't more, and `and`, `or` and `not` go by their parts (R6RS 7.1).
 pub fn numbers_fit_by_parts()
     ensures any_number { NumbersMakeNoPart }
     ensures itself { NumberFitsItself }

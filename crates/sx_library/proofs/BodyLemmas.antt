@@ -1,4 +1,4 @@
--- The record that a body gives is that of the form and the data from which the body was read.
+-- The record and the links that a body gives are those of the form and the data from which the body was read.
 use Rattle.std.proofs.Common.{◌≡◌, ℕ, List, [], ◌∷◌, Bool, true, map, Result, Ok, Err, refl, sym, ap, subst, ◌∙◌}
 use Rattle.sx_base.specs.Datum.{PlainDatum}
 use Rattle.sx_base.specs.Gives.{Stops, ◌>>=◌}
@@ -7,12 +7,12 @@ use Rattle.sx_base.specs.declared.fault.Stop.{Stop}
 use Rattle.sx_base.specs.declared.fault.Stop.TheVariants as stops
 use Rattle.sx_core.specs.declared.record.LibRecord.{LibRecord}
 use Rattle.sx_eval.specs.Codes.{Codes}
-use Rattle.sx_expand.specs.Expanding.{library_record}
+use Rattle.sx_expand.specs.Expanding.{library_linked}
 use Rattle.sx_forms.specs.declared.form.LibraryForm.{LibraryForm}
 use Rattle.sx_import.specs.Names.{Labelled}
 use Rattle.sx_tree.specs.Tree.{Tree}
 use Rattle.sx_library.specs.Imports.{form_names}
-use Rattle.sx_library.specs.Library.{trees_at, export_tree, expander_of, body_of, expand_body, expand_library}
+use Rattle.sx_library.specs.Library.{trees_at, export_tree, expander_of, body_of, expand_body, link_library}
 use Rattle.sx_library.specs.Records.{needed_records}
 use Rattle.sx_library.specs.declared.library.Body.{Body}
 
@@ -29,30 +29,30 @@ names_then (Ok names) trees g = bind_twice trees (λ forms. Ok (body_with names 
 names_then (Err e) trees g = refl
 
 module _ (prelude : Result Codes Fault) (records : List LibRecord) (path : List ℕ) (form : LibraryForm) (body : List PlainDatum) where
-  by_body : (body_of records form body >>= expand_body prelude records path form) ≡ expand_library prelude records path form body
-  unfolding body_of expand_body expand_library
+  by_body : (body_of records form body >>= expand_body prelude records path form) ≡ link_library prelude records path form body
+  unfolding body_of expand_body link_library
   by_body =
       names_then (form_names records form.imports) (trees_at form.name_span [] body)
-      (λ b. expander_of prelude form.name path records b.names >>= (λ e. library_record e records form.version form.name_span (map export_tree form.exports) b.forms))
+      (λ b. expander_of prelude form.name path records b.names >>= (λ e. library_linked e records form.version form.name_span (map export_tree form.exports) b.forms))
 
-  pub library_given : (read : Body) → body_of records form body ≡ Ok read → expand_body prelude records path form read ≡ expand_library prelude records path form body
+  pub library_given : (read : Body) → body_of records form body ≡ Ok read → expand_body prelude records path form read ≡ link_library prelude records path form body
   library_given read h = sym (ap (λ r. r >>= expand_body prelude records path form) h) ∙ by_body
 
-  pub library_stops : (stop : Stop) → Stops stop (body_of records form body) → Stops stop (expand_library prelude records path form body)
+  pub library_stops : (stop : Stop) → Stops stop (body_of records form body) → Stops stop (link_library prelude records path form body)
   library_stops stops.Memory h = tt
   library_stops (stops.Fault f) h = sym by_body ∙ ap (λ r. r >>= expand_body prelude records path form) h
 
 -- the same behind the records that a file needs
 module _ (prelude : Result Codes Fault) (records : List LibRecord) (path : List ℕ) (form : LibraryForm) (needs : List Bool) (body other : List PlainDatum) where
   pub read_given : (marks again : List Bool) (read : Body) → marks ≡ true ∷ needs → again ≡ true ∷ needs → other ≡ body → body_of (needed_records records marks) form other ≡ Ok read
-      → expand_body prelude (needed_records records again) path form read ≡ expand_library prelude (needed_records records (true ∷ needs)) path form body
+      → expand_body prelude (needed_records records again) path form read ≡ link_library prelude (needed_records records (true ∷ needs)) path form body
   read_given marks again read is same e h =
       ap (λ m. expand_body prelude (needed_records records m) path form read) same
       ∙ library_given prelude (needed_records records (true ∷ needs)) path form body read
       (ap (λ m. body_of (needed_records records m) form body) (sym is) ∙ ap (λ b. body_of (needed_records records marks) form b) (sym e) ∙ h)
 
   pub read_stops : (marks : List Bool) (stop : Stop) → marks ≡ true ∷ needs → other ≡ body → Stops stop (body_of (needed_records records marks) form other)
-      → Stops stop (expand_library prelude (needed_records records (true ∷ needs)) path form body)
+      → Stops stop (link_library prelude (needed_records records (true ∷ needs)) path form body)
   read_stops marks stop is e h =
       library_stops prelude (needed_records records (true ∷ needs)) path form body stop
       (subst (λ b. Stops stop (body_of (needed_records records (true ∷ needs)) form b)) e (subst (λ m. Stops stop (body_of (needed_records records m) form other)) is h))

@@ -15,7 +15,8 @@ use Rattle.sx_import.specs.declared.set.NameAt.{NameAt}
 use Rattle.sx_forms.specs.declared.form.LibraryForm.{LibraryForm}
 use Rattle.sx_eval.specs.Codes.{Codes}
 use Rattle.sx_base.specs.declared.library.LibName.{LibName}
-use Rattle.sx_expand.specs.Expanding.{Expanding, ready, library_record}
+use Rattle.sx_expand.specs.Expanding.{Expanding, ready, library_record, library_linked}
+use Rattle.sx_expand.specs.declared.top.Linked.{Linked}
 use Rattle.sx_library.specs.Imports.{form_names}
 use Rattle.sx_library.specs.declared.library.Body.{Body}
 
@@ -56,11 +57,11 @@ body_of records form body =
     form_names records form.imports >>= (λ names.
     trees_at form.name_span [] body >>= (λ forms. Ok (record { names = names; forms = forms })))
 
--- what procedures mean that are texts, and then the body, after these records
-unfoldable pub expand_body : Result Codes Fault → List LibRecord → List ℕ → LibraryForm → Body → Result LibRecord Fault
+-- what procedures mean that are texts, and then the body, after these records: its record and its links
+unfoldable pub expand_body : Result Codes Fault → List LibRecord → List ℕ → LibraryForm → Body → Result Linked Fault
 expand_body prelude records path form body =
     expander_of prelude form.name path records body.names >>= (λ e.
-    library_record e records form.version form.name_span (map export_tree form.exports) body.forms)
+    library_linked e records form.version form.name_span (map export_tree form.exports) body.forms)
 
 -- the names that the form imports, the forms of its body, what procedures mean that are texts, and then the body, after these records
 unfoldable pub expand_library : Result Codes Fault → List LibRecord → List ℕ → LibraryForm → List PlainDatum → Result LibRecord Fault
@@ -69,3 +70,15 @@ expand_library prelude records path form body =
     trees_at form.name_span [] body >>= (λ forms.
     expander_of prelude form.name path records names >>= (λ e.
     library_record e records form.version form.name_span (map export_tree form.exports) forms)))
+
+-- the same, with the links of its expansion
+unfoldable pub link_library : Result Codes Fault → List LibRecord → List ℕ → LibraryForm → List PlainDatum → Result Linked Fault
+link_library prelude records path form body =
+    form_names records form.imports >>= (λ names.
+    trees_at form.name_span [] body >>= (λ forms.
+    expander_of prelude form.name path records names >>= (λ e.
+    library_linked e records form.version form.name_span (map export_tree form.exports) forms)))
+
+abbrev pub unlinked : Result Linked Fault → Result LibRecord Fault
+unlinked (Ok l) = Ok l.library
+unlinked (Err f) = Err f

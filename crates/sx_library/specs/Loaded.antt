@@ -3,17 +3,18 @@ use Rattle.std.specs.Prelude.{ℕ, List, [], ◌∷◌, ◌++◌, true, Result, 
 use Rattle.sx_base.specs.Datum.{PlainDatum}
 use Rattle.sx_base.specs.Gives.{◌>>=◌}
 use Rattle.sx_base.specs.declared.fault.Fault.{Fault}
+use Rattle.sx_core.specs.declared.link.Link.{Link}
 use Rattle.sx_core.specs.declared.record.LibRecord.{LibRecord}
 use Rattle.sx_core_text.specs.Whole.{core_text}
 use Rattle.sx_eval.specs.Codes.{Codes}
+use Rattle.sx_expand.specs.declared.top.Linked.{Linked}
 use Rattle.sx_forms.specs.Form.{library_body, program_body}
 use Rattle.sx_import.specs.Turns.{turns}
 use Rattle.sx_derived.specs.Derived.{derived_record}
 use Rattle.sx_library.specs.Records.{needed_records}
-use Rattle.sx_load.specs.Load.{Loads}
 use Rattle.sx_load.specs.declared.found.Found.{Found}
-use Rattle.sx_load.specs.declared.found.Loading.{Loading}
-use Rattle.sx_library.specs.Library.{expand_library}
+use Rattle.sx_library.specs.Library.{expand_library, link_library}
+use Rattle.sx_library.specs.declared.loaded.Gathered.{Gathered}
 use Rattle.sx_plan.specs.Planned.{plan_of}
 
 -- the record of a library or program behind the derived library and those that it needs
@@ -38,8 +39,28 @@ text_behind prelude rows found = all_records prelude rows >>= (λ records. expan
 unfoldable pub fault_behind : Result Codes Fault → List (List ℕ × Found) → Fault → Result (List ℕ) Fault
 fault_behind prelude rows fault = all_records prelude rows >>= (λ records. Err fault)
 
--- the core text of a program that was loaded, or the first fault: each library is expanded before any further file is
--- looked for
-abbrev pub text_of : Result Codes Fault → Loads (Found × Loading) → Result (List ℕ) Fault
-text_of prelude (Ok l) = text_behind prelude l.1.done l.0
-text_of prelude (Err e) = fault_behind prelude e.0.done e.1
+-- ---- links
+
+-- the record and the links of a library or program behind the derived library and those that it needs
+abbrev pub link_found : Result Codes Fault → List LibRecord → Found → List PlainDatum → Result Linked Fault
+link_found prelude records found body = link_library prelude (needed_records records (true ∷ found.needs)) found.opened.path found.opened.form body
+
+abbrev pub with_linked : Gathered → Linked → Gathered
+with_linked all l = record { records = all.records ++ l.library ∷ []; links = all.links ++ l.links }
+
+abbrev pub link_next : Result Codes Fault → Gathered → List ℕ × Found → Result Gathered Fault
+link_next prelude all row = link_found prelude all.records row.1 (library_body row.1.opened.«data») >>= (λ l. Ok (with_linked all l))
+
+-- the derived library, whose text is no file of the program: its links are dropped
+abbrev pub derived_linked : Result Codes Fault → Result Gathered Fault
+derived_linked prelude = derived_record prelude >>= (λ d. Ok (record { records = d ∷ []; links = [] }))
+
+-- the records of the derived library and of the others behind it, and the links of the others, in the order of loading
+abbrev pub all_linked : Result Codes Fault → List (List ℕ × Found) → Result Gathered Fault
+all_linked prelude rows = derived_linked prelude >>= (λ all. turns (link_next prelude) all rows)
+
+-- the links of the libraries that were loaded before a program, and then its own, or the first fault
+unfoldable pub links_behind : Result Codes Fault → List (List ℕ × Found) → Found → Result (List Link) Fault
+links_behind prelude rows found =
+    all_linked prelude rows >>= (λ all.
+    link_found prelude all.records found (program_body found.opened.«data») >>= (λ l. Ok (all.links ++ l.links)))

@@ -3,7 +3,7 @@
 ghost use Rattle.std.specs.Prelude.{◌≡◌, [], false, IfOk, Ok, map};
 ghost use Rattle.sx_base.specs.Gives.{Gives, StopsWith};
 ghost use Rattle.sx_eval.specs.Codes as table;
-ghost use Rattle.sx_expand.specs.Expanding.{ready, library_record};
+ghost use Rattle.sx_expand.specs.Expanding.{ready, library_linked};
 ghost use Rattle.sx_prelude.specs.Prelude.{kept};
 ghost use Rattle.sx_library.specs.Records.{needed_records};
 ghost use Rattle.sx_library.specs.Library.{at_datum, tree_at, trees_at, export_tree, expander_of, body_of, expand_body};
@@ -23,9 +23,9 @@ use sx_base::name::{CodeNo, Label};
 use sx_base::span::Span;
 use sx_base::symbol::Symbol;
 use sx_core::code::Code;
-use sx_core::record::LibRecord;
 use sx_derived::implementation::Implementation;
 use sx_expand::expander::{Expander, LibraryBody};
+use sx_expand::top::Linked;
 use sx_forms::form::LibraryForm;
 use sx_import::names::rows;
 use sx_import::set::NameAt;
@@ -79,8 +79,8 @@ pub fn body_of(
     Ok(Body { names, forms })
 }
 
-/// The record of a library or a program, from its form and its body, which goes on the way, behind the records that
-/// it needs.
+/// The record and the links of a library or a program, from its form and its body, which goes on the way, behind the
+/// records that it needs.
 #[tactic(auto, unfolding(crate::specs::Library::expand_body))]
 pub fn expand_body<N: Ledger, L: Ledger>(
     alloc: Global,
@@ -88,8 +88,8 @@ pub fn expand_body<N: Ledger, L: Ledger>(
     needed: &Needed,
     unexpanded: Unexpanded,
     counts: &mut Counts<N, L>,
-) -> Result<LibRecord, Stop>
-    ensures { Gives (λ r. r) result (expand_body (kept implementation.now.prelude) (needed_records needed.now.records.now needed.now.marks.now) unexpanded.path unexpanded.form unexpanded.body) }
+) -> Result<Linked, Stop>
+    ensures { Gives (λ l. l) result (expand_body (kept implementation.now.prelude) (needed_records needed.now.records.now needed.now.marks.now) unexpanded.path unexpanded.form unexpanded.body) }
 {
     let exports = export_trees(alloc, &unexpanded.form.exports)?;
     let version = share_version(alloc, unexpanded.form.version.as_slice())?;
@@ -102,7 +102,7 @@ pub fn expand_body<N: Ledger, L: Ledger>(
         exports: exports.as_slice(),
         version,
     };
-    record_behind(begun, needed, body, implementation.primitives, counts)
+    linked_behind(begun, needed, body, implementation.primitives, counts)
 }
 
 // An expander behind the records that are marked, which knows what the procedures mean that are texts.
@@ -128,23 +128,23 @@ fn expander_of(
     )
 }
 
-// The record of a library behind those that it needs.
-fn record_behind<N: Ledger, L: Ledger>(
+// The record and the links of a library behind the records that it needs.
+fn linked_behind<N: Ledger, L: Ledger>(
     begun: Expander,
     needed: &Needed,
     body: LibraryBody,
     prims: &PrimTable,
     counts: &mut Counts<N, L>,
-) -> Result<LibRecord, Stop>
+) -> Result<Linked, Stop>
     requires { begun.failed ≡ false }
-    ensures { Gives (λ r. r) result (library_record begun (needed_records needed.now.records.now needed.now.marks.now) body.entry.version body.entry.place.now body.entry.exports.now body.entry.forms) }
+    ensures { Gives (λ l. l) result (library_linked begun (needed_records needed.now.records.now needed.now.marks.now) body.entry.version body.entry.place.now body.entry.exports.now body.entry.forms) }
 {
     let earlier = Earlier {
         records: needed.records.ready().as_slice(),
         needs: needed.marks,
     };
     let means = Means { earlier, prims };
-    begun.top(body, &means, counts)
+    begun.top_linked(body, &means, counts)
 }
 
 // An expander behind the records that are marked.

@@ -1,12 +1,12 @@
-//! The records of loaded libraries, and the core text of a program.
+//! The records of loaded libraries, the core text of a program, and the links of all.
 
-ghost use Rattle.std.specs.Prelude.{◌≡◌, ◌∷◌, ◌++◌, [], true, IfOk, Ok, Err};
+ghost use Rattle.std.specs.Prelude.{◌≡◌, ◌∷◌, ◌++◌, [], true, IfOk, OnOk, Ok, Err};
 ghost use Rattle.std.specs.String.{string_bytes};
 ghost use Rattle.sx_base.specs.Gives.{Gives, Stops};
 ghost use Rattle.sx_prelude.specs.Prelude.{kept};
 ghost use Rattle.sx_import.specs.Turns.{turns};
 ghost use Rattle.sx_forms.specs.Form.{library_body, program_body};
-ghost use Rattle.sx_library.specs.Loaded.{expand_found, expand_next, all_records, planned_text, text_behind, fault_behind};
+ghost use Rattle.sx_library.specs.Loaded.{expand_found, expand_next, all_records, planned_text, text_behind, fault_behind, link_found, link_next, with_linked, derived_linked, all_linked, links_behind};
 
 use crate::library::{Unexpanded, body_of, expand_body};
 use crate::records::{Needed, Records};
@@ -16,10 +16,12 @@ use sx_base::fault::{Fault, Stop};
 use sx_base::items::Items;
 use sx_base::memory::Memory;
 use sx_base::symbol::Symbol;
+use sx_core::link::Link;
 use sx_core::record::LibRecord;
 use sx_core_text::whole::core_text;
 use sx_derived::derived::derived_record;
 use sx_derived::implementation::Implementation;
+use sx_expand::top::Linked;
 use sx_forms::form::{LibraryForm, library_body, program_body};
 use sx_import::table::Table;
 use sx_load::found::{Found, Opened};
@@ -57,13 +59,29 @@ fn expand_next<N: Ledger, L: Ledger>(
 ) -> Result<(), Stop>
     ensures { Gives (λ _. records.new) result (expand_next (kept implementation.now.prelude) records.old ([], found)) }
 {
-    let record = expand_one(alloc, implementation, records, found, counts)?;
+    let record = record_of_one(alloc, implementation, records, found, counts)?;
     records.push(alloc, record)?;
     Ok(())
 }
 
-// The record of a library behind those that it needs. Its data go once they are syntax objects.
-fn expand_one<N: Ledger, L: Ledger>(
+// The record of an expansion, without its links.
+fn without_links(linked: Linked) -> LibRecord
+    ensures { result ≡ linked.library }
+{
+    let Linked { library, .. } = linked;
+    library
+}
+
+// The links of an expansion, without its record.
+fn links_of(linked: Linked) -> Items<Link>
+    ensures { result ≡ linked.links }
+{
+    let Linked { links, .. } = linked;
+    links
+}
+
+// The record of a library alone.
+fn record_of_one<N: Ledger, L: Ledger>(
     alloc: Global,
     implementation: &Implementation,
     records: &Records,
@@ -71,6 +89,20 @@ fn expand_one<N: Ledger, L: Ledger>(
     counts: &mut Counts<N, L>,
 ) -> Result<LibRecord, Stop>
     ensures { Gives (λ r. r) result (expand_found (kept implementation.now.prelude) records.now found (library_body found.opened.«data»)) }
+{
+    let linked = expand_one(alloc, implementation, records, found, counts)?;
+    Ok(without_links(linked))
+}
+
+// The record and the links of a library behind the records that it needs. Its data go once they are syntax objects.
+fn expand_one<N: Ledger, L: Ledger>(
+    alloc: Global,
+    implementation: &Implementation,
+    records: &Records,
+    found: Found,
+    counts: &mut Counts<N, L>,
+) -> Result<Linked, Stop>
+    ensures { Gives (λ l. l) result (link_found (kept implementation.now.prelude) records.now found (library_body found.opened.«data»)) }
 {
     let marks = with_derived(alloc, found.needs.as_slice())?;
     let needed = Needed {
@@ -84,15 +116,15 @@ fn expand_one<N: Ledger, L: Ledger>(
     expand_body(alloc, implementation, &needed, unexpanded, counts)
 }
 
-// The record of a program behind those that it needs. Its data go once they are syntax objects.
+// The record and the links of a program behind the records that it needs. Its data go once they are syntax objects.
 fn expand_program<N: Ledger, L: Ledger>(
     alloc: Global,
     implementation: &Implementation,
     records: &Records,
     found: Found,
     counts: &mut Counts<N, L>,
-) -> Result<LibRecord, Stop>
-    ensures { Gives (λ r. r) result (expand_found (kept implementation.now.prelude) records.now found (program_body found.opened.«data»)) }
+) -> Result<Linked, Stop>
+    ensures { Gives (λ l. l) result (link_found (kept implementation.now.prelude) records.now found (program_body found.opened.«data»)) }
 {
     let marks = with_derived(alloc, found.needs.as_slice())?;
     let needed = Needed {
@@ -104,6 +136,20 @@ fn expand_program<N: Ledger, L: Ledger>(
     let (path, form) = without_data(found);
     let unexpanded = Unexpanded { path, form, body };
     expand_body(alloc, implementation, &needed, unexpanded, counts)
+}
+
+// The record of a program alone.
+fn record_of_program<N: Ledger, L: Ledger>(
+    alloc: Global,
+    implementation: &Implementation,
+    records: &Records,
+    found: Found,
+    counts: &mut Counts<N, L>,
+) -> Result<LibRecord, Stop>
+    ensures { Gives (λ r. r) result (expand_found (kept implementation.now.prelude) records.now found (program_body found.opened.«data»)) }
+{
+    let linked = expand_program(alloc, implementation, records, found, counts)?;
+    Ok(without_links(linked))
 }
 
 // Records, and behind them those of libraries in the order of loading.
@@ -159,7 +205,7 @@ pub fn program_text<N: Ledger, L: Ledger>(
     ensures { Gives string_bytes result (text_behind (kept implementation.now.prelude) libraries found) }
 {
     let records = all_records(alloc, implementation, libraries, counts)?;
-    let program = expand_program(alloc, implementation, &records, found, counts)?;
+    let program = record_of_program(alloc, implementation, &records, found, counts)?;
     let records = records.into_records();
     planned_text(alloc, &records, &program)
 }
@@ -179,4 +225,113 @@ pub fn first_fault<N: Ledger, L: Ledger>(
         Ok(_) => Stop::Fault(fault),
         Err(stop) => stop,
     }
+}
+
+/// Records so far, and the links of their expansions.
+#[derive(Drop)]
+pub struct Gathered {
+    pub records: Records,
+    pub links: Items<Link>,
+}
+
+// The links that were gathered, without the records.
+fn gathered_links(all: Gathered) -> Items<Link>
+    ensures { result ≡ all.links }
+{
+    let Gathered { links, .. } = all;
+    links
+}
+
+// Adds links at the end.
+fn append(all: &mut Items<Link>, links: Items<Link>) -> Result<(), Memory>
+    ensures { OnOk result (all.new ≡ all.old ++ links) }
+{
+    for link in links.into_vec() {
+        all.push(link)?;
+    }
+    Ok(())
+}
+
+fn gather(alloc: Global, all: &mut Gathered, linked: Linked) -> Result<(), Memory>
+    ensures { OnOk result (all.new ≡ with_linked all.old linked) }
+{
+    let Linked { library, links } = linked;
+    all.records.push(alloc, library)?;
+    append(&mut all.links, links)
+}
+
+fn link_next<N: Ledger, L: Ledger>(
+    alloc: Global,
+    implementation: &Implementation,
+    all: &mut Gathered,
+    found: Found,
+    counts: &mut Counts<N, L>,
+) -> Result<(), Stop>
+    ensures { Gives (λ _. all.new) result (link_next (kept implementation.now.prelude) all.old ([], found)) }
+{
+    let linked = expand_one(alloc, implementation, &all.records, found, counts)?;
+    gather(alloc, all, linked)?;
+    Ok(())
+}
+
+// The record of the derived library, without links.
+fn derived_alone<N: Ledger, L: Ledger>(
+    alloc: Global,
+    implementation: &Implementation,
+    counts: &mut Counts<N, L>,
+) -> Result<Gathered, Stop>
+    ensures { Gives (λ all. all) result (derived_linked (kept implementation.now.prelude)) }
+{
+    let derived = derived_record(alloc, implementation, counts)?;
+    let records = Records::of_one(alloc, derived)?;
+    let links = Items::new(alloc);
+    Ok(Gathered { records, links })
+}
+
+// Those of the derived library, and behind them those of the others, in the order of loading.
+#[tactic(auto, using(crate::proofs::LinkLemmas::by_value))]
+fn linked_behind<N: Ledger, L: Ledger>(
+    alloc: Global,
+    implementation: &Implementation,
+    all: Gathered,
+    libraries: Table<Found>,
+    counts: &mut Counts<N, L>,
+) -> Result<Gathered, Stop>
+    ensures { Gives (λ all. all) result (turns (link_next (kept implementation.now.prelude)) all libraries) }
+{
+    let mut all = all;
+    for found in libraries.into_values() {
+        link_next(alloc, implementation, &mut all, found, counts)?;
+    }
+    Ok(all)
+}
+
+fn all_linked<N: Ledger, L: Ledger>(
+    alloc: Global,
+    implementation: &Implementation,
+    libraries: Table<Found>,
+    counts: &mut Counts<N, L>,
+) -> Result<Gathered, Stop>
+    ensures { Gives (λ all. all) result (all_linked (kept implementation.now.prelude) libraries) }
+{
+    let derived = derived_alone(alloc, implementation, counts)?;
+    linked_behind(alloc, implementation, derived, libraries, counts)
+}
+
+/// The links of the libraries that were loaded before a program, in the order of loading, and then those of the program;
+/// or the first fault of a library or of the program. Of the derived library and the prelude there are none.
+#[tactic(auto, unfolding(crate::specs::Loaded::links_behind))]
+pub fn program_links<N: Ledger, L: Ledger>(
+    alloc: Global,
+    implementation: &Implementation,
+    found: Found,
+    libraries: Table<Found>,
+    counts: &mut Counts<N, L>,
+) -> Result<Items<Link>, Stop>
+    ensures { Gives (λ ls. ls) result (links_behind (kept implementation.now.prelude) libraries found) }
+{
+    let mut all = all_linked(alloc, implementation, libraries, counts)?;
+    let linked = expand_program(alloc, implementation, &all.records, found, counts)?;
+    append(&mut all.links, links_of(linked))?;
+    Ok(gathered_links(all))
 }

@@ -32,7 +32,8 @@ ghost use Rattle.sx_list_laws.specs.Older.{IsOlder};
 ghost use Rattle.sx_list_laws.specs.Runs.{Runs, IsList, AreLists, joined};
 ghost use Rattle.sx_list_laws.specs.Texts.{IsString, AreStrings, all_chars};
 
-/// The numbers of the primitives of which the laws speak, by their report names.
+/// The primitives of the laws of this crate are those named `list?`, `length`, `reverse`, `list-tail`,
+/// `list-ref`, `string-length`, `string-ref`, `string-append`, `substring` and `string->list`.
 pub fn numbers_are_by_name()
     ensures lists { map op_named (codes "list?" ∷ codes "length" ∷ codes "reverse" ∷ codes "list-tail" ∷ codes "list-ref" ∷ []) ≡ Some names.IS_LIST ∷ Some names.LENGTH ∷ Some names.REVERSE ∷ Some names.LIST_TAIL ∷ Some names.LIST_REF ∷ [] }
     ensures strings { map op_named (codes "string-length" ∷ codes "string-ref" ∷ codes "string-append" ∷ codes "substring" ∷ codes "string->list" ∷ []) ≡

@@ -15,18 +15,19 @@ ghost use Rattle.sx_base.specs.declared.name.Mark.{Mark};
 ghost use Rattle.sx_tree.specs.Renaming.{IsOneToOne};
 ghost use Rattle.sx_mark_laws.specs.Alike.{FramesAlike, LeavesAlike, MarksAreNames};
 
-/// To bind, and to refuse a second binder, is the same under other names.
+/// To bind in a frame, and to refuse a second binder, is the same under other names of marks.
 pub fn frames_keep_other_names()
     ensures { (r : Mark → Mark) → IsOneToOne r → FramesAlike r }
 {}
 
-/// What a leaf stands for is the same under other names, and what captures it is the same row with its
-/// marks under these names.
+/// What an identifier stands for is the same under other names of marks, and the row that captures it
+/// is the same with its marks under these names.
 pub fn leaves_keep_other_names()
     ensures { (r : Mark → Mark) → IsOneToOne r → LeavesAlike r }
 {}
 
-/// All that is done with marks is the same under other names.
+/// To enter, leave and stamp, to bind, to look up and compare identifiers, to match a pattern and to
+/// make an instance are the same under other names of marks, one to one.
 pub fn marks_are_names()
     ensures { (r : Mark → Mark) → IsOneToOne r → MarksAreNames r }
 {}

@@ -112,7 +112,9 @@ impl<R: System> Files for HostFiles<R> {
     }
 }
 
-/// A store in the system's files. A place is a path, whose folder is made where it is missing.
+/// A store in the system's files. A place is a path, whose folder is made where it is missing. A piece is written to a
+/// file of its own beside its place, which then takes the place's name: so a stop leaves the place as it was or with
+/// the whole piece, and two runs don't mix theirs.
 #[derive(Drop)]
 pub struct HostStore<R> {
     alloc: Global,
@@ -140,16 +142,50 @@ impl<R: System> HostStore<R> {
     }
 }
 
-// Writes a file, and makes its folder where that is missing.
-fn write_path<R: System>(rt: &R, path: &str, bytes: &[u8]) -> io::Result<()> {
-    match fs::write(rt, path, bytes) {
+// So many names are tried for the file of a piece: each run that was stopped may have left one.
+const NAMES: u32 = 1000;
+
+// Writes all of a piece to a new file.
+fn write_new<R: System>(rt: &R, path: &str, bytes: &[u8]) -> io::Result<()> {
+    let mut file = File::create_new(rt, path)?;
+    file.write_all(bytes)
+}
+
+// Writes a piece to a new file and gives it the name of its place. Where that fails the new file goes.
+fn write_beside<R: System>(rt: &R, beside: &str, path: &str, bytes: &[u8]) -> io::Result<()> {
+    let written = match write_new(rt, beside, bytes) {
+        Err(error) if error.kind() == ErrorKind::AlreadyExists => return Err(error),
+        Ok(()) => fs::rename(rt, beside, path),
+        Err(error) => Err(error),
+    };
+    if written.is_err() {
+        let _ = fs::remove_file(rt, beside);
+    }
+    written
+}
+
+// Writes a piece under the first name that is free.
+fn write_path<R: System>(alloc: Global, rt: &R, path: &str, bytes: &[u8]) -> io::Result<()> {
+    for number in 0..NAMES {
+        let beside = format!(in alloc; "{path}.{number}")?;
+        match write_beside(rt, &beside, path, bytes) {
+            Err(error) if error.kind() == ErrorKind::AlreadyExists => {}
+            result => return result,
+        }
+    }
+    Err(io::Error::from(ErrorKind::AlreadyExists))
+}
+
+// Writes a piece, and makes the folder of its place where that is missing.
+fn write_under<R: System>(alloc: Global, rt: &R, path: &str, bytes: &[u8]) -> io::Result<()> {
+    match write_path(alloc, rt, path, bytes) {
         Err(error) if error.kind() == ErrorKind::NotFound => {}
         result => return result,
     }
     if let Some(folder) = Path::new(path).parent() {
         fs::create_dir_all(rt, folder)?;
     }
-    fs::write(rt, path, bytes)
+    write_path(alloc, rt, path, bytes)
 }
 
 impl<R: System> Store for HostStore<R> {
@@ -165,7 +201,7 @@ impl<R: System> Store for HostStore<R> {
     }
 
     fn put(&mut self, place: &str, bytes: &[u8]) -> Result<(), OutsideError> {
-        match write_path(&self.rt, place, bytes) {
+        match write_under(self.alloc, &self.rt, place, bytes) {
             Ok(()) => Ok(()),
             Err(_) => Err(failed(&mut self.faults)),
         }

@@ -18,7 +18,8 @@
 
 ghost use Rattle.sx_prelude_code_laws.specs.Texts.{TextsExpand, TableIsWritten};
 
-/// The ten texts expand to the codes that are written out, and these are the table of every run.
+/// The ten texts of procedures given in Scheme expand to the codes that `sx_given_laws` writes out, and
+/// these are the table of every run.
 pub fn texts_expand_to_what_is_written()
     ensures codes { TextsExpand }
     ensures table { TableIsWritten }

@@ -11,14 +11,15 @@ ghost use Rattle.sx_prims.specs.Table.{misplaced};
 ghost use Rattle.sx_prims.specs.declared.primitive.TheConstants.{ROWS};
 ghost use Rattle.sx_prims.specs.declared.rows.TheConstants as rows;
 
-/// What was made of values that fit keeps whole cells whole, and its value fits in them.
+/// To store what a primitive made of values that fit leaves whole cells whole, and the value that
+/// results fits in them.
 pub fn what_is_made_keeps_cells_whole()
     ensures cells { (m : Made) (name : Named) (cells : List Cell) → Whole cells → MadeFits cells m → Whole (performed m name cells).1 }
     ensures value { (m : Made) (name : Named) (cells : List Cell) → Whole cells → MadeFits cells m →
         FitsIn (performed m name cells).1 (performed m name cells).0 }
 {}
 
-/// The rows are numbered from 0, and each row has a number of its own.
+/// The rows of primitives are numbered from 0, and each has a number of its own.
 #[tactic(auto, unfolding(crate::specs::Table::misplaced))]
 pub fn rows_are_numbered_in_order()
     ensures { misplaced 0 (rows.BASICS ∷ rows.NUMBERS ∷ rows.CHARACTERS ∷ rows.PARTS ∷ rows.GATHERED ∷ rows.LISTS ∷ rows.APPENDED ∷ rows.INDEXED ∷ rows.UNPACKED ∷ rows.STRINGS ∷ rows.NUMBER_STRINGS ∷ rows.STRING_COMPARISONS ∷ rows.EQUALITY ∷ rows.IDENTIFIERS ∷ rows.DATA ∷ rows.TREES ∷ rows.TEMPORARIES ∷ rows.RAISING ∷ []) ≡ ROWS }

@@ -14,8 +14,8 @@ ghost use Rattle.sx_prims.specs.declared.primitive.texts.TheConstants.{TEXTS};
 ghost use Rattle.sx_prims_laws.specs.ByName as by_name;
 ghost use Rattle.sx_prims_laws.specs.Holds.{Passes, HoldsIn, MadeHolds};
 
-/// A test that each argument passes, each value in the cells and each value that has no place, each value in
-/// what a primitive makes passes too: a call makes no place, and so no procedure, that wasn't there.
+/// A test that all arguments, all values in the cells and all values without a place pass is passed by
+/// each value in what a primitive makes: so a call makes no procedure and no place that wasn't there.
 pub fn what_a_call_makes_was_there()
     ensures { (test : Value → Bool) (op : ℕ) (args : List Value) (cells : List Cell) (fs : Scope) (m : Made) → HoldsIn (Passes test) cells →
         Each (Passes test) args → delta op args cells fs ≡ Ok m → MadeHolds (Passes test) m }

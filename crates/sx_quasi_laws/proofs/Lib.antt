@@ -1,3 +1,5 @@
+pub mod Walked
+pub mod Same
 pub mod Puts
 pub mod Tails
 pub mod Means

@@ -20,7 +20,10 @@ use Rattle.sx_quasi.specs.declared.word.Reach.TheVariants as reached
 use Rattle.sx_quasi.proofs.Levels.{elements_are, list_split, list_flat}
 use Rattle.sx_quasi.proofs.Sizes.{forms_size, parts_within, split_size, tree_size}
 use Rattle.sx_quasi_laws.specs.Makes.{Given, plain, plain_items, makes}
-use Rattle.sx_quasi_laws.specs.Filled.{value_of, spliced, put_by, put, is_tail, list_by, filled, rest_filled, items_filled}
+use Rattle.sx_quasi_laws.specs.Filled.{value_of, spliced}
+use Rattle.sx_quasi_laws.specs.Filled as report
+use Rattle.sx_quasi_laws.proofs.Walked.{put_by, put, is_tail, list_by, filled, rest_filled, items_filled}
+use Rattle.sx_quasi_laws.proofs.Same.{filled_same}
 use Rattle.sx_quasi_laws.proofs.Puts.{puts, each_put, splices_put, item_put, made, not_constant, not_fixed}
 use Rattle.sx_quasi_laws.proofs.Tails.{has_tail, cut, IsTail, splits_is, cut_is, tail_no_tail, cut_length, only_is, operand_long, elements_at, tail_at, plain_at, plain_all}
 
@@ -283,7 +286,7 @@ module _ (w : Words) (f : Given) where
   all_mean (suc k) (vector s d) n b = vector_means k (all_mean k) s d n (omega (arith, b, vector_size d))
 
   -- what a plan makes
-  pub plan_means : (t : Tree) (n : ℕ) (q : PlainQuasi) → quasi_at w t n ≡ Ok q → makes f q ≡ filled w f t n
+  pub plan_means : (t : Tree) (n : ℕ) (q : PlainQuasi) → quasi_at w t n ≡ Ok q → makes f q ≡ report.filled w f t n
   plan_means t n q e =
       let m : Means (filled w f t n) t (Ok q) = subst (λ r. Means (filled w f t n) t r) e (all_mean (suc (size t)) t n (omega arith)) in
-      m.0
+      m.0 ∙ sym (filled_same w f t n)

@@ -8,7 +8,8 @@ use Rattle.sx_shapes.specs.Lists.{is_nil, is_nil_atom, elements, tail_of}
 use Rattle.sx_quasi.specs.Words.{Words, counts}
 use Rattle.sx_quasi.specs.Parts.{rest_at, counts_at, splits, operand_of}
 use Rattle.sx_quasi_laws.specs.Makes.{plain}
-use Rattle.sx_quasi_laws.specs.Filled.{only, is_tail}
+use Rattle.sx_quasi_laws.specs.Filled.{only}
+use Rattle.sx_quasi_laws.proofs.Walked.{is_tail}
 
 pub operand_long : (ends : Bool) (ts : List Tree) → 3 ≤ length ts → operand_of ends ts ≡ None
 operand_long false ts h = refl

@@ -1,14 +1,26 @@
--- A template with the values of its expressions in their places.
-use Rattle.std.specs.Prelude.{ℕ, Bool, ◌&&◌, List, [], ◌∷◌, map, Option, None, Some, is_some, if◌then◌else◌}
+-- A template with the values of its expressions in their places (R6RS 11.17).
+use Rattle.std.specs.Prelude.{ℕ, zero, suc, Bool, true, false, ◌&&◌, List, [], ◌∷◌, map, Option, None, Some, is_some, if◌then◌else◌}
 use Rattle.sx_tree.specs.Tree.{Tree, atom, leaf, pair, vector, nil, chain}
-use Rattle.sx_shapes.specs.Lists.{is_nil, elements}
-use Rattle.sx_quasi.specs.Words.{Words, inner, reach, counts}
-use Rattle.sx_quasi.specs.Parts.{taken_at}
-use Rattle.sx_quasi.specs.declared.parts.Taken.{Taken}
-use Rattle.sx_quasi.specs.declared.parts.Taken.TheVariants as taken
-use Rattle.sx_quasi.specs.declared.word.Reach.{Reach}
-use Rattle.sx_quasi.specs.declared.word.Reach.TheVariants as reached
+use Rattle.sx_shapes.specs.Lists.{is_nil, elements, tail_of}
+use Rattle.sx_quasi.specs.Words.{Words}
+use Rattle.sx_quasi.specs.declared.word.Word.{Word}
+use Rattle.sx_quasi.specs.declared.word.Word.TheVariants as word
 use Rattle.sx_quasi_laws.specs.Makes.{Given}
+
+-- `quasiquote` adds a level for what stands behind it, and `unquote` and `unquote-splicing` take one away
+abbrev pub level_behind : Word → ℕ → ℕ
+level_behind word.Raise n = suc n
+level_behind word.Lower (suc n) = n
+level_behind word.Splice (suc n) = n
+level_behind x n = n
+
+-- whether `(word x)` in the place of a tail is the form that it looks like: `(1 . ,x)` is read as `(1 unquote x)`
+abbrev pub is_tail_word : Word → Bool
+is_tail_word word.Raise = true
+is_tail_word word.Lower = true
+is_tail_word word.Splice = true
+is_tail_word word.Escape = false
+is_tail_word word.Plain = false
 
 -- the element of a list that has just one
 abbrev pub only : Tree → Option Tree
@@ -26,27 +38,30 @@ abbrev pub spliced : Given → List Tree → Tree → Tree
 spliced f [] r = r
 spliced f (e ∷ es) r = chain (elements (f e)) (spliced f es r)
 
-abbrev pub put_by : Given → Tree → Tree → Taken → Tree
-put_by f made r (taken.Each es) = chain (map f es) r
-put_by f made r (taken.Spliced es) = spliced f es r
-put_by f made r taken.Kept = pair None made r
+-- an element that is a list of a head and operands, ended by Nil or not: `(unquote e ...)` and `(unquote-splicing e ...)`
+abbrev pub put_form : Given → Word → Bool → List Tree → Tree → Tree → Tree
+put_form f word.Lower true es made r = chain (map f es) r
+put_form f word.Splice true es made r = spliced f es r
+put_form f x ends es made r = pair None made r
 
 -- an element, which itself comes to this, before a rest
 abbrev pub put : Words → Given → ℕ → Tree → Tree → Tree → Tree
-put w f n t made r = put_by f made r (taken_at w n t)
+put w f zero (pair s h d) made r = put_form f (w h) (is_nil (tail_of d)) (elements d) made r
+put w f n t made r = pair None made r
 
--- whether a rest is a form that stands for the tail: `,x` in `(1 . ,x)`
+-- whether a rest is a form that stands for the tail
 abbrev pub is_tail : Words → Tree → Tree → Bool
-is_tail w a d = counts (w a) && is_some (only d)
+is_tail w a d = is_tail_word (w a) && is_some (only d)
 
-abbrev pub list_by : Words → Given → ℕ → Tree → Tree → (ℕ → Tree) → (ℕ → ℕ → Tree) → Reach → Tree
-list_by w f n a d made rest reached.Operand = value_of f (only d)
-list_by w f n a d made rest reached.Refused = nil
-list_by w f n a d made rest reached.Elements = put w f (inner (w a) n) a (made (inner (w a) n)) (rest n (inner (w a) n))
+-- At level 0 `(unquote e)` is the value of e; nothing else may stand there behind `unquote` or `unquote-splicing`.
+abbrev pub list_by : Words → Given → ℕ → Tree → Tree → (ℕ → Tree) → (ℕ → ℕ → Tree) → Word → Tree
+list_by w f zero a d made rest word.Lower = value_of f (only d)
+list_by w f zero a d made rest word.Splice = nil
+list_by w f n a d made rest x = put w f (level_behind x n) a (made (level_behind x n)) (rest n (level_behind x n))
 
 -- a list of this first element and this rest, and what they come to
 abbrev pub list_filled : Words → Given → ℕ → Tree → Tree → (ℕ → Tree) → (ℕ → ℕ → Tree) → Tree
-list_filled w f n a d made rest = list_by w f n a d made rest (reach (w a) n)
+list_filled w f n a d made rest = list_by w f n a d made rest (w a)
 
 abbrev mutual
   -- a template at a level

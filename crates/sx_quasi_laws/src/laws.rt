@@ -14,24 +14,27 @@ ghost use Rattle.sx_quasi_laws.specs.Filled.{filled, put, form_of};
 ghost use Rattle.sx_quasi_laws.specs.Numbered.{IsNumbered};
 ghost use Rattle.sx_quasi_laws.specs.Quiet.{is_quiet};
 
-/// Whatever the values of the expressions are, the plan of a template makes the template with these values in their
+/// Whatever the values of the unquoted expressions are, a model of `list`, `cons*`, `append` and
+/// `list->vector` makes of the plan of a `quasiquote` template the template with these values in their
 /// places.
 pub fn a_plan_makes_the_filled_template()
     ensures { (w : Words) (f : Given) (t : Tree) (n : ℕ) (q : PlainQuasi) → quasi_at w t n ≡ Ok q → makes f q ≡ filled w f t n }
 {}
 
-/// A template in which nothing is unquoted is a constant: the form itself, as it stands.
+/// A `quasiquote` template in which nothing is unquoted is a constant: the form itself.
 pub fn what_is_not_unquoted_is_a_constant()
     ensures { (w : Words) (t : Tree) (n : ℕ) → is_quiet w t ≡ true → quasi_at w t n ≡ Ok (constant t) }
 {}
 
-/// An inner `quasiquote` raises the level of its operand, and stays itself.
+/// A `quasiquote` in a `quasiquote` template stays itself, and what is in it is one level further in
+/// (R6RS 11.17).
 pub fn quasiquote_raises_the_level()
     ensures { (w : Words) (f : Given) (head t : Tree) (n : ℕ) → w head ≡ word.Raise →
         filled w f (form_of head t) n ≡ form_of (filled w f head (suc n)) (filled w f t (suc n)) }
 {}
 
-/// `unquote` at level 0 gives the value of its operand; further in its elements are one level further out.
+/// In a `quasiquote` template an `unquote` at level 0 gives the value of its operand; further in it
+/// stays, and what is in it is one level further out (R6RS 11.17).
 pub fn unquote_lowers_the_level()
     ensures reached { (w : Words) (f : Given) (head e : Tree) → w head ≡ word.Lower → filled w f (form_of head e) 0 ≡ f e }
     ensures further_in { (w : Words) (f : Given) (head t : Tree) (n : ℕ) → w head ≡ word.Lower →
@@ -44,7 +47,8 @@ pub fn what_is_not_unsyntaxed_stays()
         quasi_syntax w t form place ≡ Ok (record { template = t; inserts = [] }) }
 {}
 
-/// Each insert has a leaf of its own: in their order they have the leaves of the numbers from 0 on.
+/// Each insert of a `quasisyntax` template has an identifier of its own, and these are numbered from 0
+/// in their order.
 pub fn each_insert_has_a_leaf_of_its_own()
     ensures { (w : Looked) (t form : Tree) (place : Span) (q : QuasiSyntax) → quasi_syntax w t form place ≡ Ok q → IsNumbered 0 q.inserts }
 {}

@@ -22,12 +22,14 @@
 ghost use Rattle.sx_readable_expansion_laws.specs.Keeping.{ReadablesStayIn};
 ghost use Rattle.sx_readable_expansion_laws.specs.Records.{RecordsStayReadable};
 
-/// Expansion keeps that all in its state can be read, in forms round others and however deep these nest.
+/// If all in the state of an expansion can be read, so can all in its state after a form, however deep
+/// forms nest.
 pub fn readables_stay_in_expansion()
     ensures { ReadablesStayIn }
 {}
 
-/// All constants in the record of a library can be read, where those of its forms and of the records before can.
+/// All constants in the record of a library can be read if those of its forms and of the records before
+/// can.
 pub fn records_stay_readable()
     ensures { RecordsStayReadable }
 {}

@@ -21,22 +21,24 @@
 ghost use Rattle.sx_readable_laws.specs.Laws.{PrimitivesMakeReadables, ReadablesAreRead, ReadablesStay};
 ghost use Rattle.sx_readable_laws.specs.Stages.{UsesMakeReadables};
 
-/// What a primitive makes of what can be read can be read.
+/// What a primitive makes of values that can be read can be read.
 pub fn primitives_make_readables()
     ensures { PrimitivesMakeReadables }
 {}
 
-/// What an evaluation comes to can be read, where its code, its cells and what it reads can; and so can the tree that a value is read as.
+/// What an evaluation gives can be read if its code, its cells and what it looks up can; and so can the
+/// tree that a value is read as.
 pub fn readables_stay()
     ensures { ReadablesStay }
 {}
 
-/// The form that a use of a keyword gives can be read, where the form of the use and all on the stage can, and so can all on the stage then.
+/// The form that a use of a macro gives can be read, and all on the stage then, if the form of the use
+/// and all on the stage could.
 pub fn uses_make_readables()
     ensures { UsesMakeReadables }
 {}
 
-/// Each such datum can be read, where some number of forms may be nested.
+/// Each datum that can be read is read back from its text, where some number of forms may be nested.
 pub fn readables_are_read()
     ensures { ReadablesAreRead }
 {}

@@ -11,13 +11,14 @@ ghost use Rattle.sx_records.specs.Definitions.{rtd, rcd, definitions};
 ghost use Rattle.sx_records.specs.declared.clause.Clauses.{Clauses as AnyClauses};
 ghost use Rattle.sx_records.specs.declared.names.RecordNames.{RecordNames as AnyNames};
 
-/// The definitions of a record type bind the two descriptors, and then the record type, its constructor and its
-/// predicate, and for each field its accessor and its mutator, in order, and nothing else.
+/// The definitions that a record type expands to bind the two descriptors, the record type, its
+/// constructor and predicate, and for each field its accessor and its mutator, in this order, and
+/// nothing else.
 pub fn a_record_type_binds_its_names()
     ensures { (own : List ℕ) (names : AnyNames) (cs : AnyClauses) (t : AnyTree) → definitions own names cs ≡ Ok t → binders t ≡ rtd ∷ (rcd ∷ type_names names cs) }
 {}
 
-/// The identifiers of the two descriptors have the mark of the use alone, which no identifier of the program has.
+/// The identifiers of the two descriptors that a record type introduces have the mark of the use alone.
 pub fn descriptors_have_the_mark_of_the_use()
     ensures type_descriptor { (m : AnyMark) (frame : Option AnyFrame) → marks_of (leave m frame rtd) ≡ m ∷ [] }
     ensures constructor_descriptor { (m : AnyMark) (frame : Option AnyFrame) → marks_of (leave m frame rcd) ≡ m ∷ [] }

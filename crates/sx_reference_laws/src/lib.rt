@@ -46,32 +46,39 @@ ghost use Rattle.sx_reference_laws.specs.Reference.{ReferencesAreHygienic};
 ghost use Rattle.sx_reference_laws.specs.Single.{RelationHasOneAnswer};
 ghost use Rattle.sx_reference_laws.specs.Whole.{FormsAreHygienic};
 
-/// The binder that captures an identifier of an expansion was introduced by uses that introduced this, or captures it in the template.
+/// The binder that captures an identifier of an expansion has the mark of a use only if that use
+/// introduced the identifier or it was made with the mark; and if a use introduced it, its binder has
+/// that mark or captures it, in the same frames, as it was before that.
 pub fn captures_are_hygienic()
     ensures { CapturesAreHygienic }
 {}
 
-/// An identifier that is expanded refers to this binder.
+/// An identifier that is expanded as a reference names the label of the binder that captures it, by
+/// both sentences of hygiene.
 pub fn references_are_hygienic()
     ensures { ReferencesAreHygienic }
 {}
 
-/// What a use gives has leaves of its form, and others with its mark.
+/// The marks and stamps of each identifier in what a use gives are those of one in its form, or the
+/// newest mark is that of the use; its symbol may be new.
 pub fn uses_introduce_the_rest()
     ensures { UsesIntroduceTheRest }
 {}
 
-/// All references of a form are those of identifiers that it took, and hygienic.
+/// The core code of a form names, place by place, what the identifiers expanded in it stood for, by
+/// both sentences of hygiene; so do the expressions of the keywords bound in it.
 pub fn forms_are_hygienic()
     ensures { FormsAreHygienic }
 {}
 
-/// So are those of a library's record.
+/// The lines, keywords' expressions and exports of a library's record name what their identifiers stood
+/// for, by both sentences of hygiene.
 pub fn records_are_hygienic()
     ensures { RecordsAreHygienic }
 {}
 
-/// The relation gives one core code, one state and one list of references for a form in a state.
+/// The relation of expansion gives one core code, one list of references and expressions, and one state
+/// for a form in a state.
 pub fn relation_has_one_answer()
     ensures { RelationHasOneAnswer }
 {}

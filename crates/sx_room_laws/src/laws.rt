@@ -4,8 +4,8 @@ ghost use Rattle.sx_room_laws.specs.Counted.{FormsCountOnce};
 ghost use Rattle.sx_room_laws.specs.Limit.{LimitOfNesting};
 ghost use Rattle.sx_room_laws.specs.Room.{FormsNeedNoMore, ItemsNeedNoMore, CasesNeedNoMore, BodiesNeedNoMore, TopsNeedNoMore};
 
-/// Expansion answers the same in every room in which 600 forms can nest: an expression, a form of a body,
-/// a case of a procedure, a body, and a library or program.
+/// Expansion answers the same with any room in which 600 forms can nest: an expression, a form of a
+/// body, a case of a procedure, a body, and a library or program.
 pub fn room_changes_nothing()
     ensures forms { FormsNeedNoMore }
     ensures items { ItemsNeedNoMore }
@@ -14,15 +14,15 @@ pub fn room_changes_nothing()
     ensures tops { TopsNeedNoMore }
 {}
 
-/// At most 600 core forms and applications may stand round a form. With more it is TooDeep, at its place,
-/// whatever form it is; 600 `begin`s in one another expand to what is in them, and 601 don't.
+/// A form at a depth of more than 600 is TooDeep, at its place, whatever form it is; a constant in 600
+/// nested `begin`s expands to itself, and any form in 601 is TooDeep.
 pub fn limit_of_nesting()
     ensures { LimitOfNesting }
 {}
 
-/// Sequences, applications, assignments, procedures, and forms of `if`, `syntax-case`, `letrec`, `letrec*`,
-/// `let-syntax` and `letrec-syntax` make what lies in them one deeper, and no more: a constant in 600 of them expands, and
-/// any other form but an identifier in 601 of them is TooDeep, at its place.
+/// Sequences, applications, assignments, procedures, and forms of `if`, `syntax-case`, `letrec`,
+/// `letrec*`, `let-syntax` and `letrec-syntax` add one to the depth of what is in them: a constant in
+/// 600 of them expands, and any other form but an identifier in 601 is TooDeep, at its place.
 pub fn forms_count_once()
     ensures { FormsCountOnce }
 {}

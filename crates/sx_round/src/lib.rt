@@ -24,12 +24,12 @@ pub fn readable_are_read_back()
     ensures { ReadableAreReadBack }
 {}
 
-/// What a file has, where so many forms may be nested, is readable there.
+/// Each datum of a file in which so many forms may be nested is readable with that nesting.
 pub fn only_readable_are_read()
     ensures { OnlyReadableAreRead }
 {}
 
-/// What a file has is read back from its text.
+/// Each datum of any file is read back from its own text, spans aside.
 pub fn read_are_read_back()
     ensures { ReadAreReadBack }
 {}

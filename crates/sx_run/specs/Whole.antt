@@ -1,4 +1,5 @@
 -- What the whole program gives for files and words: its eager definition.
+use Rattle.sx_base.specs.Gives.{◌>>=◌}
 use Rattle.std.specs.Prelude.{ℕ, Bool, List, [], ◌∷◌, map, Option, Some, None, Result, Ok, Err, if◌then◌else◌, codes, false}
 use Rattle.sx_base.specs.FaultLine.{fault_line}
 use Rattle.sx_base.specs.declared.fault.Fault.{Fault}
@@ -8,7 +9,8 @@ use Rattle.sx_load.specs.Load.{Loads, load}
 use Rattle.sx_load.specs.declared.found.Found.{Found}
 use Rattle.sx_load.specs.declared.found.Loading.{Loading}
 use Rattle.sx_load.specs.declared.found.Source.{Source}
-use Rattle.sx_library.specs.Loaded.{text_of}
+use Rattle.sx_eval.specs.Codes.{Codes}
+use Rattle.sx_library.specs.Loaded.{text_behind, links_behind, fault_behind}
 use Rattle.sx_prelude.specs.Prelude.{prelude_table}
 use Rattle.sx_report.specs.Report.{report_text}
 use Rattle.sx_report.specs.declared.report.Fate.TheVariants.{Expanded}
@@ -16,12 +18,15 @@ use Rattle.sx_report.specs.declared.report.Told.{Told}
 use Rattle.sx_make.specs.Made.{made_files, program_path}
 use Rattle.sx_make.specs.Summary.{summary}
 use Rattle.sx_words.specs.declared.job.Job.{Job}
-use Rattle.sx_words.specs.declared.job.Kind.TheVariants.{Core}
+use Rattle.sx_words.specs.declared.job.Kind.{Kind}
+use Rattle.sx_words.specs.declared.job.Kind.TheVariants.{Core, Xref}
 use Rattle.sx_words.specs.declared.words.Words.{Words}
 use Rattle.sx_words.specs.declared.words.Words.TheVariants.{Expand, Make, Usage}
+use Rattle.sx_xref.specs.Map.{binding_map}
+use Rattle.sx_xref.specs.Text.{xref_text}
 use Rattle.sx_run.specs.Words.{words_asked}
 
--- the words are refused, or the core text with the report, or the line of the first fault
+-- the words are refused, or the core text or the binding map with the report, or the line of the first fault
 pub data Outcome : Type 0 where
   usage : Outcome
   done : (text report : List ℕ) → Outcome
@@ -60,11 +65,25 @@ abbrev pub outcome_of : Bool → Loading → Result (List ℕ) Fault → Outcome
 outcome_of report s (Ok text) = done text (report_if report s)
 outcome_of report s (Err f) = fault (fault_line f (source_of s.sources f.span.file))
 
-abbrev pub of_loaded : Bool → Loads (Found × Loading) → Outcome
-of_loaded report loaded = outcome_of report (loading_of loaded) (text_of prelude_table loaded)
+-- which identifier of these sources stands for which, in a program and the libraries that were loaded before it
+abbrev pub map_behind : Result Codes Fault → List (List ℕ × Found) → Found → List Source → Result (List ℕ) Fault
+map_behind prelude rows found sources = links_behind prelude rows found >>= (λ links. Ok (xref_text sources (binding_map links)))
+
+-- what is written of a program
+abbrev pub text_behind_by : Kind → Result Codes Fault → List (List ℕ × Found) → Found → List Source → Result (List ℕ) Fault
+text_behind_by Core prelude rows found sources = text_behind prelude rows found
+text_behind_by Xref prelude rows found sources = map_behind prelude rows found sources
+
+-- of a program that was loaded, or the first fault: each library is expanded before any further file is looked for
+abbrev pub text_by : Kind → Result Codes Fault → Loads (Found × Loading) → Result (List ℕ) Fault
+text_by kind prelude (Ok l) = text_behind_by kind prelude l.1.done l.0 l.1.sources
+text_by kind prelude (Err e) = fault_behind prelude e.0.done e.1
+
+abbrev pub of_loaded : Kind → Bool → Loads (Found × Loading) → Outcome
+of_loaded kind report loaded = outcome_of report (loading_of loaded) (text_by kind prelude_table loaded)
 
 unfoldable pub of_job : Paths → Job → Outcome
-of_job files job = of_loaded job.report (load files job.roots job.program)
+of_job files job = of_loaded job.kind job.report (load files job.roots job.program)
 
 -- the job of the program that `--make` makes
 abbrev pub made_job : Job

@@ -2,28 +2,15 @@
 use Rattle.std.specs.Prelude.{ℕ, List, map, String, string_bytes, codes}
 use Rattle.std.specs.Global.{Global}
 use Rattle.sx_words.specs.Words.{asked_by}
-use Rattle.sx_words.specs.declared.job.Job.{Job}
-use Rattle.sx_words.specs.declared.job.Kind.{Kind}
-use Rattle.sx_words.specs.declared.job.Kind.TheVariants.{Core, Xref}
 use Rattle.sx_words.specs.declared.words.Words.{Words}
 use Rattle.sx_words.specs.declared.words.Words.TheVariants.{Expand, Make, Usage}
 
 abbrev pub texts : List (String Global) → List (List ℕ)
 texts words = map string_bytes words
 
--- the map of identifiers isn't built: the words for it are refused
-abbrev pub of_kind : Job → Kind → Words
-of_kind job Core = Expand job
-of_kind job Xref = Usage
-
-abbrev pub built : Words → Words
-built (Expand job) = of_kind job job.kind
-built (Make count) = Make count
-built Usage = Usage
-
--- what the words ask for, of what is built
+-- what the words ask for
 abbrev pub words_asked : List (List ℕ) → Words
-words_asked words = built (asked_by words)
+words_asked words = asked_by words
 
 -- the words read no file: they are refused, or ask for libraries that are made in memory
 abbrev pub ReadNone : Words → Type 0

@@ -4,10 +4,11 @@ ghost use Rattle.std.specs.Option.{option_copied};
 ghost use Rattle.std.specs.Prelude.{◌≡◌, ◌≢◌, Some, Ok, IfOk, IfSome, Err, map};
 ghost use Rattle.std.specs.String.{string_bytes};
 ghost use Rattle.sx_base.specs.FaultLine.{fault_line};
+ghost use Rattle.sx_base.specs.Gives.{Gives};
 ghost use Rattle.sx_outside.specs.Causes.{Rose};
 ghost use Rattle.sx_outside.specs.Contents.{Paths};
 ghost use Rattle.sx_prelude.specs.Prelude.{kept, prelude_table};
-ghost use Rattle.sx_run.specs.Whole.{libraries, report_if, held_at, source_of, of_loaded, of_job};
+ghost use Rattle.sx_run.specs.Whole.{libraries, report_if, held_at, source_of, map_behind, text_behind_by, of_loaded, of_job};
 ghost use Rattle.sx_run.specs.Prepared.{Prepares};
 ghost use Rattle.sx_run.specs.declared.prepare.Unfinished.TheVariants as unfinished;
 
@@ -19,7 +20,8 @@ use sx_base::items::Items;
 use sx_base::memory::Memory;
 use sx_base::symbol::Symbol;
 use sx_derived::implementation::Implementation;
-use sx_library::loaded::{first_fault, program_text};
+use sx_import::table::Table;
+use sx_library::loaded::{first_fault, program_links, program_text};
 use sx_load::found::{Found, Loading, Source};
 use sx_load::halt::Halt;
 use sx_load::load::load;
@@ -30,18 +32,20 @@ use sx_report::report::{Fate, Told, report_text};
 use sx_stage::earlier::Earlier;
 use sx_standing::means::{Counts, Means};
 use sx_standing::share::share_library;
-use sx_words::job::Job;
+use sx_words::job::{Job, Kind};
+use sx_xref::map::binding_map;
+use sx_xref::text::xref_text;
 
 /// What is to be written of a program without fault.
 #[derive(Drop)]
 pub struct Prepared {
-    /// The core text.
+    /// The core text, or the binding map.
     pub text: String,
     /// The report on the libraries, where it is asked for, and else nothing.
     pub report: String,
 }
 
-/// Why there is no core text.
+/// Why there is no text.
 #[derive(Drop)]
 pub enum Unfinished {
     /// A fault, by its line.
@@ -136,11 +140,55 @@ fn prelude<N: Ledger, L: Ledger>(
     Prelude::new(alloc, &means, counts)
 }
 
-// What was loaded, and whether a report on it is asked for.
+// What was loaded, what is to be written of it, and whether a report on it is asked for.
 #[derive(Drop)]
 struct Loaded {
     loading: Loading,
+    kind: Kind,
     report: bool,
+}
+
+// What is loaded of a program that is to be written.
+#[derive(Drop)]
+struct Unwritten {
+    found: Found,
+    done: Table<Found>,
+}
+
+// The binding map of a program and its libraries.
+fn map_text<N: Ledger, L: Ledger>(
+    alloc: Global,
+    implementation: &Implementation,
+    unwritten: Unwritten,
+    sources: &[Source],
+    counts: &mut Counts<N, L>,
+) -> Result<String, Stop>
+    ensures { Gives string_bytes result (map_behind (kept implementation.now.prelude) unwritten.done unwritten.found sources.now) }
+{
+    let Unwritten { found, done } = unwritten;
+    let links = program_links(alloc, implementation, found, done, counts)?;
+    let map = binding_map(alloc, links.as_slice())?;
+    Ok(xref_text(alloc, map.as_slice(), sources)?)
+}
+
+// What is written of a program: its core text, or its binding map.
+fn text_by<N: Ledger, L: Ledger>(
+    alloc: Global,
+    implementation: &Implementation,
+    kind: Kind,
+    unwritten: Unwritten,
+    sources: &[Source],
+    counts: &mut Counts<N, L>,
+) -> Result<String, Stop>
+    ensures { Gives string_bytes result (text_behind_by kind (kept implementation.now.prelude) unwritten.done unwritten.found sources.now) }
+{
+    match kind {
+        Kind::Core => {
+            let Unwritten { found, done } = unwritten;
+            program_text(alloc, implementation, found, done, counts)
+        }
+        Kind::Xref => map_text(alloc, implementation, unwritten, sources, counts),
+    }
 }
 
 // What comes of a program that was loaded.
@@ -152,13 +200,25 @@ fn of_found<N: Ledger, L: Ledger>(
     counts: &mut Counts<N, L>,
 ) -> Result<Prepared, Unfinished>
     requires { kept implementation.now.prelude ≡ prelude_table }
-    ensures gives { Prepares result (of_loaded loaded.report (Ok (found, loaded.loading))) }
+    ensures gives { Prepares result (of_loaded loaded.kind loaded.report (Ok (found, loaded.loading))) }
     ensures unread { result ≢ Err Unfinished.Read }
 {
-    let Loaded { loading, report } = loaded;
+    let Loaded {
+        loading,
+        kind,
+        report,
+    } = loaded;
     let report = report_if(alloc, report, &loading)?;
     let Loading { done, sources, .. } = loading;
-    match program_text(alloc, implementation, found, done, counts) {
+    let unwritten = Unwritten { found, done };
+    match text_by(
+        alloc,
+        implementation,
+        kind,
+        unwritten,
+        sources.as_slice(),
+        counts,
+    ) {
         Ok(text) => Ok(Prepared { text, report }),
         Err(Stop::Fault(fault)) => Err(Unfinished::Line(line_of(
             alloc,
@@ -178,7 +238,7 @@ fn of_fault<N: Ledger, L: Ledger>(
     counts: &mut Counts<N, L>,
 ) -> Result<Prepared, Unfinished>
     requires { kept implementation.now.prelude ≡ prelude_table }
-    ensures gives { Prepares result (of_loaded loaded.report (Err (loaded.loading, fault))) }
+    ensures gives { Prepares result (of_loaded loaded.kind loaded.report (Err (loaded.loading, fault))) }
     ensures unread { result ≢ Err Unfinished.Read }
 {
     let Loaded { loading, .. } = loaded;
@@ -212,6 +272,7 @@ fn of_job<F: Files, N: Ledger, L: Ledger>(
     );
     let loaded = Loaded {
         loading,
+        kind: job.kind,
         report: job.report,
     };
     match came {
@@ -222,7 +283,7 @@ fn of_job<F: Files, N: Ledger, L: Ledger>(
     }
 }
 
-/// The core text of a job's program and its report, or why there is none.
+/// The core text or the binding map of a job's program and its report, or why there is none.
 pub fn prepare<F: Files, N: Ledger, L: Ledger>(
     alloc: Global,
     job: &Job,

@@ -108,8 +108,8 @@ fn run_words<F: Files, O: Sink, E: Sink, N: Ledger, L: Ledger>(
     }
 }
 
-/// All that the program does. It reads the program that the words name, and writes its core text on `out`
-/// and behind it, where it is asked for, the report on `err`; or the line of its first fault on `err`. With
+/// All that the program does: it reads the program that the words name, and writes its core text or its binding map
+/// on `out` and after it, where it is asked for, the report on `err`; or the line of its first fault on `err`. With
 /// `--make` it reads no file, and writes one line on what came of libraries made in memory. All text is made
 /// before the first write: `out` gets at most one put, and `err` at most one behind it.
 /// `primitives` computes those that transformers call. What is counted: the nodes that changes of syntax trees

@@ -43,6 +43,7 @@ pub mod OtherText
 pub mod PartBehind
 pub mod PartRows
 pub mod PartFits
+pub mod LinkedRuns
 pub mod Unstuck
 pub mod HygienicForms
 pub mod HygienicRuns

@@ -8,7 +8,7 @@ use Rattle.sx_derived.specs.Derived.{derived_record}
 use Rattle.sx_eval.specs.Codes.{Codes}
 use Rattle.sx_forms.specs.Form.{program_body}
 use Rattle.sx_import.specs.Turns.{turns}
-use Rattle.sx_library.specs.Loaded.{expand_found, expand_next, all_records, planned_text, text_behind, fault_behind, text_of}
+use Rattle.sx_library.specs.Loaded.{expand_found, expand_next, all_records, planned_text, text_behind, links_behind, fault_behind}
 use Rattle.sx_load.specs.Load.{Loads, load}
 use Rattle.sx_load.specs.declared.found.Found.{Found}
 use Rattle.sx_load.specs.declared.found.Loading.{Loading}
@@ -19,10 +19,13 @@ use Rattle.sx_outside.specs.Contents.{Paths}
 use Rattle.sx_plan.specs.Planned.{plan_of}
 use Rattle.sx_prelude.specs.Prelude.{prelude_table}
 use Rattle.sx_make.specs.Made.{made_files}
-use Rattle.sx_run.specs.Whole.{Outcome, usage, done, fault, source_of, loading_of, outcome_of, of_job, made_job, summed, of_made, of_words}
+use Rattle.sx_run.specs.Whole.{Outcome, usage, done, fault, source_of, loading_of, outcome_of, map_behind, text_behind_by, text_by, of_job, made_job, summed, of_made, of_words}
 use Rattle.sx_run.specs.Words.{words_asked}
+use Rattle.sx_run_laws.proofs.LinkedRuns.{run_recorded, links-told}
 use Rattle.sx_run_laws.proofs.UserLemmas.{program_name}
 use Rattle.sx_words.specs.declared.job.Job.{Job}
+use Rattle.sx_words.specs.declared.job.Kind.{Kind}
+use Rattle.sx_words.specs.declared.job.Kind.TheVariants.{Core, Xref}
 use Rattle.sx_words.specs.declared.words.Words.{Words}
 use Rattle.sx_words.specs.declared.words.Words.TheVariants.{Expand, Make, Usage}
 use Rattle.sx_kind_laws.specs.Kinds.{IsOfLoading, Tells}
@@ -50,7 +53,7 @@ as-told (Err f) h = h
 
 module _ (prelude : Result Codes Fault) (read : AreRead prelude) where
   -- the records of the libraries that were loaded, and what comes of them
-  records-told : (s : Loading) → IsSound s → AllUsers s.done → (go : List LibRecord → Result (List ℕ) Fault)
+  records-told : {X : Type 0} (s : Loading) → IsSound s → AllUsers s.done → (go : List LibRecord → Result X Fault)
       → ((d : LibRecord) (first : IsFirst d) (sound : IsSound s) (users : AllUsers s.done) (records : List LibRecord) → AreMade prelude read s sound users d first records → Told Any (go records))
       → Told Any (all_records prelude s.done >>= go)
   records-told s sound users go next = by (derived_record prelude) (first-told prelude read)
@@ -63,44 +66,58 @@ module _ (prelude : Result Codes Fault) (read : AreRead prelude) where
           (λ records m. next d h sound users records m)
 
   module _ (files : Paths) (roots : List (List ℕ)) (path : List ℕ) where
-    -- where loading ends
-    ends : (found : Found) (s : Loading) → load files roots path ≡ Ok (found, s) → Told Any (text_of prelude (Ok (found, s)))
-    unfolding text_behind
-    ends found s h =
+    -- where loading ends: what comes of the records and the program's is told
+    ends : {X : Type 0} (found : Found) (s : Loading) → load files roots path ≡ Ok (found, s) → (last : List LibRecord → LibRecord → Result X Fault)
+        → ((records : List LibRecord) (program : LibRecord) → Told Any (last records program))
+        → Told Any (all_records prelude s.done >>= (λ records. expand_found prelude records found (program_body found.opened.«data») >>= (λ program. last records program)))
+    ends found s h last told =
         let l = loads_all files roots path found s h in
-        records-told s l.sound (users-all files roots path found s h) (λ records. expand_found prelude records found (program_body found.opened.«data») >>= (λ program. planned_text records program))
+        records-told s l.sound (users-all files roots path found s h) (λ records. expand_found prelude records found (program_body found.opened.«data») >>= (λ program. last records program))
         (λ d first sound users records m. program d first sound users records m)
       where
         closed : NeedsAreClosed s.done found
         closed = (loads_all files roots path found s h).stands.closed
 
         program : (d : LibRecord) (first : IsFirst d) (sound : IsSound s) (users : AllUsers s.done) (records : List LibRecord) → AreMade prelude read s sound users d first records
-            → Told Any (expand_found prelude records found (program_body found.opened.«data») >>= (λ program. planned_text records program))
+            → Told Any (expand_found prelude records found (program_body found.opened.«data») >>= (λ program. last records program))
         program d first sound users records m =
             let is = program_name files roots path found s h in
-            told-then (λ r. Unit {0}) Any (expand_found prelude records found (program_body found.opened.«data»)) (λ program. planned_text records program)
+            told-then (λ r. Unit {0}) Any (expand_found prelude records found (program_body found.opened.«data»)) (λ program. last records program)
             (subst (λ (rs : List LibRecord). Told (λ r. Unit {0}) (expand_found prelude rs found (program_body found.opened.«data»))) (sym m.parts)
             (any (IsItsRecord s sound users d first m.others found) (expand_found prelude (d ∷ m.others) found (program_body found.opened.«data»))
             (found-told prelude read s sound users d first m.others m.made found closed (program-new s sound users d first.stands first.behind m.others m.made found closed found.opened.form.name is)
             (no-text-program found.opened.form.name is) (program_body found.opened.«data»))))
-            (λ r g. as-told (planned_text records r) (text-other records (plan_of records r) r))
+            (λ r g. told records r)
           where
             any : (P : LibRecord → Type 0) (x : Result LibRecord Fault) → Told P x → Told (λ r. Unit {0}) x
             any P (Ok r) k = tt
             any P (Err f) k = k
 
+    text-told : (found : Found) (s : Loading) → load files roots path ≡ Ok (found, s) → Told Any (text_behind prelude s.done found)
+    unfolding text_behind
+    text-told found s h = ends found s h planned_text (λ records r. as-told (planned_text records r) (text-other records (plan_of records r) r))
+
+    map-told : (found : Found) (s : Loading) → load files roots path ≡ Ok (found, s) → Told Any (map_behind prelude s.done found s.sources)
+    map-told found s h =
+        told-then (λ links. Unit {0}) Any (links_behind prelude s.done found) _
+        (links-told prelude s.done found (ends found s h (λ records program. Ok tt) (λ records program. tt))) (λ links k. tt)
+
+    by-kind : (kind : Kind) (found : Found) (s : Loading) → load files roots path ≡ Ok (found, s) → Told Any (text_behind_by kind prelude s.done found s.sources)
+    by-kind Core found s h = text-told found s h
+    by-kind Xref found s h = map-told found s h
+
     -- where it stops
-    stops : (s : Loading) (f : Fault) → load files roots path ≡ Err (s, f) → Told Any (text_of prelude (Err (s, f)))
+    stops : (s : Loading) (f : Fault) → load files roots path ≡ Err (s, f) → Told Any (fault_behind prelude s.done f)
     unfolding fault_behind
     stops s f h =
         records-told s (loads_until files roots path s f h) (users-until files roots path s f h) (λ records. Err f)
         (λ d first sound users records m. other-loading f.kind (subst (λ (r : Loads (Found × Loading)). LoadTells IsOfLoading r) h (loading-tells files roots path)))
 
-    any-run : Told Any (text_of prelude (load files roots path))
-    any-run = by (load files roots path) refl
+    any-run : (kind : Kind) → Told Any (text_by kind prelude (load files roots path))
+    any-run kind = by (load files roots path) refl
       where
-        by : (x : Loads (Found × Loading)) → load files roots path ≡ x → Told Any (text_of prelude x)
-        by (Ok l) h = ends l.0 l.1 h
+        by : (x : Loads (Found × Loading)) → load files roots path ≡ x → Told Any (text_by kind prelude x)
+        by (Ok l) h = by-kind kind l.0 l.1 h
         by (Err e) h = stops e.0 e.1 h
 
 -- the texts of the prelude come to the codes that are written out
@@ -108,12 +125,12 @@ pub texts-read : AreRead prelude_table
 texts-read = subst AreRead (sym table-is-written) written-texts
 
 pub runs-never-stuck : RunsNeverStuck
-runs-never-stuck files roots path = tells (text_of prelude_table (load files roots path)) (any-run prelude_table texts-read files roots path)
+runs-never-stuck kind files roots path = tells (text_by kind prelude_table (load files roots path)) (any-run prelude_table texts-read files roots path kind)
 
 -- ---- the whole
 
 module _ (files : Paths) (job : Job) where
-  outcome-other : (s : Loading) (r : Result (List ℕ) Fault) → text_of prelude_table (load files job.roots job.program) ≡ r → Tells IsOther r → TellsOther files job (outcome_of job.report s r)
+  outcome-other : (s : Loading) (r : Result (List ℕ) Fault) → text_by job.kind prelude_table (load files job.roots job.program) ≡ r → Tells IsOther r → TellsOther files job (outcome_of job.report s r)
   outcome-other s (Ok text) e h = tt
   outcome-other s (Err f) e h = record { told = f; gives = e; other = h; source = source_of s.sources f.span.file; is = refl }
 
@@ -121,7 +138,7 @@ module _ (files : Paths) (job : Job) where
   unfolding of_job
   job-other =
       let loaded = load files job.roots job.program in
-      outcome-other (loading_of loaded) (text_of prelude_table loaded) refl (runs-never-stuck files job.roots job.program)
+      outcome-other (loading_of loaded) (text_by job.kind prelude_table loaded) refl (runs-never-stuck job.kind files job.roots job.program)
 
 -- the line of a fault is kept where a text is summed up
 summed-other : (files : Paths) (job : Job) (count : ℕ) (o : Outcome) → TellsOther files job o → TellsOther files job (summed count o)

@@ -14,3 +14,4 @@ pub mod Stuck
 pub mod Hygienic
 pub mod Transformers
 pub mod Nested
+pub mod Mapped

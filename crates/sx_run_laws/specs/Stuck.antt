@@ -3,29 +3,29 @@ use Rattle.std.specs.Prelude.{◌≡◌, ℕ, List, Err}
 use Rattle.sx_base.specs.FaultLine.{fault_line}
 use Rattle.sx_base.specs.declared.fault.Fault.{Fault}
 use Rattle.sx_base.specs.declared.fault.FaultKind.{FaultKind}
-use Rattle.sx_base.specs.declared.fault.FaultKind.TheVariants as kind
+use Rattle.sx_base.specs.declared.fault.FaultKind.TheVariants as kinds
 use Rattle.sx_given_laws.specs.Texts.{written_table}
 use Rattle.sx_kind_laws.specs.Kinds.{Tells}
-use Rattle.sx_library.specs.Loaded.{text_of}
 use Rattle.sx_load.specs.Load.{load}
 use Rattle.sx_outside.specs.Contents.{Paths}
 use Rattle.sx_prelude.specs.Prelude.{prelude_table}
 use Rattle.sx_make.specs.Made.{made_files}
-use Rattle.sx_run.specs.Whole.{Outcome, usage, done, fault, made_job, whole}
+use Rattle.sx_run.specs.Whole.{Outcome, usage, done, fault, text_by, made_job, whole}
 use Rattle.sx_run.specs.Words.{words_asked}
 use Rattle.sx_steady_laws.specs.Libraries.{AreTexts}
 use Rattle.sx_words.specs.declared.job.Job.{Job}
+use Rattle.sx_words.specs.declared.job.Kind.{Kind}
 use Rattle.sx_words.specs.declared.words.Words.{Words}
 use Rattle.sx_words.specs.declared.words.Words.TheVariants.{Expand, Make, Usage}
 
 -- any kind but that of cells that don't fit
 abbrev pub IsOther : FaultKind → Type 0
-IsOther k = k ≡ kind.Stuck → ⊥
+IsOther k = k ≡ kinds.Stuck → ⊥
 
 -- The line of the fault of a job, which is of another kind.
 pub record IsLineOfOther (files : Paths) (job : Job) (line : List ℕ) : Type 0 where
   pub told : Fault
-  pub gives : text_of prelude_table (load files job.roots job.program) ≡ Err told
+  pub gives : text_by job.kind prelude_table (load files job.roots job.program) ≡ Err told
   pub other : IsOther told.kind
   pub source : List ℕ
   pub is : line ≡ fault_line told source
@@ -45,9 +45,10 @@ AskedTellsOther files Usage outcome = outcome ≡ usage
 abbrev pub WrittenTextsAreTexts : Type 0
 WrittenTextsAreTexts = AreTexts written_table
 
--- Whatever the files hold, a program has a core text, or is at fault in another way: where loading ends and where it stops.
+-- Whatever the files hold, a program has a core text and a binding map, or is at fault in another way: where loading ends and
+-- where it stops.
 abbrev pub RunsNeverStuck : Type 0
-RunsNeverStuck = (files : Paths) (roots : List (List ℕ)) (path : List ℕ) → Tells IsOther (text_of prelude_table (load files roots path))
+RunsNeverStuck = (kind : Kind) (files : Paths) (roots : List (List ℕ)) (path : List ℕ) → Tells IsOther (text_by kind prelude_table (load files roots path))
 
 -- so whatever the files and the words
 abbrev pub WholeNeverStuck : Type 0

@@ -21,7 +21,8 @@
 
 ghost use Rattle.sx_run_laws.specs.Written.{RunsAreWrittenOnce};
 
-/// The text that a run writes is closed, and bound once, by the names in it.
+/// In the text that a run writes each name of a variable is defined there or bound around its place,
+/// and no two binders have one name.
 pub fn a_written_text_is_closed_and_bound_once_by_name()
     ensures { RunsAreWrittenOnce }
 {}

@@ -32,8 +32,8 @@
 
 ghost use Rattle.sx_run_laws.specs.Following.{RecordsFollowInRuns, RunsNameOnce, RunsMentionTheKnown};
 
-/// In a run each record follows those of the derived library and of the libraries that its library needs, and it follows all that
-/// were made before it.
+/// In a run each record follows those of the derived library and of the libraries that its library
+/// needs, and all that were made before it.
 pub fn records_follow_in_runs()
     ensures { RecordsFollowInRuns }
 {}

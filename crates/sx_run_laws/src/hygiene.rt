@@ -24,14 +24,15 @@
 
 ghost use Rattle.sx_run_laws.specs.Hygienic.{CodesHaveNoLeaves, FormsWereRead, PartsAreHygienic, RunsAreHygienic};
 
-/// The codes of the texts have no leaves, and the forms of files have blank ones.
+/// The codes of the texts in Scheme have no identifiers, and the forms of a file have neither marks nor
+/// stamps.
 pub fn nothing_is_marked_before()
     ensures codes { CodesHaveNoLeaves }
     ensures forms { FormsWereRead }
 {}
 
-/// In every run the record of the derived library, of each library that was loaded, and of the program is hygienic; and in
-/// a part of a run, as far as it came, each that was made.
+/// In every run the lines, keywords' expressions and exports of each record name what their identifiers
+/// stood for, by both sentences of hygiene; so do those of each record that was made before a fault.
 pub fn runs_are_hygienic()
     ensures runs { RunsAreHygienic }
     ensures parts { PartsAreHygienic }

@@ -35,8 +35,8 @@
 //!
 //! More stand in modules of their own: `by_name`, that the text is closed and bound once by the names in it; `follow`,
 //! that the records follow one another; `memory`, that want of memory hides no other cause; `spelled`, that the text is spelled by the
-//! grammar of core text; `readable`, that each constant in it, and the whole text, is read back; `hygiene`, that each record is hygienic; and
-//! `stuck`, that no run ends with the fault of cells that don't fit.
+//! grammar of core text; `readable`, that each constant in it, and the whole text, is read back; `hygiene`, that each record is hygienic;
+//! `stuck`, that no run ends with the fault of cells that don't fit; and `maps`, that a binding map has the faults of core text.
 //!
 //! Nothing is computed here: each function stands for the law that it ensures.
 #![tactic(auto)]
@@ -44,6 +44,7 @@
 pub mod by_name;
 pub mod follow;
 pub mod hygiene;
+pub mod maps;
 pub mod memory;
 pub mod readable;
 pub mod spelled;
@@ -51,7 +52,8 @@ pub mod stuck;
 
 ghost use Rattle.sx_run_laws.specs.Run.{RecordsStand, RunsAreClosedOnce};
 
-/// Each record of a run stands behind those that its library needs, and no two have one name.
+/// Each record of a run is good for the records that its library needs, has an index for each variable
+/// and at most 2,404 levels, and no two records have one name.
 pub fn records_stand()
     ensures { RecordsStand }
 {}

@@ -42,7 +42,7 @@ pub fn expansion_binds_once()
     ensures records { RecordsAreOnceOver }
 {}
 
-/// No label is bound that is made later: the next name of a library is that of no label that is bound.
+/// The next name of a library is that of no label that is bound.
 pub fn new_labels_are_unbound()
     ensures forms { NewLabelsAreUnbound }
     ensures starts { StartsAreNumbered }
@@ -55,8 +55,8 @@ pub fn runs_fit()
     ensures starts { ExpansionsBegin }
 {}
 
-/// So it is of a run that is at fault, as far as it came, and also where loading stopped: the records that were made fit, and the
-/// expansion that begins next, whatever comes of it, begins so.
+/// Of a run at fault, as far as it came, the records that were made fit into the tables of the run, and
+/// the expansion that begins next has a new frame and names that come once.
 pub fn parts_fit()
     ensures records { PartsFit }
     ensures next { PartsBegin }
@@ -64,9 +64,9 @@ pub fn parts_fit()
     ensures derived { DerivedBegins }
 {}
 
-/// In a whole state each transformer that is kept has its procedure, a variable transformer in its cell, and so has the one that a use
-/// asks for. A use whose transformer had none would be at fault as one that got stuck. Whatever form, or body of a library or program, is
-/// expanded in such a state, leaves one, or is at fault in another way. So no use that leads there finds no cell.
+/// In a whole state each transformer that is kept has its procedure, and a form, a body or a library
+/// that is expanded in such a state leaves one, or is at fault in another way than by a missing
+/// procedure.
 pub fn kept_transformers_have_cells()
     ensures states { WholeStatesHaveProcedures }
     ensures uses { UsesFindProcedures }
@@ -75,8 +75,8 @@ pub fn kept_transformers_have_cells()
     ensures bodies { BodiesStayWhole }
 {}
 
-/// Every expansion of a run begins in a whole state: that of the derived library, of each library, and of the program, as far as a run came,
-/// also where it is at fault.
+/// Every expansion of a run, that of the derived library, of each library and of the program, begins in
+/// a whole state, also where the run is at fault.
 pub fn expansions_begin_whole()
     ensures starts { StartsAreWhole }
     ensures next { PartsStartWhole }
@@ -84,8 +84,8 @@ pub fn expansions_begin_whole()
     ensures derived { DerivedStartsWhole }
 {}
 
-/// So does what is begun inside a form, a procedure, a body or a form of a body: directly in it, each form begins in a whole state, and a form of
-/// a body with a frame of the library, also before a fault. There the next name is of the library, and of no label that is bound.
+/// What is begun directly in a form, a procedure, a body or a form of a body begins in a whole state,
+/// in which the next name is of the library and of no label that is bound, also before a fault.
 pub fn nested_forms_begin_whole()
     ensures forms { FormsBeginWhole }
     ensures procedures { ProceduresBeginWhole }

@@ -23,7 +23,7 @@ ghost use Rattle.sx_run_laws.specs.Readable.{PreludeIsReadable, RunsAreReadable,
 
 use sx_core_grammar::{core_text_is_read_back, core_text_tells_its_lines};
 
-/// All constants in the codes of the texts that this implementation has can be read.
+/// All constants in the codes of the texts in Scheme can be read.
 pub fn codes_of_texts_can_be_read()
     ensures { PreludeIsReadable }
 {}
@@ -45,7 +45,8 @@ pub fn the_text_of_a_run_is_read_back()
     core_text_is_read_back();
 }
 
-/// Two runs with one text have the same lines but for their variables, and these have the same names.
+/// Two runs with one text have the same lines, once each variable is replaced by its name and spans and
+/// the numbers of procedures are left out.
 pub fn the_text_of_a_run_tells_its_lines()
     ensures { TextsTellTheirLines }
 {

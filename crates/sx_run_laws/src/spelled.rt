@@ -25,20 +25,22 @@ ghost use Rattle.sx_run_laws.specs.Spelled.{RunsAreSpelled, RunsAreReadBack, Run
 
 use sx_core_grammar::{core_text_is_read_back, core_text_tells_its_lines};
 
-/// In a run that gives a text, each line has names for its variables, expressions of their forms, and no keyword for a primitive. Its
-/// names are generated ones. So each line has a spelling.
+/// In a run that gives a text each line has a spelling by the grammar of core text: its variables have
+/// generated names, its forms their parts, and no primitive is a keyword.
 pub fn core_text_of_a_run_is_spelled()
     ensures { RunsAreSpelled }
 {}
 
-/// The text of a run is read as `(import (rnrs))` and one datum for each line, which spells it, where the constants of lines can be read.
+/// The text of a run is read as `(import (rnrs))` and one datum for each line, which spells it, if the
+/// constants of its lines can be read.
 pub fn a_run_is_read_back()
     ensures { RunsAreReadBack }
 {
     core_text_is_read_back();
 }
 
-/// Two runs with one text have the same lines but for their variables, and these have the same names.
+/// Two runs with one text whose constants can be read have the same lines, once each variable is
+/// replaced by its name and spans and the numbers of procedures are left out.
 pub fn core_text_of_a_run_tells_its_lines()
     ensures { RunsTellTheirLines }
 {

@@ -1,9 +1,9 @@
 //! No run gets stuck.
 //!
-//! A run loads a program with all that it imports, expands one library after another, and writes the core text. On
-//! the way it evaluates: transformers, and libraries on demand. For cells of an evaluation that don't fit the
-//! definition has a fault of its own, `Stuck`, so that the contracts of the code need to ask nothing of the cells.
-//! Here it is told that no run ends with it, whatever the files hold and whatever the words are:
+//! A run loads a program with all that it imports, expands one library after another, and writes the core text or
+//! the binding map. On the way it evaluates: transformers, and libraries on demand. For cells of an evaluation that
+//! don't fit the definition has a fault of its own, `Stuck`, so that the contracts of the code need to ask nothing of
+//! the cells. Here it is told that no run ends with it, whatever the files hold and whatever the words are:
 //!
 //! ```text
 //! (import (rnrs) (util stack))                       a program
@@ -26,18 +26,20 @@
 
 ghost use Rattle.sx_run_laws.specs.Stuck.{RunsNeverStuck, WrittenTextsAreTexts, WholeNeverStuck};
 
-/// A program has a core text, or a fault other than that of cells that don't fit.
+/// Whatever the files hold, a program has a core text and a binding map, or a fault other than that of
+/// cells that don't fit.
 pub fn no_run_gets_stuck()
     ensures { RunsNeverStuck }
 {}
 
-/// The codes of the texts of the prelude, as they are written out in sx_given_laws, are closed, well made and named once, and each
-/// gives a procedure: so a world that has them is whole.
+/// The codes that `sx_given_laws` writes out for the texts in Scheme are closed, well made and numbered
+/// once, and each gives a procedure: so a world that has them is whole.
 pub fn texts_make_a_whole_world()
     ensures { WrittenTextsAreTexts }
 {}
 
-/// For all files and words the whole gives the usage, a text, or the line of such a fault.
+/// For all files and words the whole gives the usage line, a text, or the line of a fault other than
+/// that of cells that don't fit.
 pub fn the_whole_never_gets_stuck()
     ensures { WholeNeverStuck }
 {}

@@ -15,19 +15,21 @@ ghost use Rattle.sx_frames.specs.Scope.{Scope, label_at, with_row};
 ghost use Rattle.sx_scope.specs.Same.{same_binder, meaning, same_binding};
 ghost use Rattle.sx_scope.specs.Stands.{symbol_of, stands, is_for};
 
-/// A leaf stands for a label exactly where that label is the answer.
+/// Whether an identifier stands for a given label is answered yes exactly if that is the label that it
+/// stands for.
 pub fn one_label_is_the_answer()
     ensures { (fs : Scope) (t : Tree) (l : Label) → IsTrue (is_for l (stands fs t)) ↔ (stands fs t ≡ Some l) }
 {}
 
-/// Leaves have one binding exactly where they mean the same, so this is an equivalence.
+/// `free-identifier=?` holds exactly of identifiers that mean the same: one label, or no label and one
+/// symbol. So it is an equivalence.
 pub fn one_binding_is_one_meaning()
     ensures meaning { (fs : Scope) (a b : Tree) → IsTrue (same_binding fs a b) ↔ (meaning fs a ≡ meaning fs b) }
     ensures equivalence { (fs : Scope) → IsEquivalence (same_binding fs) }
 {}
 
-/// One binder has one row in every frame. So two leaves with one binder have one binding where they
-/// have the same stamps; without that they may not, as one of them may lie outside a frame.
+/// Identifiers that are `bound-identifier=?` have one row in every frame. With the same stamps they are
+/// `free-identifier=?`, too; otherwise one of them may be outside a frame that binds the other.
 pub fn one_binder_is_one_row()
     ensures rows { (fs : Scope) (f : FrameNo) (a b : Tree) → IsTrue (same_binder a b) →
         label_at fs f (symbol_of a) (marks_of a) ≡ label_at fs f (symbol_of b) (marks_of b) }
@@ -35,13 +37,13 @@ pub fn one_binder_is_one_row()
     ensures equivalence { IsEquivalence same_binder }
 {}
 
-/// A bind changes what no leaf stands for whose stamps don't name its frame.
+/// A bind affects only identifiers stamped with its frame.
 pub fn a_bind_stays_in_its_frame()
     ensures { (fs : Scope) (f : FrameNo) (r : Row) (t : Tree) → Avoids f (stamps_of t) → stands (with_row fs f r) t ≡ stands fs t }
 {}
 
-/// Only which marks are the same matters: to give the marks of leaves and frames other names, one to
-/// one, changes no answer.
+/// To give the marks of identifiers and frames other names, one to one, changes nothing of what the
+/// identifiers stand for and of which are the same.
 pub fn names_of_marks_are_free()
     ensures stands { (r : Mark → Mark) → IsOneToOne r → (fs : Scope) (t : Tree) → stands (renamed_scope r fs) (renamed r t) ≡ stands fs t }
     ensures binding { (r : Mark → Mark) → IsOneToOne r → (fs : Scope) (a b : Tree) →

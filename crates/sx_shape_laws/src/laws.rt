@@ -13,9 +13,9 @@ pub fn shapes_are_the_grammar()
     ensures others { OthersAreBad }
 {}
 
-/// A form of records comes to the definitions that it stands for by the cases of the libraries report: what the procedures
-/// of 6.3 are called with, under which names, and what a clause that is left out stands for. It stands for what it comes to,
-/// and any other is `BadForm`: at the form, or at one of its clauses.
+/// A form of records expands exactly to the definitions that it stands for by the cases of the
+/// libraries report: the calls of the procedures of 6.3, under which names, with what a missing clause
+/// stands for. Any other is `BadForm`, at the form or at one of its clauses.
 pub fn record_forms_are_those_of_the_report()
     ensures written { RecordTypesAreDefined }
     ensures found { DefinitionsAreStoodFor }

@@ -8,8 +8,8 @@ ghost use Rattle.sx_shapes.specs.declared.shape.Shape.{Shape};
 ghost use Rattle.sx_shapes.specs.Forms.{shape};
 ghost use Rattle.sx_shapes.specs.Written.{head_of, form_written};
 
-/// The parts of a form, written as R6RS's grammar writes them behind the head, are the form itself,
-/// spans apart. So nothing of a form is lost, and nothing stands in another part than its own.
+/// The parts of a core form, written as R6RS's grammar writes them after the keyword, are the form
+/// itself but for spans: nothing is lost, and each part has its own place.
 pub fn parts_are_the_form()
     ensures { (f : CoreForm) (t : Tree) (place : Span) (s : Shape) → shape f t place ≡ Ok s → unspanned (form_written (head_of t) s) ≡ unspanned t }
 {}

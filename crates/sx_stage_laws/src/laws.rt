@@ -4,15 +4,15 @@ ghost use Rattle.sx_stage_laws.specs.Grows.{BeginGrows, FinishGrows, ValueGrows,
 ghost use Rattle.sx_stage_laws.specs.Uses.{UsesDropCells, KeptUsesOnlyCount};
 ghost use Rattle.sx_stage_laws.specs.Reached.{WantedAreReached, ReachedAreWanted, EvaluatedInOrder, StaysClosed, ReachedAreEvaluated};
 
-/// The cells after a use are those with which the transformer was called. Where it was kept before, nothing
-/// changes but the names that are taken and the fuel that is spent.
+/// The cells after a use of a macro are those with which its transformer was called; where that was
+/// kept before, nothing changes but the names that are taken and the fuel that is spent.
 pub fn uses_drop_their_cells()
     ensures cells { UsesDropCells }
     ensures kept { KeptUsesOnlyCount }
 {}
 
-/// No call forgets a cell that it found, a library that was evaluated or a transformer that was kept, or gives
-/// a name free. A keyword begins and is finished before it is kept.
+/// No call on the stage forgets a cell that it found, a library that was evaluated or a transformer
+/// that was kept, or frees a name.
 pub fn nothing_is_forgotten()
     ensures begins { BeginGrows }
     ensures finishes { FinishGrows }
@@ -21,9 +21,8 @@ pub fn nothing_is_forgotten()
     ensures uses { UseGrows }
 {}
 
-/// The libraries that are wanted for an expression are those to which a chain of references leads. They are
-/// evaluated in the order of loading, unless the first links of all chains were. So each record that a chain
-/// reaches is evaluated then, if what was evaluated was closed under references, and it is closed afterwards.
+/// The libraries that are evaluated for an expression are those to which a chain of references leads,
+/// in the order of loading, unless the first links of all chains were evaluated before.
 pub fn libraries_on_demand()
     ensures reached { WantedAreReached }
     ensures wanted { ReachedAreWanted }

@@ -2,13 +2,14 @@
 
 ghost use Rattle.sx_steady_laws.specs.Libraries.{ExpansionsNeverStuck, RecordsStandBehind, MoreStandBefore};
 
-/// No expansion of a library or program ends with the fault of cells that don't fit.
+/// No expansion of a library or program ends with the fault of cells that don't fit, if the records
+/// before it stand behind one another and the codes of the texts are whole.
 pub fn no_expansion_gets_stuck()
     ensures { ExpansionsNeverStuck }
 {}
 
-/// The record that it gives stands behind the records before it, and one that stands behind some stands behind
-/// more. So one library after another is expanded without getting stuck.
+/// The record that such an expansion gives stands behind the records before it, and one that stands
+/// behind some records stands behind more.
 pub fn records_stand_behind()
     ensures records { RecordsStandBehind }
     ensures more { MoreStandBefore }

@@ -3,14 +3,14 @@
 ghost use Rattle.sx_stuck_laws.specs.Kinds.{EvaluationsTellOther};
 ghost use Rattle.sx_stuck_laws.specs.Uses.{UsesNeverStuck, TransformersNeverStuck, AsksNeverStuck, BeginsNeverStuck, FinishesNeverStuck};
 
-/// Whatever the world, an evaluation that ends with a fault ends with another one than that of cells that don't
-/// fit.
+/// Whatever the world, an evaluation that ends with a fault ends with another one than that of cells
+/// that don't fit.
 pub fn evaluations_tell_other_faults()
     ensures { EvaluationsTellOther }
 {}
 
-/// On a steady stage no use of a keyword gets stuck, and the stage is steady afterwards. So it is where a keyword
-/// is asked for its transformer or for its kind, and where an own keyword begins and is finished.
+/// On a stage whose code is ready no use of a macro gets stuck, and the stage is so afterwards; nor is
+/// it where a keyword is bound, or asked for its transformer or its kind.
 pub fn uses_never_get_stuck()
     ensures uses { UsesNeverStuck }
     ensures transformers { TransformersNeverStuck }

@@ -160,7 +160,7 @@ impl LeafStamps {
         }
     }
 
-    /// All of them.
+    /// All stamps of the list, the newest first.
     pub fn all(&self, alloc: Global) -> Result<Vec<Stamp>, Memory>
         ensures { IfOk result (λ v. v.items ≡ self.now) }
     {

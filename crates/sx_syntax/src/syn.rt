@@ -264,7 +264,7 @@ impl Syn {
         context.stamps()
     }
 
-    /// The same, as a list.
+    /// The stamps of a leaf as a list, the newest first.
     pub fn stamps(&self, alloc: Global) -> Result<Vec<Stamp>, Memory>
         ensures { IfOk result (λ v. v.items ≡ stamps_of self.now) }
     {

@@ -18,12 +18,13 @@ ghost use Rattle.sx_table_laws.specs.Derived.{DerivedIsWritten};
 ghost use Rattle.sx_table_laws.specs.Kept.{OthersAreEscaped};
 ghost use Rattle.sx_table_laws.specs.Prelude.{TextsAreWritten};
 
-/// The keywords that expansion itself knows are those that are written out, under their report names.
+/// The keywords that expansion itself knows are those that are written out here, under their report
+/// names.
 pub fn core_forms_are_written()
     ensures { FormsAreWritten }
 {}
 
-/// Each of them is found by its place and by its number.
+/// Each keyword that expansion itself knows is found by its place and by its number.
 pub fn core_forms_are_found()
     ensures { FormsAreFound }
 {}
@@ -38,7 +39,8 @@ pub fn derived_is_written()
     ensures { DerivedIsWritten }
 {}
 
-/// Of the name of a library, letters and digits of ASCII and six signs stand in the name of its file as they are.
+/// Of a part of a library's name exactly the ASCII letters, digits and `- _ + ! ? *` are in the file's
+/// name as they are.
 pub fn others_are_escaped()
     ensures { OthersAreEscaped }
 {}

@@ -19,29 +19,30 @@ ghost use Rattle.sx_template_laws.specs.Ready.{Ready};
 ghost use Rattle.sx_template_laws.specs.Repeating.{variables, Distinct, IsRepeat, GivesBack};
 ghost use Rattle.sx_template_laws.specs.Renaming.{renamed_template, renamed_absent, renamed_made};
 
-/// No variable is missing where all are bound to their depths: what stands for an absent one doesn't show.
+/// Where each variable of a template is bound to its depth, what would stand for a missing one doesn't
+/// show in the instance.
 pub fn no_variable_is_missing()
     ensures { (a b : Absent) (binds : Binds) (t : PlainTemplate) (cells : List Cell) → Ready binds 0 t →
         instance a binds t [] cells ≡ instance b binds t [] cells }
 {}
 
-/// To give the marks of binds, template and cells other names gives those of the instance these names,
-/// and changes nothing else.
+/// To give the marks of binds, template and cells other names gives the instance these names, and
+/// changes nothing else.
 pub fn names_of_marks_are_free()
     ensures { (r : Mark → Mark) (a : Absent) (binds : Binds) (t : PlainTemplate) (cells : List Cell) →
         instance (renamed_absent r a) (map (renamed_row r) binds) (renamed_template r t) [] (map (renamed_cell r) cells)
         ≡ renamed_made r (renamed_value r) (instance a binds t [] cells) }
 {}
 
-/// A template that repeats its pattern gives back what was matched, as data, and is never at fault.
+/// A template that repeats the pattern of a match gives back what was matched, as data, and is never at
+/// fault.
 pub fn a_repeated_pattern_gives_back_what_it_took()
     ensures { (a : Absent) (fs : Scope) (cells : List Cell) → Whole cells → (p : PlainPattern) (v : Value) → FitsIn cells v → (f : Found) →
         matched fs cells p v (nothing 0) ≡ Some f → (t : PlainTemplate) → IsRepeat 0 p t → Distinct (variables p) →
         GivesBack fs cells v cells (instance a f.binds t [] cells) }
 {}
 
-/// What is measured before an instance is made is what the cells of the instance cost, or the fault that it
-/// has.
+/// What is measured of an instance before it is made is what its cells cost, or the fault that it has.
 pub fn what_is_measured_is_what_it_costs()
     ensures { (a : Absent) (binds : Binds) (t : PlainTemplate) (cells : List Cell) → Tells cells (measure a binds t []) (instance a binds t [] cells) }
 {}

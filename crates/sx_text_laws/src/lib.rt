@@ -27,7 +27,8 @@
 
 ghost use Rattle.sx_text_laws.specs.Text.{TextIsClosedOnce};
 
-/// The text of a run is closed, no label has two binders in it, and no two of its variables share library and
+/// The records of the planned libraries and the program's, each closed and bound once after those that
+/// it needs, make a text that is closed and bound once, in which no two variables share library and
 /// index.
 pub fn a_text_is_closed_and_bound_once()
     ensures { TextIsClosedOnce }

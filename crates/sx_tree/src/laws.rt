@@ -13,24 +13,26 @@ ghost use Rattle.sx_tree.specs.Leaves.{tree_of, strip, contexts};
 ghost use Rattle.sx_tree.specs.Renaming.{IsOneToOne, renamed, renamed_change};
 ghost use Rattle.sx_tree.specs.declared.change.Change.{Change};
 
-/// A leave right after an enter of its own mark gives the tree itself, whatever frame is given.
+/// To leave a tree with a mark right after entering it with the same mark gives the tree itself,
+/// whatever frame is given.
 pub fn leave_takes_enter_back()
     ensures { (m : Mark) (f : Option FrameNo) (t : Tree) → leave m f (enter m t) ≡ t }
 {}
 
-/// Changes one after another are the changes together.
+/// To make some changes of a tree and then others is to make all of them in a row.
 pub fn changes_compose()
     ensures { (xs ys : List Change) (t : Tree) → changed (xs ++ ys) t ≡ changed ys (changed xs t) }
 {}
 
-/// The size of a list or vector is 1 and the sizes of its parts, a tail that isn't Nil included.
+/// The size of a list or vector is 1 more than the sizes of its parts together, a last cdr that isn't
+/// `()` included.
 pub fn sizes_are_those_of_lists()
     ensures list { (s : Option Span) (x : Tree) (xs : List Tree) (t : Tree) → is_pair t ≡ false →
         size (spanned s (chain (x ∷ xs) t)) ≡ 1 + sum_by size ((x ∷ xs) ++ tail_part t) }
     ensures vector { (s : Option Span) (xs : List Tree) → size (vector s (chain xs nil)) ≡ 1 + sum_by size xs }
 {}
 
-/// The height of a list or vector is 1 more than the greatest of its parts.
+/// The height of a list or vector is 1 more than the greatest height of its parts.
 pub fn heights_are_those_of_lists()
     ensures list { (s : Option Span) (x : Tree) (xs : List Tree) (t : Tree) → is_pair t ≡ false →
         height (spanned s (chain (x ∷ xs) t)) ≡ 1 + greatest (map height ((x ∷ xs) ++ tail_part t)) }
@@ -38,26 +40,26 @@ pub fn heights_are_those_of_lists()
         height (vector s (chain xs nil)) ≡ 1 + greatest (map height xs) }
 {}
 
-/// Marks and stamps change neither size nor height.
+/// Marks and stamps change neither the size nor the height of a tree.
 pub fn changes_keep_measures()
     ensures size { (xs : List Change) (t : Tree) → size (changed xs t) ≡ size t }
     ensures height { (xs : List Change) (t : Tree) → height (changed xs t) ≡ height t }
 {}
 
-/// Changes act on every leaf alike, and on nothing else: the contexts of the leaves change one by one,
-/// and what is left without marks and stamps is as before.
+/// Changes act on every leaf of a tree alike, and on nothing else: the contexts of the leaves change
+/// one by one, and the tree without marks and stamps is as before.
 pub fn changes_act_on_every_leaf()
     ensures leaves { (xs : List Change) (t : Tree) → contexts (changed xs t) ≡ map (acts xs) (contexts t) }
     ensures rest { (xs : List Change) (t : Tree) → strip (changed xs t) ≡ strip t }
 {}
 
-/// To make a tree of a datum and strip it gives the datum back, whatever the context of its leaves.
+/// To make a tree of a datum, with any context for its leaves, and to strip it gives the datum back.
 pub fn strip_gives_the_datum_back()
     ensures { (c : LeafContext) (d : PlainDatum) → strip (tree_of c d) ≡ d }
 {}
 
-/// Only which marks are the same matters: to give the marks other names, one to one, before or after
-/// changes is the same.
+/// To give the marks of a tree other names, one to one, before some changes or after them gives the
+/// same tree.
 pub fn names_of_marks_are_free()
     ensures changes { (r : Mark → Mark) → IsOneToOne r → (xs : List Change) (t : Tree) →
         renamed r (changed xs t) ≡ changed (map (renamed_change r) xs) (renamed r t) }

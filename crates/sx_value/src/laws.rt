@@ -8,20 +8,21 @@ ghost use Rattle.sx_value.specs.Cells.{Whole, FitsIn};
 ghost use Rattle.sx_value.specs.FromDatum.{stored, Keeps};
 ghost use Rattle.sx_value.specs.ToSyntax.{to_syntax, level, shown};
 
-/// No cells are whole, and the cells of a datum keep whole cells whole. Its value fits in them.
+/// An empty list of cells is whole; to add the cells of a datum to whole cells leaves them whole, and
+/// the datum's value fits in them.
 pub fn data_keep_cells_whole()
     ensures none { Whole [] }
     ensures cells { (d : PlainDatum) (cells : List Cell) → Whole cells → Whole (stored d cells).1 }
     ensures value { (d : PlainDatum) (cells : List Cell) → Whole cells → FitsIn (stored d cells).1 (stored d cells).0 }
 {}
 
-/// The cells of a datum come behind those that are there, which keep their places.
+/// The cells of a datum come after those that are there, which keep their places.
 pub fn data_keep_older_cells()
     ensures { (d : PlainDatum) (cells : List Cell) → Keeps cells (stored d cells).1 }
 {}
 
-/// How a value is read is said by one level of it, and by how its parts are read: that fuel bounds the
-/// levels in the definition doesn't show.
+/// How a value is read as syntax is determined by one level of it and by how its parts are read; that
+/// fuel bounds the levels in the definition doesn't show.
 pub fn a_value_is_read_by_its_parts()
     ensures { (cells : List Cell) (x : Value) (fuel : ℕ) →
         to_syntax cells x fuel ≡ level (to_syntax cells) (shown cells x) fuel }

@@ -1,7 +1,7 @@
 use Rattle.std.proofs.Common.{ℕ, List, ◌∷◌, true, ap, subst, ◌∙◌}
 use Rattle.std.proofs.lemmas.Result.{err_from_is_err_and}
 use Rattle.sx_base.specs.Gives.{Gives}
-use Rattle.sx_core.specs.declared.record.LibRecord.{LibRecord}
+use Rattle.sx_expand.specs.declared.top.Linked.{Linked}
 use Rattle.sx_forms.specs.Form.{program_body}
 use Rattle.sx_forms.specs.declared.form.LibraryForm.{LibraryForm}
 use Rattle.sx_prelude.specs.Prelude.{kept}
@@ -21,7 +21,7 @@ pub returns : goal.returns
 returns g c =
     let opened = c.args.found.opened in
     let again = c.as_slice-2.result.now in
-    subst (Gives (λ (r : LibRecord). r) c.expand_body.result)
+    subst (Gives (λ (l : Linked). l) c.expand_body.result)
     (ap (λ (w : List ℕ × LibraryForm). expand_body (kept c.args.implementation.now.prelude) (needed_records c.args.records.now again) w.0 w.1 c.in_ok-body.body) c.without_data-path.ensures
     ∙ read_given (kept c.args.implementation.now.prelude) c.args.records.now opened.path opened.form c.args.found.needs (program_body opened.«data») c.program_body-data.result.now c.as_slice-2.result.now again c.in_ok-body.body
     (c.as_slice-2.ensures ∙ c.in_ok-marks.ensures ∙ ap (λ ns. true ∷ ns) c.as_slice.ensures) (c.as_slice-2.ensures ∙ c.in_ok-marks.ensures ∙ ap (λ ns. true ∷ ns) c.as_slice.ensures)

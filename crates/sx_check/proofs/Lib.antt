@@ -1,0 +1,10 @@
+mod Effects
+mod Same
+mod WalkLaw
+mod ReadLaw
+mod NamesLaw
+mod LineEnds
+mod LinesLaw
+mod VerdictLaw
+mod RunLaw
+mod Steps

@@ -1,0 +1,11 @@
+pub mod Names
+pub mod Survey
+pub mod Walk
+pub mod Lines
+pub mod Judged
+pub mod Statuses
+pub mod Verdicts
+pub mod Answers
+pub mod Whole
+pub mod Headline
+pub mod Ended

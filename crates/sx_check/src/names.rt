@@ -1,0 +1,78 @@
+//! Sets of names.
+
+ghost use Rattle.std.specs.Prelude.{◌≡◌, [], length, take, OnOk};
+ghost use Rattle.sx_check.specs.Names.{with_name};
+ghost use Rattle.sx_check_grammar.specs.Forms.{has};
+
+use indexmap::IndexSet;
+use std::alloc::Global;
+use std::marker::Model;
+use sx_base::memory::Memory;
+use sx_base::symbol::Symbol;
+
+/// Names, each once, in the order of coming.
+#[derive(Drop)]
+pub struct NameSet {
+    set: IndexSet<Symbol>,
+}
+
+impl Model for NameSet {
+    ghost use Rattle.std.specs.Prelude.{List, ℕ};
+
+    ghost Value = { List (List ℕ) };
+
+    ghost view = { λ n. n.set.keys };
+}
+
+impl NameSet {
+    /// No names. It takes no memory.
+    pub fn new(alloc: Global) -> NameSet
+        ensures { result ≡ [] }
+    {
+        NameSet {
+            set: IndexSet::new(alloc),
+        }
+    }
+
+    /// Whether the name is there.
+    pub fn has(&self, name: &Symbol) -> bool
+        ensures { result ≡ has self.now name.now }
+    {
+        self.set.contains(name)
+    }
+
+    /// Puts the name at the end, where it isn't there.
+    pub fn add(&mut self, name: &Symbol) -> Result<(), Memory>
+        ensures { OnOk result (self.new ≡ with_name self.old name.now) }
+    {
+        if self.set.contains(name) {
+            return Ok(());
+        }
+        let name = name.share()?;
+        match self.set.insert(name) {
+            Ok(_) => Ok(()),
+            Err(_) => Err(Memory),
+        }
+    }
+
+    /// How many names there are.
+    pub fn size(&self) -> usize
+        ensures { result ≡ length self.now }
+    {
+        self.set.len()
+    }
+
+    /// Takes all names away but the first, of which so many stay.
+    pub fn keep(&mut self, size: usize)
+        ensures { self.new ≡ take size self.old }
+    {
+        self.set.truncate(size)
+    }
+
+    /// The names in their order.
+    pub fn as_slice(&self) -> &[Symbol]
+        ensures { result.now ≡ self.now }
+    {
+        self.set.as_slice()
+    }
+}

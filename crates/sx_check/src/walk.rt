@@ -1,0 +1,354 @@
+//! The walk over a form, which keeps the names on its way.
+
+ghost use Rattle.std.specs.Prelude.{◌≡◌, length, IsTrue};
+ghost use Rattle.sx_base.specs.Datum.{chain, elements, nil, is_tail, symbol_text};
+ghost use Rattle.sx_check.specs.Survey.{Takes, IsConstant};
+ghost use Rattle.sx_check.specs.Walk.{is_itself, is_quotation, is_armed, is_row, is_define, formals, last_formal, init_names, expression, expressions, one, assigned, init, procedure, cases, inits, recursive, definition, line_form};
+ghost use Rattle.sx_check.specs.declared.survey.Halt.TheVariants as halt;
+
+use crate::form::{Form, form_of, is_itself, is_quoted, name_in};
+use crate::survey::{Halt, Survey};
+use sx_base::atom::Atom;
+use sx_base::datum::{Datum, Node};
+
+/// Whether there is one datum, which is quoted.
+fn is_quotation(items: &[Datum]) -> bool
+    ensures { result ≡ is_quotation (chain items.now nil) }
+{
+    match items {
+        [] => false,
+        [datum] => is_quoted(datum),
+        [_, _, ..] => false,
+    }
+}
+
+fn constant(atom: &Atom) -> Result<(), Halt>
+    ensures { IsConstant result (is_itself atom.now) }
+{
+    if is_itself(atom) {
+        Ok(())
+    } else {
+        Err(Halt::Refused)
+    }
+}
+
+// How many data there are.
+#[tactic(auto, using(crate::proofs::Same::chain_length))]
+fn count(items: &[Datum]) -> usize
+    ensures { result ≡ length (elements (chain items.now nil)) }
+{
+    items.len()
+}
+
+/// Whether there are as many data as `if` takes.
+fn is_armed(items: &[Datum]) -> bool
+    ensures { result ≡ is_armed (chain items.now nil) }
+{
+    let count = count(items);
+    count == 2 || count == 3
+}
+
+/// Whether there are as many data as a sequence has: one or more.
+fn is_row(items: &[Datum]) -> bool
+    ensures { result ≡ is_row (chain items.now nil) }
+{
+    1 <= count(items)
+}
+
+fn is_define(head: &Datum) -> bool
+    ensures { result ≡ is_define (symbol_text head.now) }
+{
+    match head.as_symbol() {
+        Some(keyword) => keyword.as_str() == "define",
+        None => false,
+    }
+}
+
+/// The end of formals.
+fn last_formal(survey: &mut Survey, tail: &Datum) -> Result<(), Halt>
+    ensures { Takes result survey.new (last_formal tail.now survey.old) }
+{
+    if tail.is_nil() {
+        return Ok(());
+    }
+    let Some(name) = name_in(tail) else {
+        return Err(Halt::Refused);
+    };
+    survey.take_formal(name)?;
+    Ok(())
+}
+
+/// Formals in a list, and its tail.
+fn formals_in(survey: &mut Survey, items: &[Datum], tail: &Datum) -> Result<(), Halt>
+    requires { IsTrue (is_tail tail.now) }
+    ensures { Takes result survey.new (formals (chain items.now tail.now) survey.old) }
+{
+    for item in items {
+        let Some(name) = name_in(item) else {
+            return Err(Halt::Refused);
+        };
+        survey.take_formal(name)?;
+    }
+    last_formal(survey, tail)
+}
+
+/// Formals: `(x ...)`, `(x ... . r)` or `r`.
+fn formals(survey: &mut Survey, datum: &Datum) -> Result<(), Halt>
+    ensures { Takes result survey.new (formals datum.now survey.old) }
+{
+    match &datum.node {
+        Node::List(items, tail) => formals_in(survey, items, tail),
+        Node::Atom(_) | Node::Symbol(_) | Node::Vector(_) => last_formal(survey, datum),
+    }
+}
+
+/// The names of pairs of a name and an expression are in scope from here.
+fn init_names(survey: &mut Survey, items: &[Datum]) -> Result<(), Halt>
+    ensures { Takes result survey.new (init_names (chain items.now nil) survey.old) }
+{
+    for item in items {
+        let Some(first) = item.first() else {
+            return Err(Halt::Refused);
+        };
+        let Some(name) = name_in(first) else {
+            return Err(Halt::Refused);
+        };
+        survey.enter(name)?;
+    }
+    Ok(())
+}
+
+/// The names of the bindings of a `letrec` are in scope from here.
+fn binding_names(survey: &mut Survey, datum: &Datum) -> Result<(), Halt>
+    ensures { Takes result survey.new (init_names datum.now survey.old) }
+{
+    match datum.as_list() {
+        Some(items) => init_names(survey, items),
+        None => Err(Halt::Refused),
+    }
+}
+
+/// An expression.
+#[cycle(walk)]
+pub fn expression(survey: &mut Survey, datum: &Datum) -> Result<(), Halt>
+    ensures { Takes result survey.new (expression datum.now survey.old) }
+{
+    if let Some(symbol) = datum.as_symbol() {
+        return survey.identifier(symbol);
+    }
+    if let Some(items) = datum.as_list() {
+        return form(survey, items);
+    }
+    match datum.as_atom() {
+        Some(atom) => constant(atom),
+        None => Err(Halt::Refused),
+    }
+}
+
+#[cycle(walk)]
+fn form(survey: &mut Survey, items: &[Datum]) -> Result<(), Halt>
+    ensures { Takes result survey.new (expression (chain items.now nil) survey.old) }
+{
+    let [head, operands @ ..] = items else {
+        return Err(Halt::Refused);
+    };
+    match form_of(head) {
+        Form::Quote => {
+            if is_quotation(operands) {
+                Ok(())
+            } else {
+                Err(Halt::Refused)
+            }
+        }
+        Form::If => {
+            if is_armed(operands) {
+                expressions(survey, operands)
+            } else {
+                Err(Halt::Refused)
+            }
+        }
+        Form::Assignment => assigned(survey, operands),
+        Form::Sequence => {
+            if is_row(operands) {
+                expressions(survey, operands)
+            } else {
+                Err(Halt::Refused)
+            }
+        }
+        Form::Lambda => procedure(survey, operands),
+        Form::CaseLambda => cases(survey, operands),
+        Form::Letrec => recursive(survey, operands),
+        Form::Application => {
+            expression(survey, head)?;
+            expressions(survey, operands)
+        }
+    }
+}
+
+#[cycle(walk)]
+fn expressions(survey: &mut Survey, items: &[Datum]) -> Result<(), Halt>
+    ensures { Takes result survey.new (expressions (chain items.now nil) survey.old) }
+{
+    for item in items {
+        expression(survey, item)?;
+    }
+    Ok(())
+}
+
+#[cycle(walk)]
+fn one(survey: &mut Survey, items: &[Datum]) -> Result<(), Halt>
+    ensures { Takes result survey.new (one (chain items.now nil) survey.old) }
+{
+    match items {
+        [] => Err(Halt::Refused),
+        [datum] => expression(survey, datum),
+        [_, _, ..] => Err(Halt::Refused),
+    }
+}
+
+#[cycle(walk)]
+fn assigned(survey: &mut Survey, items: &[Datum]) -> Result<(), Halt>
+    ensures { Takes result survey.new (assigned (chain items.now nil) survey.old) }
+{
+    let [first, others @ ..] = items else {
+        return Err(Halt::Refused);
+    };
+    let Some(name) = name_in(first) else {
+        return Err(Halt::Refused);
+    };
+    survey.mention(name)?;
+    one(survey, others)
+}
+
+#[cycle(walk)]
+fn init(survey: &mut Survey, items: &[Datum]) -> Result<(), Halt>
+    ensures { Takes result survey.new (init (chain items.now nil) survey.old) }
+{
+    let [first, others @ ..] = items else {
+        return Err(Halt::Refused);
+    };
+    let Some(name) = name_in(first) else {
+        return Err(Halt::Refused);
+    };
+    survey.bind(name)?;
+    one(survey, others)
+}
+
+#[cycle(walk)]
+fn procedure(survey: &mut Survey, items: &[Datum]) -> Result<(), Halt>
+    ensures { Takes result survey.new (procedure (chain items.now nil) survey.old) }
+{
+    let [first, others @ ..] = items else {
+        return Err(Halt::Refused);
+    };
+    let size = survey.scope.size();
+    formals(survey, first)?;
+    one(survey, others)?;
+    survey.scope.keep(size);
+    Ok(())
+}
+
+#[cycle(walk)]
+fn case(survey: &mut Survey, item: &Datum) -> Result<(), Halt>
+    ensures { Takes result survey.new (procedure item.now survey.old) }
+{
+    match item.as_list() {
+        Some(parts) => procedure(survey, parts),
+        None => Err(Halt::Refused),
+    }
+}
+
+#[cycle(walk)]
+fn cases(survey: &mut Survey, items: &[Datum]) -> Result<(), Halt>
+    ensures { Takes result survey.new (cases (chain items.now nil) survey.old) }
+{
+    for item in items {
+        case(survey, item)?;
+    }
+    Ok(())
+}
+
+#[cycle(walk)]
+fn binding(survey: &mut Survey, item: &Datum) -> Result<(), Halt>
+    ensures { Takes result survey.new (init item.now survey.old) }
+{
+    match item.as_list() {
+        Some(parts) => init(survey, parts),
+        None => Err(Halt::Refused),
+    }
+}
+
+#[cycle(walk)]
+fn inits(survey: &mut Survey, items: &[Datum]) -> Result<(), Halt>
+    ensures { Takes result survey.new (inits (chain items.now nil) survey.old) }
+{
+    for item in items {
+        binding(survey, item)?;
+    }
+    Ok(())
+}
+
+/// The bindings of a `letrec`.
+#[cycle(walk)]
+fn bindings(survey: &mut Survey, datum: &Datum) -> Result<(), Halt>
+    ensures { Takes result survey.new (inits datum.now survey.old) }
+{
+    match datum.as_list() {
+        Some(items) => inits(survey, items),
+        None => Err(Halt::Refused),
+    }
+}
+
+#[cycle(walk)]
+fn recursive(survey: &mut Survey, items: &[Datum]) -> Result<(), Halt>
+    ensures { Takes result survey.new (recursive (chain items.now nil) survey.old) }
+{
+    let [first, others @ ..] = items else {
+        return Err(Halt::Refused);
+    };
+    let size = survey.scope.size();
+    binding_names(survey, first)?;
+    bindings(survey, first)?;
+    one(survey, others)?;
+    survey.scope.keep(size);
+    Ok(())
+}
+
+fn definition(survey: &mut Survey, items: &[Datum]) -> Result<(), Halt>
+    ensures { Takes result survey.new (definition (chain items.now nil) survey.old) }
+{
+    let [first, others @ ..] = items else {
+        return Err(Halt::Refused);
+    };
+    let Some(name) = name_in(first) else {
+        return Err(Halt::Refused);
+    };
+    survey.define(name)?;
+    one(survey, others)
+}
+
+/// A list that is the form of a line.
+fn line_list(survey: &mut Survey, items: &[Datum]) -> Result<(), Halt>
+    ensures { Takes result survey.new (line_form (chain items.now nil) survey.old) }
+{
+    match items {
+        [] => Err(Halt::Refused),
+        [head, operands @ ..] => {
+            if is_define(head) {
+                definition(survey, operands)
+            } else {
+                form(survey, items)
+            }
+        }
+    }
+}
+
+/// The form of a line.
+pub fn line_form(survey: &mut Survey, datum: &Datum) -> Result<(), Halt>
+    ensures { Takes result survey.new (line_form datum.now survey.old) }
+{
+    match datum.as_list() {
+        Some(items) => line_list(survey, items),
+        None => expression(survey, datum),
+    }
+}

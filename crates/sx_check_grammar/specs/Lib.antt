@@ -1,0 +1,10 @@
+pub mod Names
+pub mod Scan
+pub mod Primitives
+pub mod Characters
+pub mod Strings
+pub mod Symbols
+pub mod Text
+pub mod Elements
+pub mod Forms
+pub mod Lines

@@ -1,0 +1,4 @@
+pub mod States
+pub mod Forms
+pub mod Records
+pub mod Limits

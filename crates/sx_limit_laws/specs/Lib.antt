@@ -1,0 +1,5 @@
+pub mod Lawful
+pub mod Holds
+pub mod Outcome
+pub mod Stages
+pub mod Limits

@@ -1,0 +1,8 @@
+pub mod Heights
+pub mod Bodies
+pub mod Items
+pub mod Settled
+pub mod Quasi
+pub mod Forms
+pub mod Records
+pub mod Texts

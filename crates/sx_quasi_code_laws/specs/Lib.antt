@@ -1,0 +1,4 @@
+pub mod Keywords
+pub mod Shows
+pub mod Wants
+pub mod Values

@@ -1,0 +1,4 @@
+mod Words
+mod Matching
+mod Patterns
+mod Instances
