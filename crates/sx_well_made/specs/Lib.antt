@@ -1,0 +1,3 @@
+pub mod Parts
+pub mod Reach
+pub mod Sets
