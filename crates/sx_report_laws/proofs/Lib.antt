@@ -1,4 +1,2 @@
-mod Words
 mod Matching
-mod Patterns
 mod Instances

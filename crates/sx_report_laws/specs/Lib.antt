@@ -1,3 +1,2 @@
 pub mod Matching
-pub mod Patterns
 pub mod Instances

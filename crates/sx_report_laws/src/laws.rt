@@ -1,4 +1,4 @@
-//! Laws of patterns and templates in the report's words. Each function here computes nothing: what it promises is the law.
+//! Laws of matches and instances in the report's words. Each function here computes nothing: what it promises is the law.
 
 ghost use Rattle.std.specs.Prelude.{List};
 ghost use Rattle.sx_frames.specs.Scope.{Scope};
@@ -9,19 +9,11 @@ ghost use Rattle.sx_value.specs.declared.value.Value.{Value};
 ghost use Rattle.sx_pattern.specs.Matched.{matched, nothing};
 ghost use Rattle.sx_report_laws.specs.Instances.{InstancesAreGiven};
 ghost use Rattle.sx_report_laws.specs.Matching.{IsRight};
-ghost use Rattle.sx_report_laws.specs.Patterns.{PatternsAreCompiled, OthersAreBadPatterns};
 
 /// What the matcher finds is a match by the cases of the report, and it finds nothing only where there is none.
 pub fn a_match_is_that_of_the_report()
     ensures { (fs : Scope) (cells : List Cell) → Whole cells → (p : PlainPattern) (v : Value) → FitsIn cells v →
         IsRight fs cells p v (matched fs cells p v (nothing 0)) }
-{}
-
-/// A form that is a pattern by the cases of the report is compiled to that pattern, what is compiled is one, and any other is
-/// `BadPattern`, at a literal or at a part of the form.
-pub fn patterns_are_those_of_the_report()
-    ensures compiled { PatternsAreCompiled }
-    ensures others { OthersAreBadPatterns }
 {}
 
 /// A template whose variables are bound to their depths gives an instance by the cases of the report, over cells that keep

@@ -1,7 +1,4 @@
-mod Complete
-mod Sound
-mod RecordForms
-mod RecordTrees
-mod RecordSlots
-mod Records
+pub mod Complete
+pub mod Sound
+pub mod RecordForms
 mod Places

@@ -30,9 +30,8 @@ use Rattle.sx_records.specs.declared.clause.Uid.TheVariants as uid
 use Rattle.sx_records.specs.declared.names.RecordNames.{RecordNames}
 use Rattle.sx_shape_laws.specs.Grammar.{IsId, IsList}
 use Rattle.sx_shape_laws.specs.Grammar as g
-use Rattle.sx_shape_laws.specs.Records.{keyword_label, IsWord, AreNames, IsField, IsClause}
+use Rattle.sx_shape_laws.specs.Records.{keyword_label, IsWord, AreNames, IsField, IsClause, IsIn}
 use Rattle.sx_shape_laws.specs.Records as r
-use Rattle.sx_shape_laws.specs.RecordTypes.{IsIn}
 use Rattle.sx_shape_laws.proofs.Complete.{is-id, list-is, all-are}
 use Rattle.sx_shape_laws.proofs.Sound.{met, from, some-is, an-id, proper, all-written}
 

@@ -1,5 +1,4 @@
 pub mod Grammar
 pub mod Laws
 pub mod Records
-pub mod RecordTypes
 pub mod Places

@@ -1,6 +1,6 @@
 -- How the forms of records are written, by cases (libraries report 6.2). A clause, and the two words of fields, are known by what their
 -- first identifier stands for.
-use Rattle.std.specs.Prelude.{◌≡◌, ℕ, Bool, List, [], ◌∷◌, ◌++◌, codes, Option, None, Some}
+use Rattle.std.specs.Prelude.{◌≡◌, ◌⊎◌, ℕ, Bool, List, [], ◌∷◌, ◌++◌, codes, Option, None, Some}
 use Rattle.sx_base.specs.declared.atom.Atom.TheVariants as atoms
 use Rattle.sx_base.specs.declared.library.LibName.TheVariants as library
 use Rattle.sx_base.specs.declared.name.Label.{Label}
@@ -112,3 +112,8 @@ pub data AreClauses (fs : Scope) (name : Tree) : List Tree → Type 0 where
 pub data Says (fs : Scope) (name : Tree) (c : RecordClause) : List Tree → Type 0 where
   said_here : {which : CoreForm} {head t : Tree} {operands ts : List Tree} → IsList (head ∷ operands) t → IsWord fs which head → IsClause fs name which c operands → Says fs name c (t ∷ ts)
   said_behind : {t : Tree} {ts : List Tree} → Says fs name c ts → Says fs name c (t ∷ ts)
+
+-- one of these
+abbrev pub IsIn : Tree → List Tree → Type 0
+IsIn x [] = ⊥
+IsIn x (y ∷ ys) = (x ≡ y) ⊎ IsIn x ys

@@ -1,6 +1,5 @@
 //! Laws of shapes. The function here computes nothing: what it promises is the law.
 
-ghost use Rattle.sx_shape_laws.specs.RecordTypes.{RecordTypesAreDefined, DefinitionsAreStoodFor, OtherRecordTypesAreBad, DescriptorsAreWritten};
 ghost use Rattle.sx_shape_laws.specs.Places.{FaultsArePlaced};
 ghost use Rattle.sx_shape_laws.specs.Laws.{WrittenHaveShapes, ShapesAreWritten, OneShape, OthersAreBad};
 
@@ -11,16 +10,6 @@ pub fn shapes_are_the_grammar()
     ensures found { ShapesAreWritten }
     ensures one { OneShape }
     ensures others { OthersAreBad }
-{}
-
-/// A form of records expands exactly to the definitions that it stands for by the cases of the
-/// libraries report: the calls of the procedures of 6.3, under which names, with what a missing clause
-/// stands for. Any other is `BadForm`, at the form or at one of its clauses.
-pub fn record_forms_are_those_of_the_report()
-    ensures written { RecordTypesAreDefined }
-    ensures found { DefinitionsAreStoodFor }
-    ensures others { OtherRecordTypesAreBad }
-    ensures descriptors { DescriptorsAreWritten }
 {}
 
 /// A fault of a form stands at the form's span, or where the form has none at the place round it.

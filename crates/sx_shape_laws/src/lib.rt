@@ -12,15 +12,8 @@
 //! The laws: what is written by a case has that shape, and what has a shape is written by its case; so a
 //! form has one shape at most, and `BadForm` comes just where no case writes the form.
 //!
-//! The forms of records (libraries report 6.2) are said twice over: `specs/Records` writes down how they are
-//! written, and `specs/RecordTypes` what they stand for, in terms of the procedures of 6.3.
-//!
-//! ```text
-//! (define-record-type point (fields x (mutable y)) (sealed #t))
-//!     (make-record-type-descriptor 'point #f #f #t #f '#((immutable x) (mutable y)))
-//!     (make-record-constructor-descriptor rtd #f #f)
-//!     make-point, point?, point-x, point-y and point-y-set!
-//! ```
+//! `specs/Records` writes down how the forms of records are written (libraries report 6.2); what they stand for is said by
+//! sx_record_laws.
 //!
 //! `specs/Places` says where the fault of a form stands.
 #![tactic(auto)]

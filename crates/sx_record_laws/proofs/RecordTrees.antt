@@ -18,8 +18,8 @@ use Rattle.sx_records.specs.declared.clause.Parent.TheVariants as parents
 use Rattle.sx_records.specs.declared.clause.Uid.{Uid}
 use Rattle.sx_records.specs.declared.clause.Uid.TheVariants as uid
 use Rattle.sx_records.specs.declared.names.RecordNames.{RecordNames}
-use Rattle.sx_shape_laws.specs.RecordTypes.{word, own_word, truth, quoted, Description, rtd, rcd, define, call, call_at, entry, made_type, made_constructor, name_keyword, defined_name, field_procedures, procedures, defining}
-use Rattle.sx_shape_laws.specs.RecordTypes as types
+use Rattle.sx_record_laws.specs.RecordTypes.{word, own_word, truth, quoted, Description, rtd, rcd, define, call, call_at, entry, made_type, made_constructor, name_keyword, defined_name, field_procedures, procedures, defining}
+use Rattle.sx_record_laws.specs.RecordTypes as types
 
 -- A tree is within the limits or past one of them.
 

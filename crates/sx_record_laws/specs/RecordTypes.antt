@@ -20,7 +20,7 @@ use Rattle.sx_records.specs.declared.clause.RecordClause.TheVariants as clause
 use Rattle.sx_records.specs.declared.clause.Uid.TheVariants as uid
 use Rattle.sx_records.specs.declared.names.RecordNames.{RecordNames}
 use Rattle.sx_shape_laws.specs.Grammar.{IsId, IsList}
-use Rattle.sx_shape_laws.specs.Records.{AreNames, AreClauses, Says, Lacks}
+use Rattle.sx_shape_laws.specs.Records.{AreNames, AreClauses, Says, Lacks, IsIn}
 
 -- An identifier that stands for this name of the implementation, whatever the program imports: its only stamp is that of the
 -- implementation's frame.
@@ -185,10 +185,6 @@ RecordTypesAreDefined = (fs : Scope) (t : Tree) (place : Span) (own : List ℕ) 
 -- What a form comes to, it stands for.
 abbrev pub DefinitionsAreStoodFor : Type 0
 DefinitionsAreStoodFor = (fs : Scope) (t : Tree) (place : Span) (own : List ℕ) (u : Tree) → record_forms fs t form.DefineRecordType place own ≡ Ok u → StandsFor fs own t u
-
-abbrev pub IsIn : Tree → List Tree → Type 0
-IsIn x [] = ⊥
-IsIn x (y ∷ ys) = (x ≡ y) ⊎ IsIn x ys
 
 -- What stands for nothing is at fault, at the form or at one of its clauses.
 pub record IsBad (fs : Scope) (t : Tree) (place : Span) (own : List ℕ) : Type 0 where

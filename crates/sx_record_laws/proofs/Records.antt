@@ -20,13 +20,13 @@ use Rattle.sx_records.specs.Names.{names_of}
 use Rattle.sx_records.specs.declared.clause.Clauses.{Clauses}
 use Rattle.sx_records.specs.declared.names.RecordNames.{RecordNames}
 use Rattle.sx_shape_laws.specs.Grammar.{IsList}
-use Rattle.sx_shape_laws.specs.Records.{AreNames}
-use Rattle.sx_shape_laws.specs.RecordTypes.{word, defining, in_place_of, StandsFor, record_type, RecordTypesAreDefined, DefinitionsAreStoodFor, IsIn, IsBad, OtherRecordTypesAreBad, IsDescriptor, DescriptorsAreWritten}
+use Rattle.sx_shape_laws.specs.Records.{AreNames, IsIn}
+use Rattle.sx_record_laws.specs.RecordTypes.{word, defining, in_place_of, StandsFor, record_type, RecordTypesAreDefined, DefinitionsAreStoodFor, IsBad, OtherRecordTypesAreBad, IsDescriptor, DescriptorsAreWritten}
 use Rattle.sx_shape_laws.proofs.Complete.{is-id, list-is}
 use Rattle.sx_shape_laws.proofs.Sound.{met, some-is, an-id, proper}
 use Rattle.sx_shape_laws.proofs.RecordForms.{names-are, some-names, Reads, clauses-are, AreRead, IsBadClause, read-or-bad}
-use Rattle.sx_shape_laws.proofs.RecordTrees.{description, definitions-are}
-use Rattle.sx_shape_laws.proofs.RecordSlots.{are-clauses, clauses-are-read, describes, describe-one}
+use Rattle.sx_record_laws.proofs.RecordTrees.{description, definitions-are}
+use Rattle.sx_record_laws.proofs.RecordSlots.{are-clauses, clauses-are-read, describes, describe-one}
 
 in-place : (t : Tree) (place : Span) (u : Tree) → at_form t place (within u) ≡ in_place_of t place u
 unfolding within

@@ -25,9 +25,9 @@ use Rattle.sx_pattern.proofs.Walks.{pattern_stop, part_stop, forms_on}
 use Rattle.sx_shape_laws.specs.Grammar.{IsId}
 use Rattle.sx_shape_laws.specs.Grammar as g
 use Rattle.sx_shape_laws.specs.Records.{IsWord}
-use Rattle.sx_report_laws.specs.Patterns.{IsPlain, AreLiterals, IsAmong, IsChain, IsPattern, AreElements, AreOthers, IsNew, AreNew, next_name, AreNumbered, IsPart, IsIn, IsBadPattern, PatternsAreCompiled, IsTold, OthersAreBadPatterns}
-use Rattle.sx_report_laws.specs.Patterns as r
-use Rattle.sx_report_laws.proofs.Words.{an-id, id-is, form-is, ellipsis-is, underscore-is, no-ellipsis, untold}
+use Rattle.sx_pattern_laws.specs.Patterns.{IsPlain, AreLiterals, IsAmong, IsChain, IsPattern, AreElements, AreOthers, IsNew, AreNew, next_name, AreNumbered, IsPart, IsIn, IsBadPattern, PatternsAreCompiled, IsTold, OthersAreBadPatterns}
+use Rattle.sx_pattern_laws.specs.Patterns as r
+use Rattle.sx_pattern_laws.proofs.Words.{an-id, id-is, form-is, ellipsis-is, underscore-is, no-ellipsis, untold}
 
 -- the parts of the pattern of elements so far
 abbrev type-of : {A : Type 0} → A → Type 0
@@ -90,13 +90,13 @@ numbered-split n k (u ∷ us) ws h = let a = numbered-split (next_name n) k us w
 
 -- Parts of a form.
 
-chain-of : (t : Tree) → IsChain (elements t) (tail_of t) t
+pub chain-of : (t : Tree) → IsChain (elements t) (tail_of t) t
 chain-of (atom s a) = r.chain_ends refl
 chain-of (leaf s x k) = r.chain_ends refl
 chain-of (pair s a d) = r.chain_next (chain-of d)
 chain-of (vector s d) = r.chain_ends refl
 
-chain-elements : {xs : List Tree} {e t : Tree} → IsChain xs e t → elements t ≡ xs
+pub chain-elements : {xs : List Tree} {e t : Tree} → IsChain xs e t → elements t ≡ xs
 chain-elements (r.chain_ends {r = e} h) = by e h
   where
     by : (u : Tree) → is_pair u ≡ false → elements u ≡ []
@@ -106,7 +106,7 @@ chain-elements (r.chain_ends {r = e} h) = by e h
     by (vector s d) k = refl
 chain-elements (r.chain_next {x = x} h) = ap (λ ys. x ∷ ys) (chain-elements h)
 
-chain-tail : {xs : List Tree} {e t : Tree} → IsChain xs e t → tail_of t ≡ e
+pub chain-tail : {xs : List Tree} {e t : Tree} → IsChain xs e t → tail_of t ≡ e
 chain-tail (r.chain_ends {r = e} h) = by e h
   where
     by : (u : Tree) → is_pair u ≡ false → tail_of u ≡ u
@@ -119,14 +119,14 @@ chain-tail (r.chain_next h) = chain-tail h
 in-rest : {u : Tree} {s : Option Span} {a d : Tree} → IsPart u d → IsPart u (pair s a d)
 in-rest h = r.in_rest h
 
-element-part : (u x t : Tree) → IsIn x (elements t) → IsPart u x → IsPart u t
+pub element-part : (u x t : Tree) → IsIn x (elements t) → IsPart u x → IsPart u t
 element-part u x (atom s a) h k = elim h [ ]
 element-part u x (leaf s y c) h k = elim h [ ]
 element-part u _ (pair s a d) r.is_first k = r.in_first k
 element-part u x (pair s a d) (r.is_behind h) k = r.in_rest (element-part u x d h k)
 element-part u x (vector s d) h k = elim h [ ]
 
-tail-part : (u t : Tree) → IsPart u (tail_of t) → IsPart u t
+pub tail-part : (u t : Tree) → IsPart u (tail_of t) → IsPart u t
 tail-part u (atom s a) h = h
 tail-part u (leaf s x c) h = h
 tail-part u (pair s a d) h = r.in_rest (tail-part u d h)

@@ -18,13 +18,13 @@ use Rattle.sx_records.specs.declared.clause.Uid.TheVariants as uid
 use Rattle.sx_shape_laws.specs.Grammar.{IsList}
 use Rattle.sx_shape_laws.specs.Records.{IsWord, IsClause, Has, Lacks, LacksKind, AreClauses, Says}
 use Rattle.sx_shape_laws.specs.Records as r
-use Rattle.sx_shape_laws.specs.RecordTypes.{IsParent, IsUid, IsSealed, IsOpaque, IsProtocol, AreFields, Description, Describe}
-use Rattle.sx_shape_laws.specs.RecordTypes as types
+use Rattle.sx_record_laws.specs.RecordTypes.{IsParent, IsUid, IsSealed, IsOpaque, IsProtocol, AreFields, Description, Describe}
+use Rattle.sx_record_laws.specs.RecordTypes as types
 use Rattle.sx_shape_laws.proofs.Complete.{list-is}
 use Rattle.sx_shape_laws.proofs.Sound.{some-is}
 use Rattle.sx_shape_laws.proofs.RecordForms.{word-is, clause-is, Reads}
 use Rattle.sx_shape_laws.proofs.RecordForms as forms
-use Rattle.sx_shape_laws.proofs.RecordTrees.{parent-tree, constructor-tree, uid-tree, description}
+use Rattle.sx_record_laws.proofs.RecordTrees.{parent-tree, constructor-tree, uid-tree, description}
 
 -- Where a clause is kept, and the clauses of a keyword.
 

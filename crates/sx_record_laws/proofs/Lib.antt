@@ -1,0 +1,3 @@
+mod RecordTrees
+mod RecordSlots
+mod Records

@@ -1,0 +1,5 @@
+pub mod Alone
+pub mod Showing
+pub mod Making
+pub mod Gathering
+pub mod Ruling

@@ -1,0 +1,20 @@
+-- Rules told on trees are what the evaluation gives.
+use Rattle.std.specs.Prelude.{◌≡◌, ◌≤◌, ◌+◌, Some, Ok}
+use Rattle.sx_base.specs.declared.name.CodeNo.{CodeNo}
+use Rattle.sx_base.specs.declared.span.Span.{Span}
+use Rattle.sx_region.specs.declared.region.Place.{Place}
+use Rattle.sx_tree.specs.Tree.{Tree}
+use Rattle.sx_core.specs.Core.{PlainCode}
+use Rattle.sx_value.specs.declared.value.Value.TheVariants as value
+use Rattle.sx_eval.specs.Codes.{code_at}
+use Rattle.sx_stage.specs.Fuel.{most_fuel}
+use Rattle.sx_stage.specs.Stage.{PlainStage}
+use Rattle.sx_stage.specs.Uses.{transform_and_cut}
+use Rattle.sx_rules_laws.specs.Rules.{Ruled, ruled}
+
+-- A use of a transformer whose code is so gives that tree and spends that fuel, where there is as much as evaluating and reading take;
+-- and nothing else on the stage changes.
+abbrev pub RulesAreEvaluation : Type 0
+RulesAreEvaluation = (place : Span) (number : CodeNo) (parent : Place) (code : PlainCode) (t : Tree) (r : Ruled) (s : PlainStage)
+    → code_at s.codes number ≡ Some code → ruled s.frames code t ≡ Some r → r.spent + r.reading ≤ most_fuel
+    → transform_and_cut place (value.Closure number parent) t s ≡ Ok (r.tree, record s { spent = s.spent + r.spent })
