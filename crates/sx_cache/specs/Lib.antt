@@ -1,0 +1,6 @@
+pub mod Entry
+pub mod EntryLaws
+pub mod Fits
+pub mod FitsLaws
+pub mod Place
+pub mod Seal

@@ -1,0 +1,205 @@
+//! Entries as bytes.
+
+ghost use Rattle.std.specs.Prelude.{◌≡◌, IfOk, OnOk, Some, None, option_map, if◌then◌else◌};
+ghost use Rattle.sx_bytes.specs.Codec.{blob, listed, optional, some_get};
+ghost use Rattle.sx_bytes.specs.Puts.{Puts, PutsIf};
+ghost use Rattle.sx_cache.specs.Entry as spell;
+ghost use Rattle.sx_cache.specs.EntryLaws.{RoundTrip, NothingElse};
+
+use std::alloc::Global;
+use sx_base::items::Items;
+use sx_base::memory::Memory;
+use sx_base::symbol::Symbol;
+use sx_bytes::libraries::Libraries;
+use sx_bytes::numbers::{put_u64, u64_at};
+use sx_bytes::spelled::Spelled;
+use sx_bytes::texts::{blob_at, put_blob};
+use sx_core::record::LibRecord;
+use sx_load::found::Source;
+use sx_record_bytes::record::{put_record, record_at};
+
+/// A library that was expanded: the path of its file, the roots of the run, the sources of all that it needs with
+/// its own last, and its record.
+#[derive(Drop)]
+pub struct Entry {
+    pub path: Symbol,
+    pub roots: Items<Symbol>,
+    pub sources: Items<Source>,
+    pub stored: LibRecord,
+}
+
+/// What is encoded of an entry with a spelling is decoded to that entry.
+pub fn an_entry_is_decoded()
+    ensures { RoundTrip }
+{}
+
+/// No bytes are decoded but those that are encoded of an entry with a spelling.
+pub fn nothing_else_is_decoded()
+    ensures { NothingElse }
+{}
+
+/// The bytes of a file, where it was there.
+fn put_held(out: &mut Vec<u8>, held: &Option<Items<u8>>) -> Result<(), Memory>
+    ensures { OnOk result (Puts (optional blob) held.now out.old.items out.new.items) }
+{
+    match held {
+        None => {
+            out.push(0)?;
+            Ok(())
+        }
+        Some(bytes) => {
+            out.push(1)?;
+            put_blob(out, bytes.as_slice())
+        }
+    }
+}
+
+fn held_at(alloc: Global, bytes: &[u8]) -> Result<Option<(Option<Items<u8>>, &[u8])>, Memory>
+    ensures { IfOk result (λ o. option_map (λ x. (x.0, x.1.now)) o ≡ (optional blob).get bytes.now) }
+{
+    match bytes {
+        [] => Ok(None),
+        [0, rest @ ..] => Ok(Some((None, rest))),
+        [1, rest @ ..] => {
+            let Some((held, rest)) = blob_at(rest) else {
+                return Ok(None);
+            };
+            let mut list = Vec::new(alloc);
+            list.extend_from_slice(held)?;
+            Ok(Some((Some(Items::from_vec(list)), rest)))
+        }
+        [_, ..] => Ok(None),
+    }
+}
+
+#[tactic(auto, unfolding(crate::specs::Entry::source))]
+fn put_source(out: &mut Vec<u8>, source: &Source) -> Result<(), Memory>
+    ensures { OnOk result (Puts spell.source source.now out.old.items out.new.items) }
+{
+    source.path.put(out)?;
+    put_held(out, &source.held)
+}
+
+#[tactic(auto, unfolding(crate::specs::Entry::source))]
+fn source_at<'a>(
+    libraries: &mut Libraries,
+    bytes: &'a [u8],
+) -> Result<Option<(Source, &'a [u8])>, Memory>
+    ensures { IfOk result (λ o. option_map (λ x. (x.0, x.1.now)) o ≡ spell.source.get bytes.now) }
+{
+    let Some((path, rest)) = Symbol::at(libraries, bytes)? else {
+        return Ok(None);
+    };
+    let Some((held, rest)) = held_at(libraries.alloc(), rest)? else {
+        return Ok(None);
+    };
+    Ok(Some((Source { path, held }, rest)))
+}
+
+fn put_sources(out: &mut Vec<u8>, sources: &[Source]) -> Result<(), Memory>
+    ensures { OnOk result (Puts (listed spell.source) sources.now out.old.items out.new.items) }
+{
+    put_u64(out, sources.len() as u64)?;
+    for source in sources {
+        put_source(out, source)?;
+    }
+    Ok(())
+}
+
+fn sources_at<'a>(
+    libraries: &mut Libraries,
+    bytes: &'a [u8],
+) -> Result<Option<(Vec<Source>, &'a [u8])>, Memory>
+    ensures { IfOk result (λ o. option_map (λ x. (x.0.items, x.1.now)) o ≡ (listed spell.source).get bytes.now) }
+{
+    match u64_at(bytes) {
+        Some((count, rest)) => some_sources(libraries, count, rest),
+        None => Ok(None),
+    }
+}
+
+fn some_sources<'a>(
+    libraries: &mut Libraries,
+    count: u64,
+    bytes: &'a [u8],
+) -> Result<Option<(Vec<Source>, &'a [u8])>, Memory>
+    ensures { IfOk result (λ o. option_map (λ x. (x.0.items, x.1.now)) o ≡ some_get spell.source.get count bytes.now) }
+{
+    let mut list = Vec::new(libraries.alloc());
+    let mut rest = bytes;
+    for _ in 0..count {
+        let Some((source, after)) = source_at(libraries, rest)? else {
+            return Ok(None);
+        };
+        list.push(source)?;
+        rest = after;
+    }
+    Ok(Some((list, rest)))
+}
+
+#[tactic(auto, unfolding(crate::specs::Entry::entry))]
+fn put_entry(out: &mut Vec<u8>, alloc: Global, entry: &Entry) -> Result<bool, Memory>
+    ensures { IfOk result (λ b. PutsIf spell.entry entry.now out.old.items out.new.items b) }
+{
+    entry.path.put(out)?;
+    entry.roots.put(out)?;
+    put_sources(out, entry.sources.as_slice())?;
+    put_record(out, alloc, &entry.stored)
+}
+
+#[tactic(auto, unfolding(crate::specs::Entry::entry))]
+fn entry_at<'a>(
+    libraries: &mut Libraries,
+    bytes: &'a [u8],
+) -> Result<Option<(Entry, &'a [u8])>, Memory>
+    ensures { IfOk result (λ o. option_map (λ x. (x.0, x.1.now)) o ≡ spell.entry.get bytes.now) }
+{
+    let Some((path, rest)) = Symbol::at(libraries, bytes)? else {
+        return Ok(None);
+    };
+    let Some((roots, rest)) = Spelled::at(libraries, rest)? else {
+        return Ok(None);
+    };
+    let Some((sources, rest)) = sources_at(libraries, rest)? else {
+        return Ok(None);
+    };
+    let Some((stored, rest)) = record_at(libraries, rest)? else {
+        return Ok(None);
+    };
+    let entry = Entry {
+        path,
+        roots,
+        sources: Items::from_vec(sources),
+        stored,
+    };
+    Ok(Some((entry, rest)))
+}
+
+/// The spelling of an entry, or nothing where its record has none.
+pub fn encode_entry(alloc: Global, entry: &Entry) -> Result<Option<Vec<u8>>, Memory>
+    ensures { IfOk result (λ o. option_map (λ v. v.items) o ≡ (if spell.has_spelling entry.now then Some (spell.encode entry.now) else None)) }
+{
+    let mut out = Vec::new(alloc);
+    if put_entry(&mut out, alloc, entry)? {
+        Ok(Some(out))
+    } else {
+        Ok(None)
+    }
+}
+
+/// The entry that all of the bytes spell, or nothing where they spell none.
+pub fn decode_entry(alloc: Global, bytes: &[u8]) -> Result<Option<Entry>, Memory>
+    ensures { IfOk result (λ o. o ≡ spell.decode bytes.now) }
+{
+    let mut libraries = Libraries::new(alloc);
+    match entry_at(&mut libraries, bytes)? {
+        Some((entry, rest)) => {
+            if rest.is_empty() {
+                Ok(Some(entry))
+            } else {
+                Ok(None)
+            }
+        }
+        None => Ok(None),
+    }
+}
