@@ -2,7 +2,7 @@
 //!
 //! Some definitions cite a table of the code itself: which keyword has a number, what `map` means during expansion, what
 //! `or` expands to, which bytes of a library's name stand in a path. A wrong row there would be a wrong definition. So each
-//! such table stands here a second time, written out as R6RS has it:
+//! such table stands here a second time, written out as R6RS has it, and with them the limits of the implementation:
 //!
 //! ```text
 //! (form.Letrec, codes "letrec") ∷ (form.LetrecStar, codes "letrec*") ∷ ..
@@ -16,6 +16,7 @@
 ghost use Rattle.sx_table_laws.specs.CoreForms.{FormsAreWritten, FormsAreFound};
 ghost use Rattle.sx_table_laws.specs.Derived.{DerivedIsWritten};
 ghost use Rattle.sx_table_laws.specs.Kept.{OthersAreEscaped};
+ghost use Rattle.sx_table_laws.specs.Limits.{LimitsAreWritten};
 ghost use Rattle.sx_table_laws.specs.Prelude.{TextsAreWritten};
 
 /// The keywords that expansion itself knows are those that are written out here, under their report
@@ -43,4 +44,9 @@ pub fn derived_is_written()
 /// name as they are.
 pub fn others_are_escaped()
     ensures { OthersAreEscaped }
+{}
+
+/// The limits of files, of syntax objects, of nesting and of evaluation are the numbers that are written out.
+pub fn limits_are_written()
+    ensures { LimitsAreWritten }
 {}
