@@ -54,22 +54,49 @@ fn put_held(out: &mut Vec<u8>, held: &Option<Items<u8>>) -> Result<(), Memory>
     }
 }
 
+/// The bytes of a file, where it was there, in their place among those of an entry.
+pub(crate) fn held_in(bytes: &[u8]) -> Option<(Option<&[u8]>, &[u8])>
+    ensures { option_map (λ x. (option_map (λ h. h.now) x.0, x.1.now)) result ≡ (optional blob).get bytes.now }
+{
+    match bytes {
+        [] => None,
+        [0, rest @ ..] => Some((None, rest)),
+        [1, rest @ ..] => {
+            let (held, rest) = blob_at(rest)?;
+            Some((Some(held), rest))
+        }
+        [_, ..] => None,
+    }
+}
+
+fn copied(alloc: Global, bytes: &[u8]) -> Result<Items<u8>, Memory>
+    ensures { IfOk result (λ i. i ≡ bytes.now) }
+{
+    let mut list = Vec::new(alloc);
+    list.extend_from_slice(bytes)?;
+    Ok(Items::from_vec(list))
+}
+
+fn held_of(alloc: Global, held: Option<&[u8]>) -> Result<Option<Items<u8>>, Memory>
+    ensures { IfOk result (λ o. o ≡ option_map (λ h. h.now) held.entry) }
+{
+    match held {
+        None => Ok(None),
+        Some(bytes) => {
+            let bytes = copied(alloc, bytes)?;
+            Ok(Some(bytes))
+        }
+    }
+}
+
 fn held_at(alloc: Global, bytes: &[u8]) -> Result<Option<(Option<Items<u8>>, &[u8])>, Memory>
     ensures { IfOk result (λ o. option_map (λ x. (x.0, x.1.now)) o ≡ (optional blob).get bytes.now) }
 {
-    match bytes {
-        [] => Ok(None),
-        [0, rest @ ..] => Ok(Some((None, rest))),
-        [1, rest @ ..] => {
-            let Some((held, rest)) = blob_at(rest) else {
-                return Ok(None);
-            };
-            let mut list = Vec::new(alloc);
-            list.extend_from_slice(held)?;
-            Ok(Some((Some(Items::from_vec(list)), rest)))
-        }
-        [_, ..] => Ok(None),
-    }
+    let Some((held, rest)) = held_in(bytes) else {
+        return Ok(None);
+    };
+    let held = held_of(alloc, held)?;
+    Ok(Some((held, rest)))
 }
 
 #[tactic(auto, unfolding(crate::specs::Entry::source))]

@@ -9,10 +9,12 @@
 //! so that bytes that were cut off or changed aren't taken for an entry.
 //!
 //! The promise: `encode_entry` and `decode_entry` are exactly the grammar of entries, both ways; `unseal` gives a body
-//! exactly where the bytes are that body sealed; `fits` is equality of roots and sources. Digests are SHA-256.
+//! exactly where the bytes are that body sealed; `fits` is equality of roots and sources. `fitting_record` is the record
+//! of an entry that fits, or nothing, and makes no value of the entry's sources. Digests are SHA-256.
 #![tactic(auto)]
 
 pub mod entry;
 pub mod fits;
+pub mod fitting;
 pub mod place;
 pub mod seal;

@@ -6,6 +6,7 @@ use sx_base::items::Items;
 use sx_base::symbol::Symbol;
 use sx_cache::entry::{Entry, decode_entry, encode_entry};
 use sx_cache::fits::fits;
+use sx_cache::fitting::fitting_record;
 use sx_cache::place::place;
 use sx_cache::seal::{seal, unseal};
 use sx_load::found::Source;
@@ -62,6 +63,27 @@ fn source(alloc: Global, path: &str, held: Option<&str>) -> Result<Source, Fail>
     Ok(Source { path, held })
 }
 
+// Whether the entry is of these roots and sources, whether its sources are decoded or only compared.
+fn does_fit(
+    alloc: Global,
+    roots: &[Symbol],
+    sources: &[Source],
+    chosen: &[usize],
+) -> Result<bool, Fail> {
+    let bytes = bytes_of(alloc, ENTRY)?;
+    let record = fitting_record(alloc, &bytes, roots, sources, chosen)?;
+    let is_there = record.is_some();
+    forget(record);
+    let entry = entry(alloc)?;
+    let does_fit = fits(&entry, roots, sources, chosen);
+    forget(entry);
+    if does_fit == is_there {
+        Ok(does_fit)
+    } else {
+        Err("fits and fitting_record differ".into())
+    }
+}
+
 fn entry(alloc: Global) -> Result<Entry, Fail> {
     let bytes = bytes_of(alloc, ENTRY)?;
     Ok(decode_entry(alloc, &bytes)?.ok_or("no entry")?)
@@ -76,15 +98,13 @@ fn an_entry_fits_its_roots_and_sources_alone(rt: HostRuntime) -> Result<(), Fail
     sources.push(source(alloc, "s/m.sls", Some("y"))?)?;
     let own = roots(alloc, "r s")?;
     let others = roots(alloc, "s r")?;
-    let entry = entry(alloc)?;
-    assert!(rt; fits(&entry, &own, &sources, &[0, 1]));
-    assert!(rt; !fits(&entry, &others, &sources, &[0, 1]));
-    assert!(rt; !fits(&entry, &own, &sources, &[0, 2]));
-    assert!(rt; !fits(&entry, &own, &sources, &[1, 0]));
-    assert!(rt; !fits(&entry, &own, &sources, &[1]));
-    assert!(rt; !fits(&entry, &own, &sources, &[0, 1, 2]));
-    assert!(rt; !fits(&entry, &own, &sources, &[0, 7]));
-    forget(entry);
+    assert!(rt; does_fit(alloc, &own, &sources, &[0, 1])?);
+    assert!(rt; !does_fit(alloc, &others, &sources, &[0, 1])?);
+    assert!(rt; !does_fit(alloc, &own, &sources, &[0, 2])?);
+    assert!(rt; !does_fit(alloc, &own, &sources, &[1, 0])?);
+    assert!(rt; !does_fit(alloc, &own, &sources, &[1])?);
+    assert!(rt; !does_fit(alloc, &own, &sources, &[0, 1, 2])?);
+    assert!(rt; !does_fit(alloc, &own, &sources, &[0, 7])?);
     Ok(())
 }
 
