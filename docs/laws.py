@@ -1,15 +1,19 @@
 #!/usr/bin/env python3
-"""Writes docs/LAWS.md from the doc comments of the public laws and functions of all crates; --check compares it.
+"""Writes docs/LAWS.md from the doc comments of the public laws and functions of all crates; --check compares it, and
+tells which rows and lists of the documents are too long to read.
 
 A law is a public function without parameters and answer that ensures something. Laws and other functions are listed
 with the first paragraph of the comment that stands above them: of a law all of it, of a function its first sentence.
-What has no comment, as an accessor, or only makes another owner of a value, is left out.
+What has no comment, as an accessor, or only makes another owner of a value, is left out. A long comment is a list.
 """
-import os, re, sys, textwrap
+import glob, os, re, sys, textwrap
 
 top = os.path.dirname(os.path.dirname(os.path.abspath(__file__)))
 page = os.path.join(top, 'docs', 'LAWS.md')
+# The most columns of a row, words of a bullet, and rows of docs/THEOREMS.md.
 WIDTH = 110
+WORDS = 60
+THEOREMS = 120
 
 HEAD = '''# The laws
 
@@ -117,7 +121,9 @@ def filled(text, first='', further=''):
 
 
 def bullet(name, text):
-    return filled(f'`{name}`: {text}', '- ', '  ')
+    """An item of a list; a text of too many words is cut into several, each a sentence or a part of one."""
+    parts = [text] if len(text.split()) < WORDS else re.split(r'(?<=[.;]) ', text)
+    return filled(f'`{name}`: {parts[0]}', '- ', '  ') + ''.join(filled(part, '  - ', '    ') for part in parts[1:])
 
 
 def written():
@@ -135,12 +141,36 @@ def written():
     return ''.join(parts)
 
 
+def too_long():
+    """The rows and bullets of the documents that are longer than allowed."""
+    found = []
+    for path in sorted(glob.glob(f'{top}/*.md') + glob.glob(f'{top}/docs/*.md') + glob.glob(f'{top}/tests/*/*.md')):
+        name = os.path.relpath(path, top)
+        with open(path, encoding='utf-8') as text:
+            rows = text.read().split('\n')
+        found += [f'{name}:{at}: {len(row)} columns' for at, row in enumerate(rows, 1) if len(row) > WIDTH]
+        if name == 'docs/THEOREMS.md' and len(rows) > THEOREMS + 1:
+            found.append(f'{name}: more than {THEOREMS} rows')
+        words, begun = 0, 0
+        for at, row in enumerate(rows + [''], 1):
+            if begun and not re.match(r' +[^ -]', row):
+                if words > WORDS:
+                    found.append(f'{name}:{begun}: a bullet of {words} words')
+                begun = 0
+            if re.match(r' *- ', row):
+                begun, words = at, -1
+            words += len(row.split())
+    return found
+
+
 def main():
     text = written()
     if sys.argv[1:] == ['--check']:
         with open(page, encoding='utf-8') as kept:
             if kept.read() != text:
                 sys.exit('docs/LAWS.md is not what docs/laws.py writes: run docs/laws.py')
+        if too_long():
+            sys.exit('\n'.join(too_long()))
     elif len(sys.argv) == 1:
         with open(page, 'w', encoding='utf-8') as out:
             out.write(text)
