@@ -1,8 +1,8 @@
 #!/bin/bash
 # How long core texts are checked, for sizes that double, and in how much memory. `procedures` defines a procedure with
 # two formals in each line, so that the names grow with the text; `calls` has lines of 100 bytes that bind nothing; and
-# `one line` is a single call. Each row has the bytes of the text, the seconds of the best of three runs, the ratio to the
-# row before it, which is half as long or, in the last, a tenth, and the most memory that the check had.
+# `one line` is a single call. Each row is one of `row` in times.sh, with
+# the bytes of the text; the one before it is half as long or, in the last, a tenth.
 top=$(cd "$(dirname "$0")/.." && pwd) || exit 1
 folder=$(mktemp -d) || exit 1
 trap 'rm -rf "$folder"' EXIT
@@ -38,25 +38,14 @@ one_line() {
 }
 
 measure() {
-    now=$(best "$folder/core.sps") || exit 1
-    awk -v what="$1" -v bytes="$(wc -c <"$folder/core.sps")" -v now="$now" -v before="$2" -v memory="$(memory)" \
-        'BEGIN { printf "%-12s %10d bytes %8.3f s  %5d MB", what, bytes, now / 1e9, memory; if (before) printf "  x%.2f", now / before; print "" }'
-    last=$now
-}
-
-# The most memory that a check has, in megabytes.
-memory() {
-    python3 -c '
-import resource, subprocess, sys
-subprocess.run(sys.argv[1:], stdout=subprocess.DEVNULL)
-print(resource.getrusage(resource.RUSAGE_CHILDREN).ru_maxrss // 1000)' "$program" "$folder/core.sps"
+    row "$1" "$(wc -c <"$folder/core.sps")" "$folder/core.sps"
 }
 
 for text in procedures calls one_line; do
     last=
     for size in 5000000 10000000 20000000; do
         $text "$size" >"$folder/core.sps"
-        measure "${text/_/ }" "$last"
+        measure "${text/_/ }"
     done
-    [ $text != calls ] || { calls 200000000 >"$folder/core.sps"; measure calls "$last"; }
+    [ $text != calls ] || { calls 200000000 >"$folder/core.sps"; measure calls; }
 done

@@ -1,14 +1,10 @@
 #!/bin/sh
 # How long programs of derived forms take, for sizes that double: n procedures, each of nested `let`, `let*`, named
-# `let`, `cond`, `case`, `do`, `and` and `or`. Each row has the seconds of the best of three runs, and the ratio to the
-# row before it, which is half as long.
+# `let`, `cond`, `case`, `do`, `and` and `or`. Each row is one of `row` in
+# times.sh; the one before it is half as long.
 top=$(cd "$(dirname "$0")/.." && pwd) || exit 1
 folder=$(mktemp -d) || exit 1
 trap 'rm -rf "$folder"' EXIT
-if [ -z "$program" ]; then
-    "$top/scheme-expand" "$top/examples/first/p.sps" >/dev/null || exit 1
-    program=$top/crates/scheme_expand/out/scheme_expand
-fi
 . "$(dirname "$0")/times.sh"
 
 # One procedure; N is its number.
@@ -28,14 +24,10 @@ procedure=$(cat <<'END'
 END
 )
 
-last=
 for count in 400 800 1600; do
     awk -v n="$count" -v text="$procedure" 'BEGIN {
         print "(import (rnrs))"
         for (i = 0; i < n; i++) { one = text; sub(/N/, i, one); print one }
     }' >"$folder/p.sps"
-    now=$(best "$folder/p.sps") || exit 1
-    awk -v count="$count" -v now="$now" -v before="$last" \
-        'BEGIN { printf "%7d procedures %8.3f s", count, now / 1e9; if (before) printf "  x%.2f", now / before; print "" }'
-    last=$now
+    row procedures "$count" "$folder/p.sps"
 done

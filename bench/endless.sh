@@ -1,20 +1,28 @@
 #!/bin/sh
-# Macros whose uses never come to an end: each program is stopped at its use 1,000,001. Each row has the seconds that
-# this took and the line of the fault. The tables of tests/cases leave these programs out, since they take seconds.
+# Macros whose uses never come to an end: each program is stopped at its use 1,000,001. Each row has the seconds of
+# processor time that this took, the most memory, and the line of the fault. The tables of tests/cases leave these programs out, since they take seconds.
 top=$(cd "$(dirname "$0")/.." && pwd) || exit 1
 folder=$(mktemp -d) || exit 1
 trap 'rm -rf "$folder"' EXIT
-"$top/scheme-expand" "$top/examples/first/p.sps" >/dev/null || exit 1
-program=$top/crates/scheme_expand/out/scheme_expand
+if [ -z "$program" ]; then
+    "$top/scheme-expand" "$top/examples/first/p.sps" >/dev/null || exit 1
+    program=$top/crates/scheme_expand/out/scheme_expand
+fi
 status=0
 
 # The program on standard input ends with this line of a fault.
 ends_with() {
     cat >"$folder/p.sps"
-    begun=$(date +%s%N)
-    told=$(cd "$folder" && "$program" p.sps 2>&1)
-    taken=$(( $(date +%s%N) - begun ))
-    awk -v taken="$taken" -v told="$told" 'BEGIN { printf "%8.3f s  %s\n", taken / 1e9, told }'
+    taken=$(cd "$folder" && python3 - "$program" 2>told <<'END'
+import os, subprocess, sys
+
+child = subprocess.Popen([sys.argv[1], "p.sps"])
+used = os.wait4(child.pid, 0)[2]
+print(f"{used.ru_utime + used.ru_stime:8.3f} s {used.ru_maxrss / 1024:8.1f} MB")
+END
+    )
+    told=$(cat "$folder/told")
+    echo "$taken  $told"
     if [ "$told" != "$1" ]; then
         echo "wanted      $1"
         status=1

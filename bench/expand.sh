@@ -1,12 +1,10 @@
 #!/bin/sh
 # How long programs take, for sizes that double: n definitions, each of which calls the one before it, and n
-# forms of ten nested scopes each. Each row has the seconds of the best of three runs, and the ratio to the
-# row before it, which is half as long.
+# forms of ten nested scopes each. Each row is one of `row` in times.sh; the one
+# before it is half as long.
 top=$(cd "$(dirname "$0")/.." && pwd) || exit 1
 folder=$(mktemp -d) || exit 1
 trap 'rm -rf "$folder"' EXIT
-"$top/scheme-expand" "$top/examples/first/p.sps" >/dev/null || exit 1
-program=$top/crates/scheme_expand/out/scheme_expand
 . "$(dirname "$0")/times.sh"
 
 definitions() {
@@ -31,9 +29,6 @@ for what in definitions scopes; do
     last=
     for count in 1000 2000 4000 8000; do
         $what "$count" >"$folder/p.sps"
-        now=$(best "$folder/p.sps") || exit 1
-        awk -v what="$what" -v count="$count" -v now="$now" -v before="$last" \
-            'BEGIN { printf "%-12s %7d %8.3f s", what, count, now / 1e9; if (before) printf "  x%.2f", now / before; print "" }'
-        last=$now
+        row "$what" "$count" "$folder/p.sps"
     done
 done

@@ -1,7 +1,7 @@
 #!/bin/sh
-# Programs of the size that a file may have, 4 MiB, each full of one thing. Each row has its size, the seconds that it took,
-# the most memory that it held, and the line of its fault where it has one; a run is stopped after half a minute. With words,
-# only those kinds are run.
+# Programs of the size that a file may have, 4 MiB, each full of one thing. Each row has its size, the seconds of
+# processor time that it took, the most memory that it held, and the line of its fault where it has one; a run is stopped
+# after 30 seconds of processor time. With words, only those kinds are run.
 top=$(cd "$(dirname "$0")/.." && pwd) || exit 1
 folder=$(mktemp -d) || exit 1
 trap 'rm -rf "$folder"' EXIT
@@ -10,7 +10,7 @@ if [ -z "$program" ]; then
     program=$top/crates/scheme_expand/out/scheme_expand
 fi
 python3 - "$program" "$folder" "$@" <<'END'
-import os, subprocess, sys, threading, time
+import os, resource, subprocess, sys
 
 program, folder, *wanted = sys.argv[1:]
 # What stands before, what is repeated, with its number for each N, and what stands behind.
@@ -38,6 +38,8 @@ KINDS = {
     "records": ("", "(define-record-type rN (fields a))\n", ""),
 }
 SIZE = 4 * 1024 * 1024
+# The most seconds of processor time.
+MOST = 30
 
 def write(path, first, word, last):
     """A program with as many of these words as a file has room for."""
@@ -52,17 +54,14 @@ def write(path, first, word, last):
 
 def run(kind):
     count = write(f"{folder}/p.sps", *KINDS[kind])
-    begun = time.time()
     child = subprocess.Popen([program, "--root", folder, f"{folder}/p.sps"],
-                             stdout=subprocess.DEVNULL, stderr=subprocess.PIPE)
-    stop = threading.Timer(30, child.kill)
-    stop.start()
+                             stdout=subprocess.DEVNULL, stderr=subprocess.PIPE,
+                             preexec_fn=lambda: resource.setrlimit(resource.RLIMIT_CPU, (MOST, MOST)))
     told = child.stderr.read().decode(errors="replace").replace(folder + "/", "")
     _, status, used = os.wait4(child.pid, 0)
-    stop.cancel()
     if os.WIFSIGNALED(status):
         told = "stopped"
-    print(f"{kind:12} {count:8} {time.time() - begun:8.3f} s {used.ru_maxrss / 1024:8.1f} MB  {told.splitlines()[0] if told else ''}",
+    print(f"{kind:12} {count:8} {used.ru_utime + used.ru_stime:8.3f} s {used.ru_maxrss / 1024:8.1f} MB  {told.splitlines()[0] if told else ''}",
           flush=True)
 
 unknown = [kind for kind in wanted if kind not in KINDS]

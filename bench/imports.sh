@@ -1,14 +1,10 @@
 #!/bin/sh
 # How long import sets take, for sizes that double: n sets of one library in a program, n names in one set, and a library
-# of n exports that 20 others import. Each row has the seconds of the best of three runs, and the ratio to the row
-# before it, which is half as long.
+# of n exports that 20 others import. Each row is one of `row` in times.sh; the one
+# before it is half as long.
 top=$(cd "$(dirname "$0")/.." && pwd) || exit 1
 folder=$(mktemp -d) || exit 1
 trap 'rm -rf "$folder"' EXIT
-if [ -z "$program" ]; then
-    "$top/scheme-expand" "$top/examples/first/p.sps" >/dev/null || exit 1
-    program=$top/crates/scheme_expand/out/scheme_expand
-fi
 . "$(dirname "$0")/times.sh"
 
 # A library of so many exports, and others that import it.
@@ -56,11 +52,11 @@ others() {
 }
 
 rows() {
-    what=$1
+    kind=$1
     shift
     last=
     for count in "$@"; do
-        case $what in
+        case $kind in
         whole) sets "$count" '(rnrs)' ;;
         only) sets "$count" '(only (rnrs) @)' ;;
         except) sets "$count" '(except (rnrs) @)' ;;
@@ -70,10 +66,7 @@ rows() {
         renames) library "$count" && names "$count" rename '(x# y#)' ;;
         others) library "$count" && others "$count" >"$folder/p.sps" ;;
         esac
-        now=$(best --root "$folder/" "$folder/p.sps") || exit 1
-        awk -v what="$what" -v count="$count" -v now="$now" -v before="$last" \
-            'BEGIN { printf "%-8s %7d %8.3f s", what, count, now / 1e9; if (before) printf "  x%.2f", now / before; print "" }'
-        last=$now
+        row "$kind" "$count" --root "$folder/" "$folder/p.sps"
     done
 }
 

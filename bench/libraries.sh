@@ -1,14 +1,10 @@
 #!/bin/sh
 # How long programs of n libraries take, for numbers that double: a chain, in which each library imports the one
-# before it, and a star, in which the program imports each. Each library has ten definitions. Each row has the
-# seconds of the best of three runs, and the ratio to the row before it, which is half as long.
+# before it, and a star, in which the program imports each. Each library has ten definitions. Each row is one
+# of `row` in times.sh; the one before it is half as long.
 top=$(cd "$(dirname "$0")/.." && pwd) || exit 1
 folder=$(mktemp -d) || exit 1
 trap 'rm -rf "$folder"' EXIT
-if [ -z "$program" ]; then
-    "$top/scheme-expand" "$top/examples/first/p.sps" >/dev/null || exit 1
-    program=$top/crates/scheme_expand/out/scheme_expand
-fi
 . "$(dirname "$0")/times.sh"
 
 # So many libraries below a folder, each of which imports the one before it, or none.
@@ -37,14 +33,11 @@ star() {
     }'
 }
 
-for what in chain star; do
-    libraries "$what" 1000
+for kind in chain star; do
+    libraries "$kind" 1000
     last=
     for count in 125 250 500 1000; do
-        $what "$count" >"$folder/p.sps"
-        now=$(best --root "$folder/$what" "$folder/p.sps") || exit 1
-        awk -v what="$what" -v count="$count" -v now="$now" -v before="$last" \
-            'BEGIN { printf "%-6s %5d libraries %8.3f s", what, count, now / 1e9; if (before) printf "  x%.2f", now / before; print "" }'
-        last=$now
+        $kind "$count" >"$folder/p.sps"
+        row "$kind of libraries" "$count" --root "$folder/$kind" "$folder/p.sps"
     done
 done

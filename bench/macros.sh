@@ -1,6 +1,6 @@
 #!/bin/sh
-# How long programs with macros take, for sizes that double. Each row has the seconds of the best of three runs, and
-# the ratio to the row before it, which is half as long. With words, only those kinds of program are run.
+# How long programs with macros take, for sizes that double. Each row is one of `row` in times.sh; the one
+# before it is half as long. With words, only those kinds of program are run.
 #
 #   uses       n uses of one macro with three pattern variables
 #   list       a macro that takes one element at a time off a list of n, by (_ (a . rest))
@@ -13,10 +13,6 @@
 top=$(cd "$(dirname "$0")/.." && pwd) || exit 1
 folder=$(mktemp -d) || exit 1
 trap 'rm -rf "$folder"' EXIT
-if [ -z "$program" ]; then
-    "$top/scheme-expand" "$top/examples/first/p.sps" >/dev/null || exit 1
-    program=$top/crates/scheme_expand/out/scheme_expand
-fi
 . "$(dirname "$0")/times.sh"
 
 # n lines, with the number of the line for each N.
@@ -111,15 +107,12 @@ library() {
 
 mkdir -p "$folder/lib"
 run() {
-    what=$1
+    kind=$1
     shift
     last=
     for count; do
-        { [ "$what" = library ] || echo "(import (rnrs))"; $what "$count"; } >"$folder/p.sps"
-        now=$(best --root "$folder" "$folder/p.sps") || exit 1
-        awk -v what="$what" -v count="$count" -v now="$now" -v before="$last" \
-            'BEGIN { printf "%-12s %7d %8.3f s", what, count, now / 1e9; if (before) printf "  x%.2f", now / before; print "" }'
-        last=$now
+        { [ "$kind" = library ] || echo "(import (rnrs))"; $kind "$count"; } >"$folder/p.sps"
+        row "$kind" "$count" --root "$folder" "$folder/p.sps"
     done
 }
 for what in ${*:-uses list grow double layers compute structures library}; do

@@ -1,7 +1,6 @@
 #!/bin/sh
-# How long names take that are bound far from where they stand, for sizes that double. Each row has the seconds of the
-# best of three runs, the most memory that a run held, and the ratio of the times to the row before it, which is half
-# as long. With words, only those kinds of program are run.
+# How long names take that are bound far from where they stand, for sizes that double. Each row is one of `row` in
+# times.sh; the one before it is half as long. With words, only those kinds of program are run.
 #
 #   near       n references, below 480 lambdas, to the variable of the innermost
 #   import     n references, below 480 lambdas, to an imported name
@@ -11,10 +10,6 @@
 top=$(cd "$(dirname "$0")/.." && pwd) || exit 1
 folder=$(mktemp -d) || exit 1
 trap 'rm -rf "$folder"' EXIT
-if [ -z "$program" ]; then
-    "$top/scheme-expand" "$top/examples/first/p.sps" >/dev/null || exit 1
-    program=$top/crates/scheme_expand/out/scheme_expand
-fi
 . "$(dirname "$0")/times.sh"
 
 # n words, with the number of the word for each N.
@@ -46,24 +41,13 @@ flat() {
     words "$1" '(define nN (lambda (x) (list x nN nN)))'
 }
 
-# The most memory that a run held, in kilobytes.
-held() {
-    python3 -c '
-import resource, subprocess, sys
-subprocess.run(sys.argv[1:], stdout=subprocess.DEVNULL, check=True)
-print(resource.getrusage(resource.RUSAGE_CHILDREN).ru_maxrss)' "$program" "$@"
-}
 run() {
-    what=$1
+    kind=$1
     shift
     last=
     for count; do
-        { echo "(import (rnrs))"; $what "$count"; } >"$folder/p.sps"
-        now=$(best --root "$folder" "$folder/p.sps") || exit 1
-        most=$(held --root "$folder" "$folder/p.sps") || exit 1
-        awk -v what="$what" -v count="$count" -v now="$now" -v before="$last" -v most="$most" \
-            'BEGIN { printf "%-12s %7d %8.3f s %7.1f MB", what, count, now / 1e9, most / 1024; if (before) printf "  x%.2f", now / before; print "" }'
-        last=$now
+        { echo "(import (rnrs))"; $kind "$count"; } >"$folder/p.sps"
+        row "$kind" "$count" --root "$folder" "$folder/p.sps"
     done
 }
 for what in ${*:-near import top often flat}; do

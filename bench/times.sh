@@ -1,13 +1,42 @@
-# Sourced by the scripts here, which set `program`: `best` prints the nanoseconds of the best of three runs of the
-# program with some words.
+# Sourced by the scripts here, which set `folder`, and `program` where they measure another one than the built one.
+#
+#   best WORDS..              runs the program three times with these words, its output dropped, and prints the least
+#                             processor time, user and system, in seconds, and the most memory, in megabytes
+#   row WHAT SIZE WORDS..     does so and prints WHAT, SIZE, the time, the memory, and the ratio of the time to that of
+#                             the row before, unless `last` was emptied; `any=1` allows statuses other than 0
+
+if [ -z "$program" ]; then
+    "$top/scheme-expand" "$top/examples/first/p.sps" >/dev/null || exit 1
+    program=$top/crates/scheme_expand/out/scheme_expand
+fi
+last=
+any=
 
 best() {
-    least=
-    for _ in 1 2 3; do
-        begun=$(date +%s%N)
-        "$program" "$@" >/dev/null || exit 1
-        taken=$(( $(date +%s%N) - begun ))
-        if [ -z "$least" ] || [ "$taken" -lt "$least" ]; then least=$taken; fi
-    done
-    echo "$least"
+    python3 - "$any" "$program" "$@" <<'END'
+import os, subprocess, sys
+
+least, most = None, 0
+for _ in range(3):
+    child = subprocess.Popen(sys.argv[2:], stdout=subprocess.DEVNULL, stderr=subprocess.DEVNULL if sys.argv[1] else None)
+    _, status, used = os.wait4(child.pid, 0)
+    if status and not sys.argv[1]:
+        sys.exit(f"status {os.waitstatus_to_exitcode(status)}")
+    least = min(least or 1e9, used.ru_utime + used.ru_stime)
+    most = max(most, used.ru_maxrss)
+print(f"{least:.6f} {most / 1024:.1f}")
+END
+}
+
+row() {
+    what=$1
+    size=$2
+    shift 2
+    now=$(best "$@") || exit 1
+    awk -v what="$what" -v size="$size" -v now="${now% *}" -v most="${now#* }" -v before="$last" 'BEGIN {
+        printf "%-28s %9d %8.3f s %8.1f MB", what, size, now, most
+        if (before > 0) printf "  x%.2f", now / before
+        print ""
+    }'
+    last=${now% *}
 }

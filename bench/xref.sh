@@ -1,14 +1,10 @@
 #!/bin/sh
 # How long the binding maps of programs take, for sizes that double: n definitions, each of which refers to the one
-# before it. Each row has the seconds of the best of three runs, the ratio to the row before it, which is half as long,
+# before it. Each row has the seconds of processor time of the best of three runs, the ratio to the row before it, which is half as long,
 # and the ratio to the core text of the same program.
 top=$(cd "$(dirname "$0")/.." && pwd) || exit 1
 folder=$(mktemp -d) || exit 1
 trap 'rm -rf "$folder"' EXIT
-if [ -z "$program" ]; then
-    "$top/scheme-expand" "$top/examples/first/p.sps" >/dev/null || exit 1
-    program=$top/crates/scheme_expand/out/scheme_expand
-fi
 . "$(dirname "$0")/times.sh"
 
 last=
@@ -19,7 +15,9 @@ for count in 1000 2000 4000 8000 16000; do
     }' >"$folder/p.sps"
     core=$(best "$folder/p.sps") || exit 1
     now=$(best --write xref "$folder/p.sps") || exit 1
+    now=${now% *}
+    core=${core% *}
     awk -v count="$count" -v now="$now" -v before="$last" -v core="$core" \
-        'BEGIN { printf "%7d %8.3f s, core text x%.2f", count, now / 1e9, now / core; if (before) printf ", half of it x%.2f", now / before; print "" }'
+        'BEGIN { printf "%7d %8.3f s, core text x%.2f", count, now, now / core; if (before) printf ", half of it x%.2f", now / before; print "" }'
     last=$now
 done
