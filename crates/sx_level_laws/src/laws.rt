@@ -9,18 +9,20 @@ pub fn patterns_are_bounded()
     ensures { PatternsAreBounded }
 {}
 
-/// So it is with templates.
+/// A template of more levels than there is room for has no spelling. Where the room is enough, a larger one
+/// makes no difference.
 pub fn templates_are_bounded()
     ensures { TemplatesAreBounded }
 {}
 
-/// So it is with core code, whose levels are its core expressions in one another.
+/// Core code with more core expressions in one another than there is room for has no spelling. Where the room
+/// is enough, a larger one makes no difference.
 pub fn core_is_bounded()
     ensures { CoreIsBounded }
 {}
 
-/// The room of the patterns and templates of an entry is 2,000 levels, that of its core code 8,193, and that of
-/// its constants 1,000. Its numbers have 16, 32, 64 or 128 bits.
+/// The patterns and templates of an entry have at most 2,000 levels, its core code 8,193, and its constants
+/// 1,000. Its numbers of two, four and eight bytes are those that such bytes can write.
 pub fn limits_of_entries_are_written()
     ensures { LimitsOfEntries }
 {}
