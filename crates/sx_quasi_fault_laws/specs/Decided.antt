@@ -16,7 +16,8 @@ QuoteIs formed bad (Ok q) = formed ≡ true
 QuoteIs formed bad (Err f) = (formed ≡ false) × (f ≡ bad)
 
 abbrev pub QuotesAreDecided : Type 0
-QuotesAreDecided = (w : Words) (t form : Tree) (place : Span) → QuoteIs (is_formed none_stays w t 0) (fault_at kind.BadForm form place []) (quasi w t form place)
+QuotesAreDecided = (w : Words) (t form : Tree) (place : Span)
+    → QuoteIs (is_formed none_stays w t 0) (fault_at kind.BadForm form place []) (quasi w t form place)
 
 -- A `quasisyntax` form may besides pass a limit of trees, where expressions are taken out of it.
 abbrev pub SyntaxIs : {A : Type 0} → Bool → Fault → Fault → Result A Fault → Type 0

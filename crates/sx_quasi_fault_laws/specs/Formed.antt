@@ -49,7 +49,8 @@ abbrev mutual
   rest_is_formed stays w (atom s a) n m = true
   rest_is_formed stays w (leaf s x c) n m = true
   rest_is_formed stays w (pair s a d) n m =
-      if is_tail w a d then list_formed w n a d (is_formed stays w a) (rest_is_formed stays w d) (w a) else element_formed w m a (is_formed stays w a m) && rest_is_formed stays w d n m
+      if is_tail w a d then list_formed w n a d (is_formed stays w a) (rest_is_formed stays w d) (w a)
+      else element_formed w m a (is_formed stays w a m) && rest_is_formed stays w d n m
   rest_is_formed stays w (vector s d) n m = items_are_formed stays w d n
 
   -- the elements of a vector
