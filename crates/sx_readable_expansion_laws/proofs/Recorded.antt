@@ -51,23 +51,25 @@ kept-holds None h = tt
 kept-holds (Some (keyword.Waiting place)) h = tt
 kept-holds (Some (keyword.Kept e v)) h = h.0
 
-completed-holds : (s : State) (l : Label) (b : Binding) → F s → ReadableBinding (completed s l b)
-completed-holds s l b h = by (has_label s.assigned l) b
+completed-holds : (s : State) (l : Label) (b : Binding) → F s → ReadableBinding b → ReadableBinding (completed s l b)
+completed-holds s l b h k = by (has_label s.assigned l) b k
   where
-    by : (a : Bool) (b : Binding) → ReadableBinding (with_expression (expression_of l (stage_of s)) (with_assigned a b))
-    by a (binding.Variable v) = tt
-    by a (binding.PatternVariable level depth) = tt
-    by a (binding.Macro level e) = kept-holds (keyword_at s.keywords l) (looked_up ReadableKeyword (same_label l) s.keywords h.stage.keywords)
-    by a (binding.Core f) = tt
-    by a (binding.Primitive op) = tt
+    by : (a : Bool) (b : Binding) → ReadableBinding b → ReadableBinding (with_expression (expression_of l (stage_of s)) (with_assigned a b))
+    by a (binding.Variable v) k = k
+    by a (binding.PatternVariable level depth) k = tt
+    by a (binding.Macro level e) k = kept-holds (keyword_at s.keywords l) (looked_up ReadableKeyword (same_label l) s.keywords h.stage.keywords)
+    by a (binding.Core f) k = tt
+    by a (binding.Primitive op) k = tt
 
-row-at-holds : (s : State) (l : Label) (o : Option Binding) → F s → ReadableBindings (row_at s l o)
-row-at-holds s l None h = tt
-row-at-holds s l (Some b) h = (completed-holds s l b h, tt)
+row-at-holds : (s : State) (l : Label) (o : Option Binding) → F s → OptionHolds ReadableBinding o → ReadableBindings (row_at s l o)
+row-at-holds s l None h k = tt
+row-at-holds s l (Some b) h k = (completed-holds s l b h k, tt)
 
 below-holds : (s : State) (n : ℕ) → F s → ReadableBindings (own_below s n)
 below-holds s zero h = tt
-below-holds s (suc n) h = each_both (λ (b : Label × Binding). ReadableBinding b.1) (own_below s n) (own_row s n) (below-holds s n h) (row-at-holds s (own_label s n) (bound_to s.bindings (own_label s n)) h)
+below-holds s (suc n) h =
+    let l = own_label s n in
+    each_both (λ (b : Label × Binding). ReadableBinding b.1) (own_below s n) (own_row s n) (below-holds s n h) (row-at-holds s l (bound_to s.bindings l) h (looked_up ReadableBinding (same_label l) s.bindings h.bindings))
 
 own-holds : (s : State) → F s → ReadableBindings (own_bindings s)
 unfolding own_bindings

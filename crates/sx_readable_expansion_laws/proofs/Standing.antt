@@ -9,10 +9,10 @@ use Rattle.sx_base.specs.declared.name.Label.{Label}
 use Rattle.sx_base.specs.declared.name.Mark.{Mark}
 use Rattle.sx_base.specs.declared.span.Span.{Span}
 use Rattle.sx_tree.specs.Changes.{enter, leave}
-use Rattle.sx_tree.specs.Tree.{Tree, span_of}
+use Rattle.sx_tree.specs.Tree.{Tree, atom, leaf, pair, vector, span_of}
 use Rattle.sx_tree.specs.declared.change.Change.TheVariants as change
 use Rattle.sx_frames.specs.Scope.{Scope, bound}
-use Rattle.sx_scope.specs.Stands.{row_for}
+use Rattle.sx_scope.specs.Stands.{symbol_of, row_for}
 use Rattle.sx_core.specs.Bindings.{bound_to}
 use Rattle.sx_core.specs.Core.{PlainCore}
 use Rattle.sx_core.specs.Labels.{same_label}
@@ -45,6 +45,7 @@ use Rattle.sx_standing.specs.State.{State, Does, stage_of, staged, on_stage, fre
 use Rattle.sx_standing.specs.Uses.{macro_expression, use_keyword, asks_variable, put_keyword, bind_keyword_as, bind_keyword, bind_keywords, finish_keyword}
 use Rattle.sx_standing.specs.declared.binders.BoundSpec.{BoundSpec}
 use Rattle.sx_standing.proofs.Noted.{noted-keeps}
+use Rattle.sx_round.specs.Readable.{IsName}
 use Rattle.sx_template.specs.Compile as templates
 use Rattle.sx_value.specs.Cells.{Each}
 use Rattle.sx_readable_laws.specs.Readable.{ReadableTree, ReadableCore, ReadableTemplate}
@@ -133,11 +134,11 @@ row-put-holds id place s (Ok frames) h = (record { stage = record { cells = h.st
 pub put-row-holds : (id : Tree) (place : Span) (frame : FrameNo) (l : Label) (s : State) → F s → Gave Taken (put_row id place frame l s)
 put-row-holds id place frame l s h = row-put-holds id place s (bound s.frames frame (row_for id l)) h
 
-put-variable-holds : (l : Label) (v : VarInfo) (s : State) → F s → Gave Taken (put_variable l v s)
-put-variable-holds l v s h = (
+put-variable-holds : (l : Label) (v : VarInfo) (s : State) → F s → IsName v.symbol → Gave Taken (put_variable l v s)
+put-variable-holds l v s h named = (
   record {
     stage = record { cells = h.stage.cells; codes = h.stage.codes; globals = h.stage.globals; keywords = h.stage.keywords };
-    bindings = each_and (λ (b : Label × Binding). ReadableBinding b.1) s.bindings (l, binding.Variable v) h.bindings tt;
+    bindings = each_and (λ (b : Label × Binding). ReadableBinding b.1) s.bindings (l, binding.Variable v) h.bindings named;
   },
   tt,
 )
@@ -146,19 +147,20 @@ put-variable-holds l v s h = (
 pub state-links : (s : State) (ls : List Link) → F s → F (record s { links = ls })
 state-links s ls h = record { stage = h.stage; bindings = h.bindings }
 
-bind-as-holds : (frame : FrameNo) (id : Tree) (place : Span) (level : ℕ) (top : Bool) (n : Named) (s : State) → F s → T id → Gave Taken (bind_as frame id place level top n s)
-bind-as-holds frame id place level top n s h k =
+bind-as-holds : (frame : FrameNo) (id : Tree) (place : Span) (level : ℕ) (top : Bool) (n : Named) (s : State) → F s → IsName (symbol_of id) → Gave Taken (bind_as frame id place level top n s)
+bind-as-holds frame id place level top n s h named =
     gave-after Taken (Taken {A = Label}) (put_row id place frame (record { 0 = n }) s) _ (put-row-holds id place frame (record { 0 = n }) s h)
-    (λ x t i y. gave-after Taken (Taken {A = Label}) (put_variable (record { 0 = n }) (variable_for id level top s.index) t) (λ _. note (record { 0 = n }) (span_of id) (record { 0 = n }) kinds.Bind) (put-variable-holds (record { 0 = n }) (variable_for id level top s.index) t i)
+    (λ x t i y. gave-after Taken (Taken {A = Label}) (put_variable (record { 0 = n }) (variable_for id level top s.index) t) (λ _. note (record { 0 = n }) (span_of id) (record { 0 = n }) kinds.Bind) (put-variable-holds (record { 0 = n }) (variable_for id level top s.index) t i named)
     (λ z u j w. noted-keeps (λ v. F v × Unit {0}) (span_of id) (record { 0 = n }) kinds.Bind u (λ ls. (state-links u ls j, tt))))
 
 pub variable-holds : (frame : FrameNo) (place : Span) (level : ℕ) (top : Bool) (id : Tree) (s : State) → F s → T id → Gave Taken (bind_variable frame place level top id s)
 unfolding bind_variable fresh
-variable-holds frame place level top id s h k =
+variable-holds frame place level top (atom r x) s h k = tt
+variable-holds frame place level top (leaf r x c) s h k =
     let t : State = record s { names = record { library = s.names.library; number = s.names.number + 1 } } in
-    let i = counted-holds s h in
-    gave-if Taken (is_leaf id) (bind_as frame id place level top s.names t) _
-    (bind-as-holds frame id place level top s.names t i k) tt
+    bind-as-holds frame (leaf r x c) place level top s.names t (counted-holds s h) k
+variable-holds frame place level top (pair r a d) s h k = tt
+variable-holds frame place level top (vector r d) s h k = tt
 
 forget : {A : Type 0} (s : State) (r : Result (List A × State) Fault) → Gave (λ (ys : List A). Each Taken ys) r → Gave Taken r
 forget s (Ok p) h = (h.0, tt)

@@ -11,7 +11,7 @@ use Rattle.sx_expand.specs.Expanding.{ready, library_record}
 use Rattle.sx_readable_laws.specs.Readable.{ReadableTree, ReadableCodes, ReadableLines}
 use Rattle.sx_readable_expansion_laws.specs.States.{ReadableBindings}
 
--- the constants of its lines, and of its keywords' expressions
+-- the constants of its lines and of its keywords' expressions, and the symbols of its variables
 pub record ReadableRecord (r : LibRecord) : Type 0 where
   pub run : ReadableLines r.run
   pub bindings : ReadableBindings r.bindings

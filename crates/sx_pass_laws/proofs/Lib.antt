@@ -1,0 +1,4 @@
+pub mod Spans
+pub mod Spelt
+pub mod Formed
+pub mod Pass

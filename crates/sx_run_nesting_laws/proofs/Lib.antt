@@ -1,0 +1,4 @@
+pub mod Texts
+pub mod Records
+pub mod Heights
+pub mod Nesting
