@@ -1,7 +1,7 @@
 -- What spells core code is an expression of the checker's grammar, with the names that the code binds.
 use Rattle.std.proofs.Common.{◌≡◌, ℕ, suc, Bool, true, false, List, [], ◌∷◌, ◌++◌, Option, append_assoc, refl, sym, ap, subst, ◌∙◌, cond, inl, inr}
 use Rattle.std.proofs.lemmas.List.{append-nil, map-append}
-use Rattle.std.specs.Prelude.{◌||◌, not, codes}
+use Rattle.std.specs.Prelude.{◌||◌, not, codes, unwrap_or}
 use Rattle.std.specs.Cmp.Lexicographic.{bytes_decides}
 use Rattle.std.specs.Str.{bytes_eq}
 use Rattle.sx_base.specs.Datum as datum
@@ -19,7 +19,6 @@ use Rattle.sx_check_grammar.specs.Primitives.{is_primitive, is_value}
 use Rattle.sx_core.specs.Core.{PlainCore, PlainCores, PlainInits, PlainCases}
 use Rattle.sx_core.specs.References.{rest_labels, formals_labels, binders, all_binders, init_binders, case_binders}
 use Rattle.sx_core.specs.declared.record.Line.{Line}
-use Rattle.sx_core_grammar.proofs.Called.{called_is, primitive_free}
 use Rattle.sx_core_grammar.specs.Lines as sl
 use Rattle.sx_core_grammar.specs.Lines.{SpellsLine}
 use Rattle.sx_core_grammar.specs.Names.{IsCalled, IsPrimitive}
@@ -30,6 +29,7 @@ use Rattle.sx_core_laws.specs.Records.{line_core, line_labels, line_binders}
 use Rattle.sx_core_laws.specs.Words.{Each, Among}
 use Rattle.sx_core_text.specs.CoreText.{Names, name_of}
 use Rattle.sx_expand_laws.proofs.Fresh.{each-at, each-append}
+use Rattle.sx_pass_laws.proofs.Primitives.{primitive_found}
 use Rattle.sx_run_laws.specs.Names.{names_for, NamesClosed, AllNamesClosed, InitNamesClosed, CaseNamesClosed}
 
 abbrev Words : Type 0
@@ -97,11 +97,14 @@ quoted_is (datum.pair t d e) h = f.list
 quoted_is (datum.vector t d) h = f.elements
 
 primitive_is : (o : ℕ) → IsPrimitive o → is_primitive (op_text o) ≡ true
-primitive_is o h = ap is_value (primitive_free o h).found ∙ ap not h.1
+primitive_is o h = ap is_value (primitive_found o h) ∙ ap not h.1
 
 letrec_is : (ordered : Bool) → IsLetrec (letrec_keyword ordered)
 letrec_is true = f.ordered
 letrec_is false = f.plain
+
+called_is : (names : Names) (l : Label) (x : List ℕ) → IsCalled names l x → name_of names l ≡ x
+called_is names l x e = ap (λ (o : Option (List ℕ)). unwrap_or o []) e
 
 module _ (names : Names) where
   -- what such a variable is called is a name

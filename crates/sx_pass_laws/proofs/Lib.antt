@@ -1,4 +1,5 @@
 pub mod Spans
 pub mod Spelt
+pub mod Primitives
 pub mod Formed
 pub mod Pass
