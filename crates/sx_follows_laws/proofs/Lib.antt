@@ -1,0 +1,4 @@
+mod Parts
+mod References
+mod Rows
+mod Kept
