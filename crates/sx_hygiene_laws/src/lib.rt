@@ -90,7 +90,8 @@ pub fn a_use_is_hygienic()
     ensures { AWholeUse }
 {}
 
-/// An identifier that one use introduced is captured by no binder that another use introduced.
+/// An identifier that one use introduced, and that another hasn't touched, is captured by no binder that the other
+/// introduced.
 pub fn uses_stay_apart()
     ensures { TwoUses }
 {}
