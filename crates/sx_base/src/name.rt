@@ -210,7 +210,7 @@ impl Names {
         Names { library, next: 0 }
     }
 
-    /// The next name, which never comes again. After a refusal it is still the next one.
+    /// The next name. After a refusal it is still the next one.
     /// At 2^64 - 1 names it answers `Memory`; no run gets there.
     pub fn next(&mut self) -> Result<Name, Memory>
         ensures ok { IfOk result (λ n. n ≡ self.old) }

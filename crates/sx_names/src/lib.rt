@@ -5,8 +5,8 @@
 //! is `%util.stack/push/1`, and the first of a program, with the symbol `a/b`, is `%/a~2F~b/0`. A
 //! character other than ASCII letters, digits and `! $ % & * : < = > ? ^ _ + - @` is spelt `~HEX~`.
 //!
-//! The promise: what is added to a text is exactly the generated name. The printer, the record forms
-//! and the checker of core text all cite this one definition.
+//! The promise: what is added to a text is exactly the generated name. Core text names all variables by this
+//! one definition; the checker of core text has its own, and `sx_check_laws` says that the two agree.
 #![tactic(auto)]
 
 ghost use Rattle.std.specs.Prelude.{◌≡◌, ◌++◌, OnOk};

@@ -28,8 +28,8 @@ pub fn one_binding_is_one_meaning()
     ensures equivalence { (fs : Scope) → IsEquivalence (same_binding fs) }
 {}
 
-/// Identifiers that are `bound-identifier=?` have one row in every frame. With the same stamps they are
-/// `free-identifier=?`, too; otherwise one of them may be outside a frame that binds the other.
+/// Identifiers that are `bound-identifier=?` have one label in every frame. With the same stamps they are
+/// `free-identifier=?`, too.
 pub fn one_binder_is_one_row()
     ensures rows { (fs : Scope) (f : FrameNo) (a b : Tree) → IsTrue (same_binder a b) →
         label_at fs f (symbol_of a) (marks_of a) ≡ label_at fs f (symbol_of b) (marks_of b) }
