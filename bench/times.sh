@@ -1,7 +1,8 @@
 # Sourced by the scripts here, which set `folder`, and `program` where they measure another one than the built one.
 #
 #   best WORDS..              runs the program three times with these words, its output dropped, and prints the least
-#                             processor time, user and system, in seconds, and the most memory, in megabytes
+#                             processor time, user and system, in seconds, and the most memory, in megabytes; `runs=1`
+#                             runs it so many times
 #   row WHAT SIZE WORDS..     does so and prints WHAT, SIZE, the time, the memory, and the ratio of the time to that of
 #                             the row before, unless `last` was emptied; `any=1` allows statuses other than 0
 
@@ -13,14 +14,14 @@ last=
 any=
 
 best() {
-    python3 - "$any" "$program" "$@" <<'END'
+    python3 - "${runs:-3}" "$any" "$program" "$@" <<'END'
 import os, subprocess, sys
 
 least, most = None, 0
-for _ in range(3):
-    child = subprocess.Popen(sys.argv[2:], stdout=subprocess.DEVNULL, stderr=subprocess.DEVNULL if sys.argv[1] else None)
+for _ in range(int(sys.argv[1])):
+    child = subprocess.Popen(sys.argv[3:], stdout=subprocess.DEVNULL, stderr=subprocess.DEVNULL if sys.argv[2] else None)
     _, status, used = os.wait4(child.pid, 0)
-    if status and not sys.argv[1]:
+    if status and not sys.argv[2]:
         sys.exit(f"status {os.waitstatus_to_exitcode(status)}")
     least = min(least or 1e9, used.ru_utime + used.ru_stime)
     most = max(most, used.ru_maxrss)

@@ -25,7 +25,7 @@ HEAD = '''# The laws
   gives, fault and place included; a call that allocates may also answer that memory ran out.
 
 A name such as `laws::changes_compose` is a path within its crate. Where a comment and a clause differ, the
-clause is what is proved. `docs/THEOREMS.md` has the ten laws that matter most, `docs/GLOSSARY.md` the words.
+clause is what is proved. `docs/THEOREMS.md` has the eleven that matter most, `docs/GLOSSARY.md` the words.
 '''
 
 

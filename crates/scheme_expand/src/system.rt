@@ -17,13 +17,14 @@ use sx_ops::parts::{parts, unpacked};
 use sx_ops::raised::raising;
 use sx_ops::strings::{number_strings, string_comparisons, strings};
 use sx_ops::syntax::{identifiers, temporaries};
-use sx_outside::{HostFiles, HostSink};
+use sx_outside::{HostFiles, HostSink, HostStore};
 use sx_prims::rows::{
     APPENDED, BASICS, CHARACTERS, DATA, EQUALITY, GATHERED, IDENTIFIERS, INDEXED, LISTS,
     NUMBER_STRINGS, NUMBERS, PARTS, RAISING, STRING_COMPARISONS, STRINGS, TEMPORARIES, TREES,
     UNPACKED,
 };
 use sx_prims::table::{PrimRow, PrimTable};
+use sx_run::inputs::Inputs;
 use sx_run::status::Status;
 use sx_run::top;
 use sx_run::top::Outside;
@@ -46,7 +47,10 @@ fn run_both<'a, N: Ledger, L: Ledger>(
 ) -> Result<Status, Memory> {
     let alloc = rt.alloc();
     let mut outside = Outside {
-        files: HostFiles::new(alloc, rt.clone()?),
+        inputs: Inputs {
+            files: HostFiles::new(alloc, rt.clone()?),
+            store: HostStore::new(alloc, rt.clone()?),
+        },
         out: HostSink::new(rt.stdout()),
         err: HostSink::new(rt.stderr()),
     };

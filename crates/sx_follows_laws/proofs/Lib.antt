@@ -2,3 +2,5 @@ mod Parts
 mod References
 mod Rows
 mod Kept
+mod VersionLemmas
+mod PassLemmas

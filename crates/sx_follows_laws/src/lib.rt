@@ -13,10 +13,14 @@
 //! One thing that is asked of records whose text is made doesn't follow: that no two variables share an index, where one of
 //! them is neither defined nor bound in a line.
 //!
+//! And where a run has a text, the records that expansion gives its libraries follow those that they need. So over an
+//! honest store every entry is reused that was made with the roots and of the sources of the run.
+//!
 //! Here are no calls to make: each function stands for the law that it ensures.
 #![tactic(auto)]
 
 ghost use Rattle.sx_follows_laws.specs.Followers.{FollowersKeepTo, FollowersKeepTogether, FollowersStand};
+ghost use Rattle.sx_follows_laws.specs.Passing.{RunsPass};
 
 /// A record that follows others stands behind them: evaluation can stand on it, it can be put beside them in the
 /// tables of a run, and what it binds and what its frames give stands once.
@@ -34,4 +38,10 @@ pub fn followers_keep_together()
 /// index.
 pub fn followers_stand()
     ensures { FollowersStand }
+{}
+
+/// Where a program is expanded, the record that expansion gives a library can stand for it. So over an honest store an
+/// entry at its place, made with the roots and of the sources of the run, is reused.
+pub fn runs_pass()
+    ensures { RunsPass }
 {}

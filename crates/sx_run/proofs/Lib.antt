@@ -1,2 +1,4 @@
 pub mod Sinks
 pub mod ToldLemmas
+pub mod CachedLemmas
+pub mod WordsLemmas

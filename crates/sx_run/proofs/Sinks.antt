@@ -1,7 +1,6 @@
 -- From what sinks and parts promise to what a run promises.
-use Rattle.std.proofs.Common.{◌≡◌, ℕ, ◌<◌, List, [], length, take, Option, Some, None, Result, Ok, Err, refl, ap, sym, subst, ◌∙◌}
-use Rattle.std.specs.Prelude.{string_bytes}
-use Rattle.sx_outside.specs.declared.sink.PutFailed.{PutFailed}
+use Rattle.std.proofs.Common.{◌≡◌, ℕ, ◌<◌, List, length, take, Option, Some, None, Result, Ok, Err, refl, ap, sym, subst, ◌∙◌, inl, inr}
+use Rattle.std.specs.Prelude.{◌⊎◌, IfSome, string_bytes}
 use Rattle.sx_outside.specs.Contents.{Paths}
 use Rattle.sx_outside.specs.Causes.{Rose}
 use Rattle.sx_outside.specs.Sink.{Gains}
@@ -14,68 +13,124 @@ use Rattle.sx_run.specs.Words.{words_asked, usage_line}
 use Rattle.sx_run.specs.Whole.{Outcome, usage, done, fault, of_job, of_made}
 use Rattle.sx_words.specs.declared.words.Words.{Words}
 use Rattle.sx_words.specs.declared.words.Words.TheVariants.{Expand, Make, Usage}
-use Rattle.sx_run.specs.Prepared.{Prepares, Writes}
-use Rattle.sx_run.specs.Headline.{Sunk, AskedOnce, Broke, IfTold, Says, Reports, reported, unreported, Finishes, written, broken, Complains, said, no_line, Headline, wrote_text, wrote_fault, wrong_words, read_fault, no_memory, Complete, status_of}
+use Rattle.sx_words.specs.declared.job.Job.{Job}
+use Rattle.sx_run.specs.Prepared.{Prepares, PreparesBy, Writes}
+use Rattle.sx_run.specs.Headline.{Sunk, Storage, AskedOnce, Broke, SaysJob, SaysAsked, Says, Reports, reported, unreported, Finishes, written, broken, Complains, said, no_line, Headline, wrote_text, wrote_fault, wrong_words, read_fault, no_memory, CompleteJob, CompleteAsked, Complete, status_of}
 
 pub broke : (s : Sunk) (piece : List ℕ) (taken : ℕ) → taken < length piece → Gains s.before s.after (take taken piece) → Rose s.faults_before s.faults_after → AskedOnce s → Broke s piece
 broke s piece taken short gains rose asked = record { taken = taken; short = short; part = gains; rose = rose; asked = asked }
 
--- what holds of all that is told
-on_told : (asked : Words) (told : Option Paths) (P Q : Outcome → Type 0) → ((o : Outcome) → P o → Q o) → IfTold told asked P → IfTold told asked Q
-on_told (Expand job) None P Q next given = tt
-on_told (Expand job) (Some files) P Q next given = next (of_job files job) given
-on_told (Make count) told P Q next given = next (of_made count) given
-on_told Usage told P Q next given = next usage given
+-- ---- what the definition gives
 
-all_told : (asked : Words) (told : Option Paths) (P : Outcome → Type 0) → ((o : Outcome) → P o) → IfTold told asked P
-all_told (Expand job) None P all = tt
-all_told (Expand job) (Some files) P all = all (of_job files job)
-all_told (Make count) told P all = all (of_made count)
-all_told Usage told P all = all usage
+-- what is the definition's for a job without a cache, where the files are told
+pub by_files : (told : Option Paths) (job : Job) (prepared : Result Prepared Unfinished) → IfSome told (λ files. Prepares prepared (of_job files job)) → PreparesBy (λ outcome. IfSome told (λ files. of_job files job ≡ outcome)) prepared
+by_files told job (Ok made) h = h
+by_files told job (Err (unfinished.Line line)) h = h
+by_files told job (Err unfinished.Read) h = tt
+by_files told job (Err unfinished.Memory) h = tt
 
--- what holds of the words that were read
-pub told_of : (told : Option Paths) (words : List (List ℕ)) (asked : Words) (P : Outcome → Type 0) → words_asked words ≡ asked → IfTold told asked P → IfTold told (words_asked words) P
-told_of told words asked P is given = subst (λ (w : Words). IfTold told w P) (sym is) given
+pub by_made : (count : ℕ) (prepared : Result Prepared Unfinished) → Prepares prepared (of_made count) → PreparesBy (λ outcome. of_made count ≡ outcome) prepared
+by_made count (Ok made) h = h
+by_made count (Err (unfinished.Line line)) h = h
+by_made count (Err unfinished.Read) h = tt
+by_made count (Err unfinished.Memory) h = tt
 
-usage_said : (told : Option Paths) (words : List (List ℕ)) → words_asked words ≡ Usage → Says told words usage
-usage_said told words none = told_of told words Usage (λ given. given ≡ usage) none refl
-
-same_status : (told : Option Paths) (words : List (List ℕ)) (o : Outcome) (s : Status) (P Q R M : Type 0) → Says told words o → s ≡ status_of o
-    → IfTold told (words_asked words) (λ given. ¬ P → ¬ Q → ¬ R → ¬ M → s ≡ status_of given)
-same_status told words o s P Q R M given e =
-    on_told (words_asked words) told (λ g. g ≡ o) (λ g. ¬ P → ¬ Q → ¬ R → ¬ M → s ≡ status_of g) (λ g same p q r m. e ∙ ap status_of (sym same)) given
-
-excused : (told : Option Paths) (words : List (List ℕ)) (s : Status) (P Q R M : Type 0) → (¬ P → ¬ Q → ¬ R → ¬ M → ⊥)
-    → IfTold told (words_asked words) (λ given. ¬ P → ¬ Q → ¬ R → ¬ M → s ≡ status_of given)
-excused told words s P Q R M never =
-    all_told (words_asked words) told (λ g. ¬ P → ¬ Q → ¬ R → ¬ M → s ≡ status_of g) (λ g p q r m. absurd (never p q r m))
+-- what holds of what was asked holds of the words
+pub asked_of : (told : Option Paths) (store : Storage) (words : List (List ℕ)) (asked : Words) (prepared : Result Prepared Unfinished) → words_asked words ≡ asked → PreparesBy (SaysAsked told store asked) prepared → PreparesBy (Says told store words) prepared
+asked_of told store words asked prepared is given = subst (λ (w : Words). PreparesBy (SaysAsked told store w) prepared) (sym is) given
 
 -- what was prepared for the words, and then written, ends a run as the headline says
-pub ended : (told : Option Paths) (words : List (List ℕ)) (faults_before faults_after : ℕ) (out err : Sunk) (prepared : Result Prepared Unfinished) (s : Status)
-    → IfTold told (words_asked words) (λ given. Prepares prepared given) → (prepared ≡ Err unfinished.Read → Rose faults_before faults_after)
-    → Writes prepared out err s → Headline told words faults_before faults_after out err s
-ended told words fb fa out err (Ok made) s gives read w = wrote_text (string_bytes made.text) (string_bytes made.report) gives w
-ended told words fb fa out err (Err (unfinished.Line line)) s gives read w = wrote_fault (string_bytes line) gives w
-ended told words fb fa out err (Err unfinished.Read) s gives read w = read_fault w.0 (read refl) w.1.0 w.1.1
-ended told words fb fa out err (Err unfinished.Memory) s gives read w = no_memory w.0 w.1.0 w.1.1
+pub ended : (told : Option Paths) (store : Storage) (words : List (List ℕ)) (faults_before faults_after : ℕ) (out err : Sunk) (prepared : Result Prepared Unfinished) (s : Status)
+    → PreparesBy (Says told store words) prepared → (prepared ≡ Err unfinished.Read → Rose faults_before faults_after)
+    → Writes prepared out err s → Headline told store words faults_before faults_after out err s
+ended told store words fb fa out err (Ok made) s gives read w = wrote_text (string_bytes made.text) (string_bytes made.report) gives w
+ended told store words fb fa out err (Err (unfinished.Line line)) s gives read w = wrote_fault (string_bytes line) gives w
+ended told store words fb fa out err (Err unfinished.Read) s gives read w = read_fault w.0 (read refl) w.1.0 w.1.1
+ended told store words fb fa out err (Err unfinished.Memory) s gives read w = no_memory w.0 w.1.0 w.1.1
 
-module _ (told : Option Paths) (words : List (List ℕ)) (fb fa : ℕ) (out err : Sunk) where
-  by_report : (s : Status) (text report : List ℕ) → Says told words (done text report) → Reports err report s → Complete told words (Rose fb fa) (Rose out.faults_before out.faults_after) (Rose err.faults_before err.faults_after) s
-  by_report s text report given (reported b) = same_status told words (done text report) s _ _ _ _ given refl
-  by_report s text report given (unreported b) = excused told words s _ _ _ _ (λ p q r m. r b.rose)
+-- ---- a status is excused, or it is that of what the definition gives
 
-  by_text : (s : Status) (text report : List ℕ) → Says told words (done text report) → Finishes out err text report s → Complete told words (Rose fb fa) (Rose out.faults_before out.faults_after) (Rose err.faults_before err.faults_after) s
+module _ (told : Option Paths) (store : Storage) (words : List (List ℕ)) (fb fa : ℕ) (out err : Sunk) where
+  abbrev Unexcused : Status → Type 0
+  Unexcused s = ¬ Rose fb fa → ¬ Rose out.faults_before out.faults_after → ¬ Rose err.faults_before err.faults_after → ¬ (s ≡ status.Memory) → ⊥
+
+  -- words are refused only where they are refused
+  abbrev IsOf : Outcome → Type 0
+  IsOf (done text report) = Unit {0}
+  IsOf (fault line) = Unit {0}
+  IsOf usage = words_asked words ≡ Usage
+
+  -- the outcome, and its status
+  record Given (s : Status) : Type 0 where
+    pub outcome : Outcome
+    pub says : Says told store words outcome
+    pub of : IsOf outcome
+    pub is : s ≡ status_of outcome
+
+  abbrev Judged : Status → Type 0
+  Judged s = Unexcused s ⊎ Given s
+
+  by_report : (s : Status) (text report : List ℕ) → Says told store words (done text report) → Reports err report s → Judged s
+  by_report s text report given (reported b) = inr (record { outcome = done text report; says = given; of = tt; is = refl })
+  by_report s text report given (unreported b) = inl (λ p q r m. r b.rose)
+
+  by_text : (s : Status) (text report : List ℕ) → Says told store words (done text report) → Finishes out err text report s → Judged s
   by_text s text report given (written a b) = by_report s text report given b
-  by_text s text report given (broken a b) = excused told words s _ _ _ _ (λ p q r m. q a.rose)
+  by_text s text report given (broken a b) = inl (λ p q r m. q a.rose)
 
-  by_line : (s want : Status) (line : List ℕ) (o : Outcome) → Says told words o → want ≡ status_of o → Complains out err line want s → Complete told words (Rose fb fa) (Rose out.faults_before out.faults_after) (Rose err.faults_before err.faults_after) s
-  by_line s want line o given e (said a b) = same_status told words o s _ _ _ _ given e
-  by_line s want line o given e (no_line a b) = excused told words s _ _ _ _ (λ p q r m. r b.rose)
+  by_line : (s want : Status) (line : List ℕ) (o : Outcome) → Says told store words o → IsOf o → want ≡ status_of o → Complains out err line want s → Judged s
+  by_line s want line o given of e (said a b) = inr (record { outcome = o; says = given; of = of; is = e })
+  by_line s want line o given of e (no_line a b) = inl (λ p q r m. r b.rose)
 
-  -- completeness follows from the headline
-  pub complete : (s : Status) → Headline told words fb fa out err s → Complete told words (Rose fb fa) (Rose out.faults_before out.faults_after) (Rose err.faults_before err.faults_after) s
-  complete s (wrote_text text report given h) = by_text s text report given h
-  complete s (wrote_fault line given h) = by_line s status.Fault line (fault line) given refl h
-  complete s (wrong_words none h) = by_line s status.Usage usage_line usage (usage_said told words none) refl h
-  complete s (read_fault e rose a b) = excused told words s _ _ _ _ (λ p q r m. p rose)
-  complete s (no_memory e a b) = excused told words s _ _ _ _ (λ p q r m. m e)
+  judged : (s : Status) → Headline told store words fb fa out err s → Judged s
+  judged s (wrote_text text report given h) = by_text s text report given h
+  judged s (wrote_fault line given h) = by_line s status.Fault line (fault line) given tt refl h
+  judged s (wrong_words none h) = by_line s status.Usage usage_line usage (subst (λ (w : Words). SaysAsked told store w usage) (sym none) refl) none refl h
+  judged s (read_fault e rose a b) = inl (λ p q r m. p rose)
+  judged s (no_memory e a b) = inl (λ p q r m. m e)
+
+  -- ---- completeness follows from the headline
+
+  abbrev Done-by : Status → Type 0 → Type 0
+  Done-by s P = ¬ Rose fb fa → ¬ Rose out.faults_before out.faults_after → ¬ Rose err.faults_before err.faults_after → ¬ (s ≡ status.Memory) → P
+
+  unless : (s : Status) (P : Type 0) → Unexcused s → Done-by s P
+  unless s P never p q r m = absurd (never p q r m)
+
+  in_files : (s : Status) (o : Outcome) (job : Job) (t : Option Paths) → IfSome t (λ files. of_job files job ≡ o) → s ≡ status_of o → IfSome t (λ files. Done-by s (s ≡ status_of (of_job files job)))
+  in_files s o job None h e = tt
+  in_files s o job (Some files) h e = λ p q r m. e ∙ ap status_of (sym h)
+
+  all_files : (s : Status) (job : Job) (t : Option Paths) → Unexcused s → IfSome t (λ files. Done-by s (s ≡ status_of (of_job files job)))
+  all_files s job None never = tt
+  all_files s job (Some files) never = unless s (s ≡ status_of (of_job files job)) never
+
+  done_or_fault : (job : Job) (s : Status) (o : Outcome) → words_asked words ≡ Expand job → IsOf o → s ≡ status_of o → (s ≡ status.Done) ⊎ (s ≡ status.Fault)
+  done_or_fault job s (done text report) is of e = inl e
+  done_or_fault job s (fault line) is of e = inr e
+  done_or_fault job s usage is of e = let no = sym is ∙ of in absurd (cc)
+
+  abbrev CompleteFor : Words → Status → Type 0
+  CompleteFor asked s = CompleteAsked told asked (Rose fb fa) (Rose out.faults_before out.faults_after) (Rose err.faults_before err.faults_after) s
+
+  abbrev CompleteFrom : Job → Option (List ℕ) → Status → Type 0
+  CompleteFrom job cache s = CompleteJob told job cache (Rose fb fa) (Rose out.faults_before out.faults_after) (Rose err.faults_before err.faults_after) s
+
+  job_excused : (job : Job) (cache : Option (List ℕ)) (s : Status) → Unexcused s → CompleteFrom job cache s
+  job_excused job None s never = all_files s job told never
+  job_excused job (Some dir) s never = unless s ((s ≡ status.Done) ⊎ (s ≡ status.Fault)) never
+
+  job_given : (job : Job) (cache : Option (List ℕ)) (s : Status) (o : Outcome) → words_asked words ≡ Expand job → SaysJob told store job cache o → IsOf o → s ≡ status_of o → CompleteFrom job cache s
+  job_given job None s o is says of e = in_files s o job told says e
+  job_given job (Some dir) s o is says of e = λ p q r m. done_or_fault job s o is of e
+
+  complete_asked : (asked : Words) (s : Status) → words_asked words ≡ asked → Judged s → CompleteFor asked s
+  complete_asked (Expand job) s is (inl never) = job_excused job job.cache s never
+  complete_asked (Expand job) s is (inr g) = job_given job job.cache s g.outcome is (subst (λ (w : Words). SaysAsked told store w g.outcome) is g.says) g.of g.is
+  complete_asked (Make count) s is (inl never) = unless s (s ≡ status_of (of_made count)) never
+  complete_asked (Make count) s is (inr g) = λ p q r m. g.is ∙ ap status_of (sym (subst (λ (w : Words). SaysAsked told store w g.outcome) is g.says))
+  complete_asked Usage s is (inl never) = unless s (s ≡ status.Usage) never
+  complete_asked Usage s is (inr g) = λ p q r m. g.is ∙ ap status_of (sym (subst (λ (w : Words). SaysAsked told store w g.outcome) is g.says))
+
+  pub complete : (s : Status) → Headline told store words fb fa out err s → Complete told words (Rose fb fa) (Rose out.faults_before out.faults_after) (Rose err.faults_before err.faults_after) s
+  complete s h = complete_asked (words_asked words) s refl (judged s h)

@@ -1,5 +1,6 @@
 pub mod Statuses
 pub mod Words
 pub mod Whole
+pub mod Cached
 pub mod Headline
 pub mod Prepared

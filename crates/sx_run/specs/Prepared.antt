@@ -15,6 +15,13 @@ Prepares (Err (unfinished.Line line)) outcome = outcome ≡ fault (string_bytes 
 Prepares (Err unfinished.Read) outcome = Unit {0}
 Prepares (Err unfinished.Memory) outcome = Unit {0}
 
+-- what holds of the text and the report, or of the line of the fault
+abbrev pub PreparesBy : (Outcome → Type 0) → Result Prepared Unfinished → Type 0
+PreparesBy P (Ok made) = P (done (string_bytes made.text) (string_bytes made.report))
+PreparesBy P (Err (unfinished.Line line)) = P (fault (string_bytes line))
+PreparesBy P (Err unfinished.Read) = Unit {0}
+PreparesBy P (Err unfinished.Memory) = Unit {0}
+
 -- what was prepared is written: its text and behind it its report, or the line of its fault; and else nothing
 abbrev pub Writes : Result Prepared Unfinished → Sunk → Sunk → Status → Type 0
 Writes (Ok made) out err s = Finishes out err (string_bytes made.text) (string_bytes made.report) s

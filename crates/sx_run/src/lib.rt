@@ -22,10 +22,12 @@
 //! ```
 //!
 //! `words` asks `sx_words` what the words ask for, `prepare` makes all text with no sink at hand, by `sx_library` and
-//! what stands below it, `made` does so for `--make`, and `top` writes it. The program `scheme_expand` calls it over
+//! what stands below it, `cached` does so over a store, by `sx_reuse`, `made` for `--make`, and `top` writes it. The program `scheme_expand` calls it over
 //! the system's files and streams.
 #![tactic(auto)]
 
+mod cached;
+pub mod inputs;
 mod made;
 mod prepare;
 pub mod status;

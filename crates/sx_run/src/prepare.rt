@@ -64,7 +64,7 @@ impl From<Memory> for Unfinished {
 }
 
 // The libraries of files, each of which was expanded.
-fn libraries(alloc: Global, loading: &Loading) -> Result<Items<Told>, Memory>
+pub(crate) fn libraries(alloc: Global, loading: &Loading) -> Result<Items<Told>, Memory>
     ensures { IfOk result (λ all. all ≡ libraries loading.now) }
 {
     let mut all = Items::new(alloc);
@@ -114,7 +114,7 @@ fn source_of<'a>(sources: &'a [Source], path: &Symbol) -> &'a [u8]
 }
 
 // The line of a fault, whose place is that in the file that it names.
-fn line_of(alloc: Global, sources: &[Source], fault: &Fault) -> Result<String, Memory>
+pub(crate) fn line_of(alloc: Global, sources: &[Source], fault: &Fault) -> Result<String, Memory>
     ensures { IfOk result (λ line. string_bytes line ≡ fault_line fault.now (source_of sources.now fault.now.span.file)) }
 {
     let source = source_of(sources, &fault.span.file);
@@ -122,7 +122,7 @@ fn line_of(alloc: Global, sources: &[Source], fault: &Fault) -> Result<String, M
 }
 
 // The codes of the procedures that are texts.
-fn prelude<N: Ledger, L: Ledger>(
+pub(crate) fn prelude<N: Ledger, L: Ledger>(
     alloc: Global,
     primitives: &PrimTable,
     counts: &mut Counts<N, L>,

@@ -1,20 +1,23 @@
 //! The top call.
 
-ghost use Rattle.std.specs.Prelude.{◌≡◌, []};
+ghost use Rattle.std.specs.Prelude.{◌≡◌, [], Err};
 ghost use Rattle.sx_outside.specs.Causes.{Rose};
 ghost use Rattle.sx_run.specs.Words.{texts};
-ghost use Rattle.sx_run.specs.Headline.{Sunk, Wrote, Reports, Finishes, Complains, Headline, Complete, LeavesFiles};
-ghost use Rattle.sx_run.specs.Prepared.{Writes};
+ghost use Rattle.sx_run.specs.Headline.{Sunk, Wrote, Reports, Finishes, Complains, Headline, Complete, LeavesFiles, IsCoreIfCached, SaysJob, KeepsJob, KeepsStore};
+ghost use Rattle.sx_run.specs.Prepared.{PreparesBy, Writes};
 
+use crate::cached::{CachedJob, prepare_cached};
+use crate::inputs::Inputs;
 use crate::made::prepare_made;
 use crate::prepare::{Prepared, Unfinished, prepare};
 use crate::status::Status;
 use crate::words::words_asked;
 use std::alloc::Global;
 use std::sync::ledger::Ledger;
-use sx_outside::{Files, Sink};
+use sx_outside::{Files, Sink, Store};
 use sx_prims::table::PrimTable;
 use sx_standing::means::Counts;
+use sx_words::job::Job;
 use sx_words::words::Words;
 
 /// The line that is written where the words are refused.
@@ -23,9 +26,9 @@ pub const USAGE: &[u8] =
 
 /// What a run meets outside the program.
 #[derive(Drop)]
-pub struct Outside<F, O, E> {
-    /// The files that it reads.
-    pub files: F,
+pub struct Outside<F, S, O, E> {
+    /// The files that it reads, and where it keeps entries with `--cache`.
+    pub inputs: Inputs<F, S>,
     /// Where it writes the core text.
     pub out: O,
     /// Where it writes the line of a fault, and the report.
@@ -81,22 +84,53 @@ fn write<O: Sink, E: Sink>(
     }
 }
 
-fn run_words<F: Files, O: Sink, E: Sink, N: Ledger, L: Ledger>(
+// What comes of a job, with its cache or without one.
+fn prepared<F: Files, S: Store, N: Ledger, L: Ledger>(
+    alloc: Global,
+    job: &Job,
+    inputs: &mut Inputs<F, S>,
+    primitives: &PrimTable,
+    counts: &mut Counts<N, L>,
+) -> Result<Prepared, Unfinished>
+    requires { IsCoreIfCached job.now }
+    ensures gives { PreparesBy (SaysJob (F.told inputs.old.files)
+        (record { before = S.told inputs.old.store; after = S.told inputs.new.store; faults_before = S.faults inputs.old.store; faults_after = S.faults inputs.new.store })
+        job.now job.now.cache) result }
+    ensures store { KeepsJob (F.told inputs.old.files)
+        (record { before = S.told inputs.old.store; after = S.told inputs.new.store; faults_before = S.faults inputs.old.store; faults_after = S.faults inputs.new.store })
+        job.now job.now.cache inputs.old.store inputs.new.store }
+    ensures read { result ≡ Err Unfinished.Read → Rose (F.faults inputs.old.files) (F.faults inputs.new.files) }
+{
+    match &job.cache {
+        Some(dir) => {
+            let cached = CachedJob { alloc, job, dir };
+            prepare_cached(&cached, inputs, primitives, counts)
+        }
+        None => prepare(alloc, job, &mut inputs.files, primitives, counts),
+    }
+}
+
+fn run_words<F: Files, S: Store, O: Sink, E: Sink, N: Ledger, L: Ledger>(
     alloc: Global,
     words: &[String],
-    outside: &mut Outside<F, O, E>,
+    outside: &mut Outside<F, S, O, E>,
     primitives: &PrimTable,
     counts: &mut Counts<N, L>,
 ) -> Status
-    ensures headline { Headline (F.told outside.old.files) (texts words.now) (F.faults outside.old.files) (F.faults outside.new.files)
+    ensures headline { Headline (F.told outside.old.inputs.files)
+        (record { before = S.told outside.old.inputs.store; after = S.told outside.new.inputs.store; faults_before = S.faults outside.old.inputs.store; faults_after = S.faults outside.new.inputs.store })
+        (texts words.now) (F.faults outside.old.inputs.files) (F.faults outside.new.inputs.files)
         (record { before = O.told outside.old.out; after = O.told outside.new.out; faults_before = O.faults outside.old.out; faults_after = O.faults outside.new.out; puts_before = O.puts outside.old.out; puts_after = O.puts outside.new.out })
         (record { before = E.told outside.old.err; after = E.told outside.new.err; faults_before = E.faults outside.old.err; faults_after = E.faults outside.new.err; puts_before = E.puts outside.old.err; puts_after = E.puts outside.new.err }) result }
-    ensures files { LeavesFiles (texts words.now) outside.old.files outside.new.files }
+    ensures files { LeavesFiles (texts words.now) outside.old.inputs.files outside.new.inputs.files }
+    ensures store { KeepsStore (F.told outside.old.inputs.files)
+        (record { before = S.told outside.old.inputs.store; after = S.told outside.new.inputs.store; faults_before = S.faults outside.old.inputs.store; faults_after = S.faults outside.new.inputs.store })
+        (texts words.now) outside.old.inputs.store outside.new.inputs.store }
 {
-    let Outside { files, out, err } = outside;
+    let Outside { inputs, out, err } = outside;
     match words_asked(alloc, words) {
         Ok(Words::Expand(job)) => {
-            let prepared = prepare(alloc, &job, files, primitives, counts);
+            let prepared = prepared(alloc, &job, inputs, primitives, counts);
             write(out, err, &prepared)
         }
         Ok(Words::Make(count)) => {
@@ -112,20 +146,27 @@ fn run_words<F: Files, O: Sink, E: Sink, N: Ledger, L: Ledger>(
 /// on `out` and after it, where it is asked for, the report on `err`; or the line of its first fault on `err`. With
 /// `--make` it reads no file, and writes one line on what came of libraries made in memory. All text is made
 /// before the first write: `out` gets at most one put, and `err` at most one behind it.
+/// With `--cache` it takes the records of libraries from the store, where they were made of the sources that it reads, and
+/// puts there those that it makes; without it the store is left as it was.
 /// `primitives` computes those that transformers call. What is counted: the nodes that changes of syntax trees
 /// make, and the fuel that evaluations spend.
-pub fn run<F: Files, O: Sink, E: Sink, N: Ledger, L: Ledger>(
+pub fn run<F: Files, S: Store, O: Sink, E: Sink, N: Ledger, L: Ledger>(
     alloc: Global,
     words: &[String],
-    outside: &mut Outside<F, O, E>,
+    outside: &mut Outside<F, S, O, E>,
     primitives: &PrimTable,
     counts: &mut Counts<N, L>,
 ) -> Status
-    ensures headline { Headline (F.told outside.old.files) (texts words.now) (F.faults outside.old.files) (F.faults outside.new.files)
+    ensures headline { Headline (F.told outside.old.inputs.files)
+        (record { before = S.told outside.old.inputs.store; after = S.told outside.new.inputs.store; faults_before = S.faults outside.old.inputs.store; faults_after = S.faults outside.new.inputs.store })
+        (texts words.now) (F.faults outside.old.inputs.files) (F.faults outside.new.inputs.files)
         (record { before = O.told outside.old.out; after = O.told outside.new.out; faults_before = O.faults outside.old.out; faults_after = O.faults outside.new.out; puts_before = O.puts outside.old.out; puts_after = O.puts outside.new.out })
         (record { before = E.told outside.old.err; after = E.told outside.new.err; faults_before = E.faults outside.old.err; faults_after = E.faults outside.new.err; puts_before = E.puts outside.old.err; puts_after = E.puts outside.new.err }) result }
-    ensures complete { Complete (F.told outside.old.files) (texts words.now) (Rose (F.faults outside.old.files) (F.faults outside.new.files)) (Rose (O.faults outside.old.out) (O.faults outside.new.out)) (Rose (E.faults outside.old.err) (E.faults outside.new.err)) result }
-    ensures files { LeavesFiles (texts words.now) outside.old.files outside.new.files }
+    ensures complete { Complete (F.told outside.old.inputs.files) (texts words.now) (Rose (F.faults outside.old.inputs.files) (F.faults outside.new.inputs.files)) (Rose (O.faults outside.old.out) (O.faults outside.new.out)) (Rose (E.faults outside.old.err) (E.faults outside.new.err)) result }
+    ensures files { LeavesFiles (texts words.now) outside.old.inputs.files outside.new.inputs.files }
+    ensures store { KeepsStore (F.told outside.old.inputs.files)
+        (record { before = S.told outside.old.inputs.store; after = S.told outside.new.inputs.store; faults_before = S.faults outside.old.inputs.store; faults_after = S.faults outside.new.inputs.store })
+        (texts words.now) outside.old.inputs.store outside.new.inputs.store }
 {
     run_words(alloc, words, outside, primitives, counts)
 }

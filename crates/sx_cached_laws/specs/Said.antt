@@ -1,0 +1,51 @@
+-- What runs say over such stores, beside what runs without a cache say.
+use Rattle.std.specs.Prelude.{◌≡◌, ℕ, List, Some}
+use Rattle.sx_load.specs.Load.{load}
+use Rattle.sx_load.specs.declared.found.Loading.{Loading}
+use Rattle.sx_outside.specs.Contents.{Paths, at_path}
+use Rattle.sx_prelude.specs.Prelude.{prelude_table}
+use Rattle.sx_reuse.specs.Groups.{AreGroups, groups_from}
+use Rattle.sx_reuse.specs.Texts.{found_in}
+use Rattle.sx_reuse.specs.Turns.{Quiet}
+use Rattle.sx_reuse.specs.declared.groups.Group.{Group}
+use Rattle.sx_reuse_laws.specs.Others.{IsElsewhere}
+use Rattle.sx_reuse_laws.specs.Sound.{IsHonest}
+use Rattle.sx_run.specs.Cached.{ComesHonestly, LeavesOfHonestly, LeavesStore, SameText, kept_of}
+use Rattle.sx_run.specs.Headline.{LeavesHonest, SaysCached, Says}
+use Rattle.sx_run.specs.Whole.{Outcome, loading_of, of_job, whole}
+use Rattle.sx_run.specs.Words.{words_asked}
+use Rattle.sx_words.specs.declared.job.Job.{Job}
+use Rattle.sx_words.specs.declared.words.Words.TheVariants.{Expand}
+use Rattle.sx_cached_laws.specs.Grown.{Grown}
+
+pub record RunsSayTheSame : Type 0 where
+  -- such a store is honest
+  pub honest : (store : Paths) → Grown store → IsHonest prelude_table store
+  -- over it a run gives the text or the fault that one without a cache gives
+  pub same : (files : Paths) (job : Job) (dir : List ℕ) (before after : Paths) (faults_before faults : ℕ) (outcome : Outcome) → Grown before
+      → (says : SaysCached files job dir before faults_before after faults outcome) → ComesHonestly says.comes → SameText outcome (of_job files job)
+
+-- where no call of the store fails, the premises on seals hold
+pub record QuietRunsAreHonest : Type 0 where
+  pub says : (files : Paths) (job : Job) (dir : List ℕ) (before after : Paths) (faults_before faults : ℕ) (outcome : Outcome)
+      → (says : SaysCached files job dir before faults_before after faults outcome) → Quiet faults_before faults → ComesHonestly says.comes
+  pub leaves : (files : Paths) (job : Job) (dir : List ℕ) (before after : Paths) (faults_before faults : ℕ)
+      → (left : LeavesHonest files job dir before faults_before after faults) → Quiet faults_before faults → LeavesOfHonestly left.leaves
+
+-- so the words of a call with a cache give what they give without, where no call of the store fails
+abbrev pub CallsSayTheSame : Type 0
+CallsSayTheSame = (files before after : Paths) (faults_before faults : ℕ) (words : List (List ℕ)) (job : Job) (dir : List ℕ) (outcome : Outcome)
+    → words_asked words ≡ Expand job → job.cache ≡ Some dir → Grown before → Quiet faults_before faults
+    → Says (Some files) (record { before = Some before; after = Some after; faults_before = faults_before; faults_after = faults }) words outcome
+    → SameText outcome (whole files words)
+
+-- none of the libraries that were loaded for a job has its entry there, whatever groups their sources are in
+abbrev pub IsNoPlaceOf : Job → List ℕ → Loading → List ℕ → Type 0
+IsNoPlaceOf job dir s place = (groups : List Group) → AreGroups (groups_from 0 0 s.sources) s.begun s.done groups
+    → IsElsewhere (kept_of job dir s groups) place (found_in s.done)
+
+-- such a place holds what it held, over every store
+abbrev pub RunsLeaveOthers : Type 0
+RunsLeaveOthers = (files : Paths) (job : Job) (dir : List ℕ) (before after : Paths) (faults_before faults : ℕ) (place : List ℕ)
+    → IsNoPlaceOf job dir (loading_of (load files job.roots job.program)) place → LeavesStore files job dir before faults_before after faults
+    → at_path after place ≡ at_path before place

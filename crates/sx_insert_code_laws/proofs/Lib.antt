@@ -1,0 +1,3 @@
+mod Matching
+mod Running
+mod Coding

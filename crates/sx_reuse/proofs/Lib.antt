@@ -1,0 +1,7 @@
+pub mod Told
+mod Asked
+mod Goes
+pub mod Sealed
+mod Grouped
+pub mod TurnLemmas
+pub mod TextLemmas

@@ -1,0 +1,94 @@
+-- The entries of a run: what they are made of, where they are kept, and what is read of them.
+use Rattle.std.specs.Prelude.{ℕ, nat_eq, nat_lt, Bool, true, ◌&&◌, List, [], ◌∷◌, length, drop, Option, None, Some, slice_get, if◌then◌else◌}
+use Rattle.std.specs.Cmp.Lexicographic.{pointwise}
+use Rattle.sx_base.specs.Same.{same_library}
+use Rattle.sx_cache.specs.Entry.{encode, decode, has_spelling}
+use Rattle.sx_cache.specs.Fits.{same_text}
+use Rattle.sx_cache.specs.Fitting.{stored_in}
+use Rattle.sx_cache.specs.Place.{place}
+use Rattle.sx_cache.specs.Seal.{sealed}
+use Rattle.sx_cache.specs.declared.entry.Entry.{Entry}
+use Rattle.sx_core.specs.declared.record.LibRecord.{LibRecord}
+use Rattle.sx_core_laws.specs.Follows.{follows}
+use Rattle.sx_library.specs.Records.{needed_records}
+use Rattle.sx_load.specs.declared.found.Found.{Found}
+use Rattle.sx_load.specs.declared.found.Source.{Source}
+use Rattle.sx_reuse.specs.Groups.{chosen, picked}
+use Rattle.sx_reuse.specs.declared.groups.Group.{Group}
+
+-- the most bytes of an entry
+abbrev pub entry_limit : ℕ
+entry_limit = 8388608
+
+-- what entries of a run are made of beside their records, and where they are kept: the directory, the roots, all that the
+-- run has read, and the groups of the libraries in the order of loading
+pub record Kept : Type 0 where
+  pub dir : List ℕ
+  pub roots : List (List ℕ)
+  pub sources : List Source
+  pub groups : List Group
+
+-- ---- an entry, and its bytes
+
+-- the entry of a library and its record
+abbrev pub made : Kept → Found → LibRecord → Entry
+made k f r = record { path = f.opened.path; roots = k.roots; sources = picked k.sources (chosen k.groups f); stored = r }
+
+-- its bytes, where it has a spelling
+abbrev pub spelled : Entry → Option (List ℕ)
+spelled e = if has_spelling e then Some (sealed (encode e)) else None
+
+-- the body that is sealed
+abbrev pub unsealed : List ℕ → Option (List ℕ)
+unsealed held = if same_text held (sealed (drop 40 held)) then Some (drop 40 held) else None
+
+abbrev pub decoded : Option (List ℕ) → Option Entry
+decoded None = None
+decoded (Some body) = decode body
+
+-- the entry that bytes are, sealed
+abbrev pub entry_in : List ℕ → Option Entry
+entry_in held = decoded (unsealed held)
+
+-- ---- where it is kept
+
+abbrev pub held_or_none : Option (List ℕ) → List ℕ
+held_or_none None = []
+held_or_none (Some held) = held
+
+abbrev pub bytes_of : Option Source → List ℕ
+bytes_of None = []
+bytes_of (Some s) = held_or_none s.held
+
+abbrev pub source_at : List Source → Option Group → List ℕ
+source_at sources None = []
+source_at sources (Some g) = bytes_of (slice_get sources g.own)
+
+-- the bytes of its own file
+abbrev pub own_source : Kept → Found → List ℕ
+own_source k f = source_at k.sources (slice_get k.groups f.place)
+
+abbrev pub place_of : Kept → Found → List ℕ
+place_of k f = place k.dir f.opened.path (own_source k f)
+
+-- ---- the record that a store has for a library
+
+-- the records before a library, of those that the run has made
+abbrev pub earlier : List LibRecord → Found → List LibRecord
+earlier records f = needed_records records (true ∷ f.needs)
+
+-- a record can stand for that of the library
+abbrev pub suits : List LibRecord → Found → LibRecord → Bool
+suits records f r = same_library r.name f.opened.form.name && (pointwise nat_eq r.version f.opened.form.version && (same_text r.path f.opened.path && follows r (earlier records f)))
+
+abbrev pub if_suits : List LibRecord → Found → Option LibRecord → Option LibRecord
+if_suits records f None = None
+if_suits records f (Some r) = if suits records f r then Some r else None
+
+-- the record of an entry of its roots and sources
+abbrev pub if_fits : Kept → Found → Option Entry → Option LibRecord
+if_fits k f o = stored_in k.roots k.sources (chosen k.groups f) o
+
+abbrev pub if_short : Kept → List LibRecord → Found → Option (List ℕ) → Option LibRecord
+if_short k records f None = None
+if_short k records f (Some held) = if nat_lt entry_limit (length held) then None else if_suits records f (if_fits k f (entry_in held))

@@ -1,0 +1,148 @@
+//! The record of a library or a program, and the core text of a program, behind the records so far.
+
+ghost use Rattle.std.specs.Prelude.{◌≡◌, ◌∷◌, true, IfOk};
+ghost use Rattle.std.specs.String.{string_bytes};
+ghost use Rattle.sx_base.specs.Gives.{Gives};
+ghost use Rattle.sx_library.specs.Loaded.{expand_found, link_found, planned_text};
+ghost use Rattle.sx_prelude.specs.Prelude.{kept};
+ghost use Rattle.sx_reuse.specs.Expansion.{body_in, text_after};
+
+use std::alloc::Global;
+use std::sync::ledger::Ledger;
+use sx_base::datum::Datum;
+use sx_base::fault::Stop;
+use sx_base::items::Items;
+use sx_base::memory::Memory;
+use sx_base::symbol::Symbol;
+use sx_core::record::LibRecord;
+use sx_core_text::whole::core_text;
+use sx_derived::implementation::Implementation;
+use sx_expand::top::Linked;
+use sx_forms::form::{LibraryForm, library_body, program_body};
+use sx_library::library::{Unexpanded, body_of, expand_body};
+use sx_library::records::{Needed, Records};
+use sx_load::found::{Found, Opened};
+use sx_plan::planned::planned;
+use sx_standing::means::Counts;
+
+/// What a file holds.
+#[derive(Clone, Copy)]
+pub enum File {
+    Library,
+    Program,
+}
+
+/// The marks of the libraries that are needed, behind that of the derived library, which all need.
+pub fn with_derived(alloc: Global, needs: &[bool]) -> Result<Items<bool>, Memory>
+    ensures { IfOk result (λ ms. ms ≡ true ∷ needs.now) }
+{
+    let mut all = Items::new(alloc);
+    all.push(true)?;
+    for mark in needs {
+        all.push(*mark)?;
+    }
+    Ok(all)
+}
+
+// The data of its body.
+fn body_in(file: File, data: &[Datum]) -> &[Datum]
+    ensures { result.now ≡ body_in file «data».now }
+{
+    match file {
+        File::Library => library_body(data),
+        File::Program => program_body(data),
+    }
+}
+
+// The form of a library or program whose data go.
+fn without_data(found: Found) -> (Symbol, LibraryForm)
+    ensures { result ≡ (found.opened.path, found.opened.form) }
+{
+    let Found { opened, .. } = found;
+    let Opened { path, form, data } = opened;
+    drop(data);
+    (path, form)
+}
+
+/// What an expansion is given: the implementation, and the records so far.
+#[derive(Drop)]
+pub struct Behind<'a> {
+    pub alloc: Global,
+    pub implementation: &'a Implementation<'a>,
+    pub records: &'a Records,
+}
+
+// The record and the links of what a file holds, behind the records that it needs. Its data go once they are syntax
+// objects.
+fn linked<N: Ledger, L: Ledger>(
+    behind: &Behind,
+    file: File,
+    found: Found,
+    counts: &mut Counts<N, L>,
+) -> Result<Linked, Stop>
+    ensures { Gives (λ l. l) result (link_found (kept behind.now.implementation.now.prelude) behind.now.records.now found
+        (body_in file found.opened.«data»)) }
+{
+    let alloc = behind.alloc;
+    let marks = with_derived(alloc, found.needs.as_slice())?;
+    let needed = Needed {
+        records: behind.records,
+        marks: marks.as_slice(),
+    };
+    let data = body_in(file, found.opened.data.as_slice());
+    let body = body_of(alloc, &needed, &found.opened.form, data)?;
+    let (path, form) = without_data(found);
+    let unexpanded = Unexpanded { path, form, body };
+    expand_body(alloc, behind.implementation, &needed, unexpanded, counts)
+}
+
+// The record of an expansion, without its links.
+fn without_links(linked: Linked) -> LibRecord
+    ensures { result ≡ linked.library }
+{
+    let Linked { library, .. } = linked;
+    library
+}
+
+/// The record of what a file holds, behind those that it needs.
+pub fn record_of<N: Ledger, L: Ledger>(
+    behind: &Behind,
+    file: File,
+    found: Found,
+    counts: &mut Counts<N, L>,
+) -> Result<LibRecord, Stop>
+    ensures { Gives (λ r. r) result (expand_found (kept behind.now.implementation.now.prelude) behind.now.records.now found
+        (body_in file found.opened.«data»)) }
+{
+    let linked = linked(behind, file, found, counts)?;
+    Ok(without_links(linked))
+}
+
+// A program, with the libraries that it needs when it runs before it.
+fn planned_text(alloc: Global, records: &[LibRecord], program: &LibRecord) -> Result<String, Stop>
+    ensures { Gives string_bytes result (planned_text records.now program.now) }
+{
+    let plan = planned(alloc, records, program)?;
+    core_text(alloc, records, &plan, program)
+}
+
+/// The core text of a program behind these records, or its first fault. The data of its file go once they are syntax
+/// objects.
+pub fn text_after<N: Ledger, L: Ledger>(
+    alloc: Global,
+    implementation: &Implementation,
+    records: Records,
+    found: Found,
+    counts: &mut Counts<N, L>,
+) -> Result<String, Stop>
+    ensures { Gives string_bytes result (text_after (kept implementation.now.prelude) records found) }
+{
+    let behind = Behind {
+        alloc,
+        implementation,
+        records: &records,
+    };
+    let program = record_of(&behind, File::Program, found, counts)?;
+    let records = records.into_records();
+    planned_text(alloc, &records, &program)
+}

@@ -1,0 +1,99 @@
+//! What a run has come to, one library after another.
+
+ghost use Rattle.std.specs.Prelude.{◌≡◌, [], ◌∷◌, ◌++◌, Bool, IfOk};
+ghost use Rattle.sx_reuse.specs.Progress.{begun, with_record};
+ghost use Rattle.sx_library.specs.Records.{needed_records};
+
+use std::alloc::Global;
+use std::marker::Model;
+use sx_base::items::Items;
+use sx_base::memory::Memory;
+use sx_core::record::LibRecord;
+use sx_follows::earlier::{Earlier, Places};
+use sx_library::records::Records;
+
+/// The records so far, that of the derived library first, what they bind and define, and which of the others were reused.
+#[derive(Drop)]
+pub struct Turned {
+    records: Records,
+    places: Places,
+    reused: Items<bool>,
+}
+
+impl Model for Turned {
+    ghost use Rattle.sx_follows.specs.Earlier.{ArePlaces};
+    ghost use Rattle.sx_reuse.specs.Progress.{Progress, progress_code};
+
+    ghost Value = { Progress };
+
+    ghost coded = { progress_code };
+
+    ghost view = { λ t. record { records = t.records; reused = t.reused } };
+
+    ghost invariant = { λ t. ArePlaces t.places t.records };
+}
+
+impl Turned {
+    /// The derived library alone.
+    pub fn new(alloc: Global, derived: LibRecord) -> Result<Turned, Memory>
+        ensures { IfOk result (λ t. t ≡ begun derived) }
+    {
+        let mut places = Places::new(alloc);
+        places.push(alloc, &derived, 0)?;
+        let mut records = Records::new(alloc)?;
+        records.push(alloc, derived)?;
+        let reused = Items::new(alloc);
+        Ok(Turned {
+            records,
+            places,
+            reused,
+        })
+    }
+
+    pub fn records(&self) -> &Records
+        ensures { result.now ≡ self.now.records }
+    {
+        &self.records
+    }
+
+    /// The records that are marked.
+    #[tactic(auto, using(sx_library::proofs::PlaceLemmas::at_marks))]
+    pub fn earlier<'a>(&'a self, marks: &'a [bool]) -> Earlier<'a>
+        ensures { result ≡ needed_records self.now.records marks.now }
+    {
+        Earlier::new(self.records.ready().as_slice(), &self.places, marks)
+    }
+
+    /// The records, and one more behind them.
+    pub fn with(self, alloc: Global, last: LibRecord, reused: bool) -> Result<Turned, Memory>
+        ensures { IfOk result (λ t. t ≡ with_record self last reused) }
+    {
+        let Turned {
+            mut records,
+            mut places,
+            reused: mut flags,
+        } = self;
+        let place = records.ready().as_slice().len();
+        places.push(alloc, &last, place)?;
+        records.push(alloc, last)?;
+        flags.push(reused)?;
+        Ok(Turned {
+            records,
+            places,
+            reused: flags,
+        })
+    }
+
+    /// The records, and which of them were reused but for the first. It takes no memory.
+    pub fn into_parts(self) -> (Records, Items<bool>)
+        ensures records { result.0 ≡ self.records }
+        ensures reused { result.1 ≡ self.reused }
+    {
+        let Turned {
+            records,
+            reused,
+            ..
+        } = self;
+        (records, reused)
+    }
+}

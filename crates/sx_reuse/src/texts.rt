@@ -1,0 +1,93 @@
+//! The core text of a program behind the turns of its libraries.
+
+ghost use Rattle.std.specs.Prelude.{◌≡◌, ◌≤◌};
+ghost use Rattle.sx_outside.specs.Store.{WhereTold};
+ghost use Rattle.sx_prelude.specs.Prelude.{kept};
+ghost use Rattle.sx_reuse.specs.Texts.{Answers, TextGives, found_in};
+ghost use Rattle.sx_reuse.specs.declared.texts.Came.TheVariants as came;
+
+use crate::expansion::text_after;
+use crate::progress::Turned;
+use crate::turns::{Turning, take_turns};
+use std::sync::ledger::Ledger;
+use sx_base::fault::{Fault, Stop};
+use sx_base::items::Items;
+use sx_import::table::Table;
+use sx_load::found::Found;
+use sx_outside::Store;
+use sx_standing::means::Counts;
+
+/// What loading came to: a program, or the fault that ended it.
+#[derive(Drop)]
+pub enum Came {
+    Program(Found),
+    Fault(Fault),
+}
+
+/// What was loaded: the libraries, in the order of loading, and then the program or the fault.
+#[derive(Drop)]
+pub struct Loaded {
+    pub libraries: Table<Found>,
+    pub came: Came,
+}
+
+/// The core text of a program, and which of its libraries were reused.
+#[derive(Drop)]
+pub struct Written {
+    pub text: String,
+    pub reused: Items<bool>,
+}
+
+// The core text of a program behind the libraries that took their turns.
+fn program_text<N: Ledger, L: Ledger>(
+    turning: &Turning,
+    turned: Turned,
+    found: Found,
+    counts: &mut Counts<N, L>,
+) -> Result<Written, Stop>
+    ensures { TextGives (kept turning.now.implementation.now.prelude) result (came.Program found) turned }
+{
+    let (records, reused) = turned.into_parts();
+    let text = text_after(
+        turning.alloc,
+        turning.implementation,
+        records,
+        found,
+        counts,
+    )?;
+    Ok(Written { text, reused })
+}
+
+// What comes of what was loaded, behind the libraries that took their turns.
+fn text_behind<N: Ledger, L: Ledger>(
+    turning: &Turning,
+    turned: Turned,
+    came: Came,
+    counts: &mut Counts<N, L>,
+) -> Result<Written, Stop>
+    ensures { TextGives (kept turning.now.implementation.now.prelude) result came turned }
+{
+    match came {
+        Came::Program(found) => program_text(turning, turned, found, counts),
+        Came::Fault(fault) => Err(Stop::Fault(fault)),
+    }
+}
+
+/// The core text of a program, whose libraries take their turns before it; or the first fault.
+pub fn write_program<S: Store, N: Ledger, L: Ledger>(
+    turning: &Turning,
+    loaded: Loaded,
+    store: &mut S,
+    counts: &mut Counts<N, L>,
+) -> Result<Written, Stop>
+    ensures later { S.faults store.old ≤ S.faults store.new }
+    ensures answers { WhereTold (S.told store.old) (S.told store.new) (λ before after.
+        Answers turning.now.cache.now (kept turning.now.implementation.now.prelude) result loaded.came (found_in loaded.libraries)
+        before (S.faults store.old) after (S.faults store.new)) }
+{
+    let Loaded { libraries, came } = loaded;
+    match take_turns(turning, libraries, store, counts) {
+        Ok(turned) => text_behind(turning, turned, came, counts),
+        Err(stop) => Err(stop),
+    }
+}

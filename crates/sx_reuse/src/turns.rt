@@ -1,0 +1,270 @@
+//! The turns of libraries.
+
+ghost use Rattle.std.specs.Prelude.{◌≡◌, ◌≤◌, IfOk, IfSome, Some, false, map};
+ghost use Rattle.std.specs.String.{string_bytes};
+ghost use Rattle.sx_base.specs.Gives.{Gives};
+ghost use Rattle.sx_derived.specs.Derived.{derived_record};
+ghost use Rattle.sx_forms.specs.Form.{library_body};
+ghost use Rattle.sx_library.specs.Loaded.{expand_found};
+ghost use Rattle.sx_outside.specs.Contents.{at_path};
+ghost use Rattle.sx_outside.specs.Store.{WhereTold};
+ghost use Rattle.sx_prelude.specs.Prelude.{kept};
+ghost use Rattle.sx_reuse.specs.Entries.{entry_in, if_fits, if_short, if_suits, spelled, suits};
+ghost use Rattle.sx_reuse.specs.Progress.{with_record};
+ghost use Rattle.sx_reuse.specs.Turns.{Asked, Keeps, PutsEntry, Records, TakesTurn, TakeTurns, TakeFrom, state};
+
+use crate::entry::{Cache, Due, ENTRY_LIMIT, spelled};
+use crate::expansion::{Behind, File, record_of, with_derived};
+use crate::progress::Turned;
+use std::alloc::Global;
+use std::sync::ledger::Ledger;
+use sx_base::fault::Stop;
+use sx_base::memory::Memory;
+use sx_cache::entry::Entry;
+use sx_core::record::LibRecord;
+use sx_derived::derived::derived_record;
+use sx_derived::implementation::Implementation;
+use sx_follows::follows::follows;
+use sx_import::table::Table;
+use sx_load::found::Found;
+use sx_outside::{OutsideError, Store, StoreAnswer};
+use sx_standing::means::Counts;
+
+/// What each turn of a run is given.
+#[derive(Drop)]
+pub struct Turning<'a> {
+    pub alloc: Global,
+    pub implementation: &'a Implementation<'a>,
+    pub cache: &'a Cache<'a>,
+}
+
+/// The record of a library, and whether it was reused.
+#[derive(Drop)]
+pub struct Recorded {
+    pub library: LibRecord,
+    pub reused: bool,
+}
+
+// The record of an entry that was made of an expansion.
+fn of_expansion(entry: Entry) -> Recorded
+    ensures { result ≡ record { library = entry.stored; reused = false } }
+{
+    let Entry { stored, .. } = entry;
+    Recorded {
+        library: stored,
+        reused: false,
+    }
+}
+
+// Whether a record can stand for that of a library.
+fn suits(alloc: Global, turned: &Turned, found: &Found, one: &LibRecord) -> Result<bool, Memory>
+    ensures { IfOk result (λ b. b ≡ suits turned.now.records found.now one.now) }
+{
+    let form = &found.opened.form;
+    if one.name != form.name {
+        return Ok(false);
+    }
+    if one.version != form.version {
+        return Ok(false);
+    }
+    if one.path != found.opened.path {
+        return Ok(false);
+    }
+    let marks = with_derived(alloc, found.needs.as_slice())?;
+    follows(alloc, one, &turned.earlier(marks.as_slice()))
+}
+
+// The record of what a store held, where it can stand for that of a library.
+fn stored_in(
+    turning: &Turning,
+    turned: &Turned,
+    found: &Found,
+    held: &[u8],
+) -> Result<Option<LibRecord>, Memory>
+    ensures { IfOk result (λ o. o ≡ if_suits turned.now.records found.now (if_fits turning.now.cache.now found.now (entry_in held.now))) }
+{
+    let Some(stored) = turning.cache.record_in(turning.alloc, found, held)? else {
+        return Ok(None);
+    };
+    if suits(turning.alloc, turned, found, &stored)? {
+        Ok(Some(stored))
+    } else {
+        Ok(None)
+    }
+}
+
+// The record that a store has for a library, where it can be reused. A call that fails is passed over.
+fn ask<S: Store>(
+    turning: &Turning,
+    turned: &Turned,
+    due: &Due,
+    store: &mut S,
+) -> Result<Option<LibRecord>, Memory>
+    ensures same { S.told store.new ≡ S.told store.old }
+    ensures later { S.faults store.old ≤ S.faults store.new }
+    ensures answer { IfSome (S.told store.old) (λ before. Asked result (S.faults store.old) (S.faults store.new)
+        (if_short turning.now.cache.now turned.now.records due.now.found (at_path before (string_bytes due.now.place)))) }
+{
+    match store.get(due.place.as_str(), ENTRY_LIMIT) {
+        Ok(StoreAnswer::Found(held)) => stored_in(turning, turned, &due.found, &held),
+        Ok(StoreAnswer::Longer) => Ok(None),
+        Ok(StoreAnswer::Absent) => Ok(None),
+        Err(OutsideError::Failed) => Ok(None),
+        Err(OutsideError::Memory) => Err(Memory),
+    }
+}
+
+// Puts the bytes of an entry, unless they are too many. A call that fails is passed over.
+fn put<S: Store>(place: &str, piece: &[u8], store: &mut S) -> Result<(), Memory>
+    ensures later { S.faults store.old ≤ S.faults store.new }
+    ensures put { WhereTold (S.told store.old) (S.told store.new) (λ before after.
+        PutsEntry result (S.faults store.old) (S.faults store.new) place.now before (Some piece.now) after) }
+{
+    if piece.len() > ENTRY_LIMIT {
+        return Ok(());
+    }
+    match store.put(place, piece) {
+        Ok(()) => Ok(()),
+        Err(OutsideError::Failed) => Ok(()),
+        Err(OutsideError::Memory) => Err(Memory),
+    }
+}
+
+// Puts an entry, where it has a spelling.
+fn keep<S: Store>(alloc: Global, place: &str, entry: &Entry, store: &mut S) -> Result<(), Memory>
+    ensures later { S.faults store.old ≤ S.faults store.new }
+    ensures put { WhereTold (S.told store.old) (S.told store.new) (λ before after.
+        PutsEntry result (S.faults store.old) (S.faults store.new) place.now before (spelled entry.now) after) }
+{
+    let spelling = spelled(alloc, entry)?;
+    match spelling {
+        Some(piece) => put(place, &piece, store),
+        None => Ok(()),
+    }
+}
+
+// The record of a library, which is expanded behind the records so far.
+fn expanded<N: Ledger, L: Ledger>(
+    turning: &Turning,
+    turned: &Turned,
+    found: Found,
+    counts: &mut Counts<N, L>,
+) -> Result<LibRecord, Stop>
+    ensures { Gives (λ r. r) result (expand_found (kept turning.now.implementation.now.prelude) turned.now.records found
+        (library_body found.opened.«data»)) }
+{
+    let behind = Behind {
+        alloc: turning.alloc,
+        implementation: turning.implementation,
+        records: turned.records(),
+    };
+    record_of(&behind, File::Library, found, counts)
+}
+
+// The record of a library, which is expanded, and whose entry is put.
+fn expand_and_keep<S: Store, N: Ledger, L: Ledger>(
+    turning: &Turning,
+    turned: &Turned,
+    due: Due,
+    store: &mut S,
+    counts: &mut Counts<N, L>,
+) -> Result<Recorded, Stop>
+    ensures later { S.faults store.old ≤ S.faults store.new }
+    ensures kept { WhereTold (S.told store.old) (S.told store.new) (λ before after.
+        Keeps turning.now.cache.now (kept turning.now.implementation.now.prelude) turned.now.records due.found (string_bytes due.place) result
+        before after (S.faults store.old) (S.faults store.new)) }
+{
+    let Due { found, place } = due;
+    let unmade = turning.cache.unmade(turning.alloc, &found)?;
+    let stored = expanded(turning, turned, found, counts)?;
+    let entry = unmade.with(stored);
+    keep(turning.alloc, place.as_str(), &entry, store)?;
+    Ok(of_expansion(entry))
+}
+
+// The record that a library's turn gives: the one that its entry has, or else the one of its expansion.
+fn ask_or_expand<S: Store, N: Ledger, L: Ledger>(
+    turning: &Turning,
+    turned: &Turned,
+    found: Found,
+    store: &mut S,
+    counts: &mut Counts<N, L>,
+) -> Result<Recorded, Stop>
+    ensures later { S.faults store.old ≤ S.faults store.new }
+    ensures turn { WhereTold (S.told store.old) (S.told store.new) (λ before after.
+        Records turning.now.cache.now (kept turning.now.implementation.now.prelude) result (state turned.now before (S.faults store.old))
+        found after (S.faults store.new)) }
+{
+    let due = turning.cache.due(turning.alloc, found)?;
+    let stored = ask(turning, turned, &due, store)?;
+    match stored {
+        Some(library) => Ok(Recorded {
+            library,
+            reused: true,
+        }),
+        None => expand_and_keep(turning, turned, due, store, counts),
+    }
+}
+
+// The progress, and the record that a turn gives behind it.
+fn with_recorded(alloc: Global, turned: Turned, recorded: Recorded) -> Result<Turned, Memory>
+    ensures { IfOk result (λ t. t ≡ with_record turned recorded.library recorded.reused) }
+{
+    let Recorded { library, reused } = recorded;
+    turned.with(alloc, library, reused)
+}
+
+// The turn of one library.
+fn take_turn<S: Store, N: Ledger, L: Ledger>(
+    turning: &Turning,
+    turned: Turned,
+    found: Found,
+    store: &mut S,
+    counts: &mut Counts<N, L>,
+) -> Result<Turned, Stop>
+    ensures later { S.faults store.old ≤ S.faults store.new }
+    ensures turn { WhereTold (S.told store.old) (S.told store.new) (λ before after.
+        TakesTurn turning.now.cache.now (kept turning.now.implementation.now.prelude) result (state turned before (S.faults store.old))
+        found after (S.faults store.new)) }
+{
+    let recorded = ask_or_expand(turning, &turned, found, store, counts)?;
+    let turned = with_recorded(turning.alloc, turned, recorded)?;
+    Ok(turned)
+}
+
+// The turns of libraries, one after another.
+fn take_each<S: Store, N: Ledger, L: Ledger>(
+    turning: &Turning,
+    turned: Turned,
+    libraries: Table<Found>,
+    store: &mut S,
+    counts: &mut Counts<N, L>,
+) -> Result<Turned, Stop>
+    ensures later { S.faults store.old ≤ S.faults store.new }
+    ensures turns { WhereTold (S.told store.old) (S.told store.new) (λ before after.
+        TakeTurns turning.now.cache.now (kept turning.now.implementation.now.prelude) result (state turned before (S.faults store.old))
+        (map (λ row. row.1) libraries) after (S.faults store.new)) }
+{
+    let mut turned = turned;
+    for found in libraries.into_values() {
+        turned = take_turn(turning, turned, found, store, counts)?;
+    }
+    Ok(turned)
+}
+
+/// The record of the derived library, and behind it those of others, in the order of loading.
+pub fn take_turns<S: Store, N: Ledger, L: Ledger>(
+    turning: &Turning,
+    libraries: Table<Found>,
+    store: &mut S,
+    counts: &mut Counts<N, L>,
+) -> Result<Turned, Stop>
+    ensures later { S.faults store.old ≤ S.faults store.new }
+    ensures turns { WhereTold (S.told store.old) (S.told store.new) (λ before after.
+        TakeFrom turning.now.cache.now (kept turning.now.implementation.now.prelude) (derived_record (kept turning.now.implementation.now.prelude))
+        result (map (λ row. row.1) libraries) before after (S.faults store.old) (S.faults store.new)) }
+{
+    let derived = derived_record(turning.alloc, turning.implementation, counts)?;
+    let turned = Turned::new(turning.alloc, derived)?;
+    take_each(turning, turned, libraries, store, counts)
+}

@@ -1,0 +1,59 @@
+-- At most as many libraries are overlooked, or not kept, as calls of the store have failed.
+use Rattle.std.proofs.Common.{◌≡◌, ℕ, ◌≤◌, ◌+◌, ◌-◌, ◌^◌, min, Bool, true, false, List, Option, Some, None, Result, refl, arith}
+use Rattle.std.specs.Prelude.{is_some, nat_le, if◌then◌else◌}
+use Rattle.sx_base.specs.declared.fault.Fault.{Fault}
+use Rattle.sx_core.specs.declared.record.LibRecord.{LibRecord}
+use Rattle.sx_eval.specs.Codes.{Codes}
+use Rattle.sx_load.specs.declared.found.Found.{Found}
+use Rattle.sx_outside.specs.Causes.{Rose, raised}
+use Rattle.sx_outside.specs.Contents.{Paths}
+use Rattle.sx_reuse.specs.Entries.{Kept}
+use Rattle.sx_reuse.specs.Turns.{State, stored, Quiet, Turn, reused, expanded, IsPut, put, too_long, unspelled, failed, Turns, done, next}
+use Rattle.sx_reuse_laws.specs.Failing.{unput, overlooked, unkept, all_overlooked, all_unkept, AtMostRisen, FailuresAreCounted}
+
+-- a count that can't but have risen has risen
+rose_or : (a b : ℕ) → (Quiet a b → ⊥) → Rose a b
+rose_or a b never = by (nat_le (raised a) b) refl
+  where
+    by : (x : Bool) → nat_le (raised a) b ≡ x → Rose a b
+    by true e = grind (arith, e)
+    by false e = absurd (never (λ rose. let no : nat_le (raised a) b ≡ true = grind (arith, rose) in absurd (cc)))
+
+together : (a b c m n : ℕ) → min (a + m) (2 ^ 64 - 1) ≤ b → min (b + n) (2 ^ 64 - 1) ≤ c → min (a + (m + n)) (2 ^ 64 - 1) ≤ c
+together a b c m n h k = omega (arith, h, k)
+
+none_more : (a b : ℕ) → a ≤ b → min (a + 0) (2 ^ 64 - 1) ≤ b
+none_more a b h = omega (arith, h)
+
+one_more : (a b : ℕ) → Rose a b → min (a + 1) (2 ^ 64 - 1) ≤ b
+one_more a b h = omega (arith, h)
+
+module _ (k : Kept) (prelude : Result Codes Fault) where
+  one_overlooked : (s t : State) (f : Found) (turn : Turn k prelude s f t) → AtMostRisen s.faults (overlooked k prelude turn) t.faults
+  one_overlooked s t f (reused r faults later found) = none_more s.faults faults later
+  one_overlooked s t f (expanded r faults left later misses made kept) = by (stored k prelude s f) refl
+    where
+      by : (o : Option LibRecord) → stored k prelude s f ≡ o → AtMostRisen s.faults (if is_some o then 1 else 0) faults
+      by None e = none_more s.faults faults later
+      by (Some x) e = one_more s.faults faults (rose_or s.faults faults (λ quiet. let no = misses quiet in absurd (cc)))
+
+  put_counted : (a b : ℕ) (place : List ℕ) (before after : Paths) (o : Option (List ℕ)) → a ≤ b → (p : IsPut a b place before o after) → AtMostRisen a (unput p) b
+  put_counted a b place before after (Some piece) later (put short sets) = none_more a b later
+  put_counted a b place before after (Some piece) later (too_long long) = none_more a b later
+  put_counted a b place before after None later unspelled = none_more a b later
+  put_counted a b place before after (Some piece) later (failed rose others) = one_more a b rose
+
+  one_unkept : (s t : State) (f : Found) (turn : Turn k prelude s f t) → AtMostRisen s.faults (unkept k prelude turn) t.faults
+  one_unkept s t f (reused r faults later found) = none_more s.faults faults later
+  one_unkept s t f (expanded r faults left later misses made kept) = put_counted s.faults faults _ s.store left _ later kept
+
+  risen : (s last : State) (fs : List Found) (turns : Turns k prelude s fs last) → (AtMostRisen s.faults (all_overlooked k prelude turns) last.faults) × (AtMostRisen s.faults (all_unkept k prelude turns) last.faults)
+  risen s last fs done = (none_more s.faults s.faults (omega arith), none_more s.faults s.faults (omega arith))
+  risen s last fs (next {t = t} {f = f} {fs = rest} turn turns) =
+      let others = risen t last rest turns in (
+        together s.faults t.faults last.faults (overlooked k prelude turn) (all_overlooked k prelude turns) (one_overlooked s t f turn) others.0,
+        together s.faults t.faults last.faults (unkept k prelude turn) (all_unkept k prelude turns) (one_unkept s t f turn) others.1,
+      )
+
+  pub counted : (s last : State) (fs : List Found) (turns : Turns k prelude s fs last) → FailuresAreCounted k prelude s last fs turns
+  counted s last fs turns = record { overlooked = (risen s last fs turns).0; unkept = (risen s last fs turns).1 }

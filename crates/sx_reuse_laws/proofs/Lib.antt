@@ -1,0 +1,13 @@
+pub mod Laid
+pub mod Picked
+pub mod Sources
+pub mod Unsealed
+pub mod Read
+pub mod Turned
+pub mod Exactly
+pub mod OthersLemmas
+pub mod QuietLemmas
+pub mod KeptLemmas
+pub mod Due
+pub mod Whole
+pub mod FailingLemmas

@@ -1,0 +1,8 @@
+pub mod Sound
+pub mod Seals
+pub mod Runs
+pub mod Kept
+pub mod Failing
+pub mod Others
+pub mod Due
+pub mod Limits

@@ -1,0 +1,52 @@
+-- The premise on seals: where a put failed, nothing unsound lies at its place.
+use Rattle.std.specs.Prelude.{ℕ, List, Option, Result}
+use Rattle.sx_base.specs.declared.fault.Fault.{Fault}
+use Rattle.sx_eval.specs.Codes.{Codes}
+use Rattle.sx_load.specs.declared.found.Found.{Found}
+use Rattle.sx_outside.specs.Contents.{Paths}
+use Rattle.sx_reuse.specs.Entries.{Kept}
+use Rattle.sx_reuse.specs.Texts.{Text, Writes, took, stopped, unready, Leaves, untouched, turned}
+use Rattle.sx_reuse.specs.Turns.{State, Turn, reused, expanded, IsPut, put, too_long, unspelled, failed, Breaks, nothing_put, entry_put, Turns, done, next, Stops, here, later, BreaksOff, between, within, behind}
+use Rattle.sx_reuse.specs.declared.texts.Came.{Came}
+use Rattle.sx_reuse_laws.specs.Sound.{IsHonestAt}
+
+module _ (prelude : Result Codes Fault) where
+  abbrev pub PutIsHonest : {faults_before faults : ℕ} {place : List ℕ} {before after : Paths} {o : Option (List ℕ)}
+      → IsPut faults_before faults place before o after → Type 0
+  PutIsHonest (put short sets) = Unit {0}
+  PutIsHonest (too_long long) = Unit {0}
+  PutIsHonest unspelled = Unit {0}
+  PutIsHonest {place = place} {after = after} (failed rose others) = IsHonestAt prelude after place
+
+module _ (k : Kept) (prelude : Result Codes Fault) where
+  abbrev pub TurnIsHonest : {s t : State} {f : Found} → Turn k prelude s f t → Type 0
+  TurnIsHonest (reused r faults more stored) = Unit {0}
+  TurnIsHonest (expanded r faults left more misses made kept) = PutIsHonest prelude kept
+
+  abbrev pub BreaksHonestly : {s : State} {f : Found} {store : Paths} {faults : ℕ} → Breaks k prelude s f store faults → Type 0
+  BreaksHonestly (nothing_put same more) = Unit {0}
+  BreaksHonestly (entry_put r more made kept) = PutIsHonest prelude kept
+
+  abbrev pub TurnsHonestly : {s last : State} {fs : List Found} → Turns k prelude s fs last → Type 0
+  TurnsHonestly done = Unit {0}
+  TurnsHonestly (next turn turns) = TurnIsHonest turn × TurnsHonestly turns
+
+  abbrev pub StopsHonestly : {fault : Fault} {store : Paths} {faults : ℕ} {s : State} {fs : List Found} → Stops k prelude fault store faults s fs → Type 0
+  StopsHonestly (here at) = Unit {0}
+  StopsHonestly (later turn stops) = TurnIsHonest turn × StopsHonestly stops
+
+  abbrev pub BreaksOffHonestly : {store : Paths} {faults : ℕ} {s : State} {fs : List Found} → BreaksOff k prelude store faults s fs → Type 0
+  BreaksOffHonestly (between same more) = Unit {0}
+  BreaksOffHonestly (within breaks) = BreaksHonestly breaks
+  BreaksOffHonestly (behind turn breaks) = TurnIsHonest turn × BreaksOffHonestly breaks
+
+  abbrev pub WritesHonestly : {c : Came} {fs : List Found} {before after : Paths} {faults_before faults : ℕ} {made : Result Text Fault}
+      → Writes k prelude c fs before faults_before after faults made → Type 0
+  WritesHonestly (took derived p is turns) = TurnsHonestly turns
+  WritesHonestly (stopped derived fault is stops) = StopsHonestly stops
+  WritesHonestly (unready fault is same) = Unit {0}
+
+  abbrev pub LeavesHonestly : {fs : List Found} {before after : Paths} {faults_before faults : ℕ} → Leaves k prelude fs before faults_before after faults
+      → Type 0
+  LeavesHonestly (untouched same) = Unit {0}
+  LeavesHonestly (turned derived is breaks) = BreaksOffHonestly breaks
