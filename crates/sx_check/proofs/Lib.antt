@@ -1,10 +1,11 @@
-mod Effects
+pub mod Effects
 mod Same
-mod WalkLaw
+pub mod WalkLaw
 mod ReadLaw
-mod NamesLaw
+pub mod NamesLaw
 mod LineEnds
-mod LinesLaw
-mod VerdictLaw
+pub mod LinesLaw
+pub mod VerdictLaw
 mod RunLaw
 mod Steps
+mod PrimitiveNames

@@ -17,13 +17,15 @@
 //! first name that is bound a second time, or the first that is free. `specs/Judged` says so by cases over the grammar
 //! of `sx_check_grammar`; only want of memory is free.
 //!
-//! `names` are sets of names, `survey` is what is known of the lines so far, `form` and `walk` go over a form, `lines` over
-//! a text, and `run` is all that the program `core_check` does. This crate shares nothing with what expands and prints.
+//! `names` are sets of names, `primitives` a table of those of R6RS, `survey` is what is known of the lines so far, `form`
+//! and `walk` go over a form, `lines` over a text, and `run` is all that the program `core_check` does. `sx_line_reader`
+//! reads a line. This crate shares nothing with what expands and prints.
 #![tactic(auto)]
 
 pub mod form;
 pub mod lines;
 pub mod names;
+pub mod primitives;
 pub mod run;
 pub mod status;
 pub mod survey;

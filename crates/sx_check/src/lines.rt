@@ -12,6 +12,7 @@ ghost use Rattle.sx_check_grammar.specs.Text.{text_of};
 ghost use Rattle.sx_reader.specs.Read.{data_of, most_nesting};
 
 use crate::names::NameSet;
+use crate::primitives::Primitives;
 use crate::survey::{Halt, Survey};
 use crate::verdict::{Verdict, Why};
 use crate::walk::line_form;
@@ -24,21 +25,17 @@ use sx_base::symbol::Symbol;
 use sx_check_grammar::names::names_are_scanned;
 use sx_check_grammar::text::write_datum;
 use sx_grammar::spellings_are_read_by_the_grammar;
-use sx_reader::read::read_deep;
-
-/// How many forms may be nested in a line.
-pub const NESTING: u32 = 8192;
+use sx_line_reader::reader::LineReader;
 
 /// The line that a core text begins with.
 const FIRST_LINE: &[u8] = b"(import (rnrs))\n";
 
 // The data that the bytes of a line spell.
-fn read_line(alloc: Global, line: &[u8]) -> Result<Vec<Datum>, Halt>
+fn read_line(reader: &mut LineReader, line: &[u8]) -> Result<Vec<Datum>, Halt>
     requires { length line.now < 2 ^ 32 }
     ensures { Spells result (data_of [] line.now most_nesting) }
 {
-    let file = Symbol::new(alloc, "")?;
-    match read_deep(alloc, &file, line, NESTING) {
+    match reader.read(line) {
         Ok(data) => Ok(data),
         Err(Stop::Fault(_)) => Err(Halt::Refused),
         Err(Stop::Memory) => Err(Halt::Memory),
@@ -56,7 +53,13 @@ fn is_written(alloc: Global, datum: &Datum, line: &[u8]) -> Result<bool, Memory>
 
 impl Survey {
     // The data of a line.
-    fn data(&mut self, alloc: Global, data: &[Datum], line: &[u8]) -> Result<(), Halt>
+    fn data(
+        &mut self,
+        alloc: Global,
+        primitives: &Primitives,
+        data: &[Datum],
+        line: &[u8],
+    ) -> Result<(), Halt>
         ensures { Takes result self.new (data_on line.now data.now self.old) }
     {
         let [datum] = data else {
@@ -65,16 +68,22 @@ impl Survey {
         if !is_written(alloc, datum, line)? {
             return Err(Halt::Refused);
         }
-        line_form(self, datum)
+        line_form(self, primitives, datum)
     }
 
     // A line, without its end.
-    fn line(&mut self, alloc: Global, line: &[u8]) -> Result<(), Halt>
+    fn line(
+        &mut self,
+        alloc: Global,
+        primitives: &Primitives,
+        reader: &mut LineReader,
+        line: &[u8],
+    ) -> Result<(), Halt>
         requires { length line.now < 2 ^ 32 }
         ensures { Takes result self.new (line_on line.now self.old) }
     {
-        match read_line(alloc, line) {
-            Ok(data) => self.data(alloc, &data, line),
+        match read_line(reader, line) {
+            Ok(data) => self.data(alloc, primitives, &data, line),
             Err(halt) => Err(halt),
         }
     }
@@ -107,7 +116,23 @@ fn wrong_at(halt: Halt, number: u64) -> Result<Option<u64>, Memory>
 }
 
 // The number of the first line that is none of core text; lines behind the first are numbered from 2.
-fn wrong_line(alloc: Global, survey: &mut Survey, lines: &[u8]) -> Result<Option<u64>, Memory>
+fn find_wrong_line(alloc: Global, survey: &mut Survey, lines: &[u8]) -> Result<Option<u64>, Memory>
+    requires { length lines.now < 2 ^ 32 }
+    ensures { Finds result survey.new (lines_on 2 (lines_of lines.now) survey.old) }
+{
+    let primitives = Primitives::new(alloc)?;
+    let mut reader = LineReader::new(alloc)?;
+    wrong_line(alloc, &primitives, &mut reader, survey, lines)
+}
+
+// The same, with what lines are read with.
+fn wrong_line(
+    alloc: Global,
+    primitives: &Primitives,
+    reader: &mut LineReader,
+    survey: &mut Survey,
+    lines: &[u8],
+) -> Result<Option<u64>, Memory>
     requires { length lines.now < 2 ^ 32 }
     ensures { Finds result survey.new (lines_on 2 (lines_of lines.now) survey.old) }
 {
@@ -120,7 +145,7 @@ fn wrong_line(alloc: Global, survey: &mut Survey, lines: &[u8]) -> Result<Option
         let Some(end) = line_end(rest) else {
             return Ok(Some(number));
         };
-        if let Err(halt) = survey.line(alloc, &rest[..end]) {
+        if let Err(halt) = survey.line(alloc, primitives, reader, &rest[..end]) {
             return wrong_at(halt, number);
         }
         rest = behind_line(rest, end);
@@ -179,7 +204,7 @@ fn verdict_behind(alloc: Global, survey: &mut Survey, lines: &[u8]) -> Result<Ve
     requires { length lines.now < 2 ^ 32 }
     ensures { IfOk result (λ v. v ≡ of_lines (lines_on 2 (lines_of lines.now) survey.old)) }
 {
-    match wrong_line(alloc, survey, lines) {
+    match find_wrong_line(alloc, survey, lines) {
         Ok(Some(number)) => Ok(Verdict::No(Why::Line(number))),
         Ok(None) => verdict_known(survey),
         Err(lack) => Err(lack),

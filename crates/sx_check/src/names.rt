@@ -1,6 +1,6 @@
 //! Sets of names.
 
-ghost use Rattle.std.specs.Prelude.{◌≡◌, [], length, take, OnOk};
+ghost use Rattle.std.specs.Prelude.{◌≡◌, [], not, length, take, IfOk, OnOk};
 ghost use Rattle.sx_check.specs.Names.{with_name};
 ghost use Rattle.sx_check_grammar.specs.Forms.{has};
 
@@ -45,14 +45,20 @@ impl NameSet {
     pub fn add(&mut self, name: &Symbol) -> Result<(), Memory>
         ensures { OnOk result (self.new ≡ with_name self.old name.now) }
     {
-        if self.set.contains(name) {
-            return Ok(());
-        }
+        self.put(name)?;
+        Ok(())
+    }
+
+    /// Puts the name at the end, and tells whether it wasn't there.
+    pub fn put(&mut self, name: &Symbol) -> Result<bool, Memory>
+        ensures new { IfOk result (λ is_new. is_new ≡ not (has self.old name.now)) }
+        ensures put { OnOk result (self.new ≡ with_name self.old name.now) }
+    {
         let name = name.share()?;
-        match self.set.insert(name) {
-            Ok(_) => Ok(()),
-            Err(_) => Err(Memory),
-        }
+        let Ok(is_new) = self.set.insert(name) else {
+            return Err(Memory);
+        };
+        Ok(is_new)
     }
 
     /// How many names there are.

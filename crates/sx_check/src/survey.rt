@@ -6,11 +6,11 @@ ghost use Rattle.sx_check.specs.Walk.{variable, formal};
 ghost use Rattle.sx_check.specs.declared.survey.Halt.TheVariants as halt;
 
 use crate::names::NameSet;
+use crate::primitives::Primitives;
 use std::alloc::Global;
 use sx_base::memory::Memory;
 use sx_base::symbol::Symbol;
 use sx_check_grammar::names::is_name;
-use sx_check_grammar::primitives::is_primitive;
 
 /// Why a walk doesn't go on.
 #[derive(Clone, Copy, Debug, PartialEq, Eq)]
@@ -78,10 +78,10 @@ impl Survey {
     pub fn bind(&mut self, name: &Symbol) -> Result<(), Memory>
         ensures { OnOk result (self.new ≡ bound_by self.old name.now) }
     {
-        if self.bound.has(name) {
-            return keep_first(&mut self.second, name);
+        if self.bound.put(name)? {
+            return Ok(());
         }
-        self.bound.add(name)
+        keep_first(&mut self.second, name)
     }
 
     /// The variable is mentioned here.
@@ -111,15 +111,14 @@ impl Survey {
     }
 
     /// An identifier that is an expression.
-    pub fn identifier(&mut self, identifier: &Symbol) -> Result<(), Halt>
+    pub fn identifier(&mut self, primitives: &Primitives, identifier: &Symbol) -> Result<(), Halt>
         ensures { Takes result self.new (variable identifier.now self.old) }
     {
-        let text = identifier.as_str();
-        if is_name(text) {
+        if is_name(identifier.as_str()) {
             self.mention(identifier)?;
             return Ok(());
         }
-        if is_primitive(text) {
+        if primitives.has(identifier) {
             Ok(())
         } else {
             Err(Halt::Refused)

@@ -7,6 +7,7 @@ ghost use Rattle.sx_check.specs.Walk.{is_itself, is_quotation, is_armed, is_row,
 ghost use Rattle.sx_check.specs.declared.survey.Halt.TheVariants as halt;
 
 use crate::form::{Form, form_of, is_itself, is_quoted, name_in};
+use crate::primitives::Primitives;
 use crate::survey::{Halt, Survey};
 use sx_base::atom::Atom;
 use sx_base::datum::{Datum, Node};
@@ -130,14 +131,14 @@ fn binding_names(survey: &mut Survey, datum: &Datum) -> Result<(), Halt>
 
 /// An expression.
 #[cycle(walk)]
-pub fn expression(survey: &mut Survey, datum: &Datum) -> Result<(), Halt>
+pub fn expression(survey: &mut Survey, primitives: &Primitives, datum: &Datum) -> Result<(), Halt>
     ensures { Takes result survey.new (expression datum.now survey.old) }
 {
     if let Some(symbol) = datum.as_symbol() {
-        return survey.identifier(symbol);
+        return survey.identifier(primitives, symbol);
     }
     if let Some(items) = datum.as_list() {
-        return form(survey, items);
+        return form(survey, primitives, items);
     }
     match datum.as_atom() {
         Some(atom) => constant(atom),
@@ -146,7 +147,7 @@ pub fn expression(survey: &mut Survey, datum: &Datum) -> Result<(), Halt>
 }
 
 #[cycle(walk)]
-fn form(survey: &mut Survey, items: &[Datum]) -> Result<(), Halt>
+fn form(survey: &mut Survey, primitives: &Primitives, items: &[Datum]) -> Result<(), Halt>
     ensures { Takes result survey.new (expression (chain items.now nil) survey.old) }
 {
     let [head, operands @ ..] = items else {
@@ -162,52 +163,52 @@ fn form(survey: &mut Survey, items: &[Datum]) -> Result<(), Halt>
         }
         Form::If => {
             if is_armed(operands) {
-                expressions(survey, operands)
+                expressions(survey, primitives, operands)
             } else {
                 Err(Halt::Refused)
             }
         }
-        Form::Assignment => assigned(survey, operands),
+        Form::Assignment => assigned(survey, primitives, operands),
         Form::Sequence => {
             if is_row(operands) {
-                expressions(survey, operands)
+                expressions(survey, primitives, operands)
             } else {
                 Err(Halt::Refused)
             }
         }
-        Form::Lambda => procedure(survey, operands),
-        Form::CaseLambda => cases(survey, operands),
-        Form::Letrec => recursive(survey, operands),
+        Form::Lambda => procedure(survey, primitives, operands),
+        Form::CaseLambda => cases(survey, primitives, operands),
+        Form::Letrec => recursive(survey, primitives, operands),
         Form::Application => {
-            expression(survey, head)?;
-            expressions(survey, operands)
+            expression(survey, primitives, head)?;
+            expressions(survey, primitives, operands)
         }
     }
 }
 
 #[cycle(walk)]
-fn expressions(survey: &mut Survey, items: &[Datum]) -> Result<(), Halt>
+fn expressions(survey: &mut Survey, primitives: &Primitives, items: &[Datum]) -> Result<(), Halt>
     ensures { Takes result survey.new (expressions (chain items.now nil) survey.old) }
 {
     for item in items {
-        expression(survey, item)?;
+        expression(survey, primitives, item)?;
     }
     Ok(())
 }
 
 #[cycle(walk)]
-fn one(survey: &mut Survey, items: &[Datum]) -> Result<(), Halt>
+fn one(survey: &mut Survey, primitives: &Primitives, items: &[Datum]) -> Result<(), Halt>
     ensures { Takes result survey.new (one (chain items.now nil) survey.old) }
 {
     match items {
         [] => Err(Halt::Refused),
-        [datum] => expression(survey, datum),
+        [datum] => expression(survey, primitives, datum),
         [_, _, ..] => Err(Halt::Refused),
     }
 }
 
 #[cycle(walk)]
-fn assigned(survey: &mut Survey, items: &[Datum]) -> Result<(), Halt>
+fn assigned(survey: &mut Survey, primitives: &Primitives, items: &[Datum]) -> Result<(), Halt>
     ensures { Takes result survey.new (assigned (chain items.now nil) survey.old) }
 {
     let [first, others @ ..] = items else {
@@ -217,11 +218,11 @@ fn assigned(survey: &mut Survey, items: &[Datum]) -> Result<(), Halt>
         return Err(Halt::Refused);
     };
     survey.mention(name)?;
-    one(survey, others)
+    one(survey, primitives, others)
 }
 
 #[cycle(walk)]
-fn init(survey: &mut Survey, items: &[Datum]) -> Result<(), Halt>
+fn init(survey: &mut Survey, primitives: &Primitives, items: &[Datum]) -> Result<(), Halt>
     ensures { Takes result survey.new (init (chain items.now nil) survey.old) }
 {
     let [first, others @ ..] = items else {
@@ -231,11 +232,11 @@ fn init(survey: &mut Survey, items: &[Datum]) -> Result<(), Halt>
         return Err(Halt::Refused);
     };
     survey.bind(name)?;
-    one(survey, others)
+    one(survey, primitives, others)
 }
 
 #[cycle(walk)]
-fn procedure(survey: &mut Survey, items: &[Datum]) -> Result<(), Halt>
+fn procedure(survey: &mut Survey, primitives: &Primitives, items: &[Datum]) -> Result<(), Halt>
     ensures { Takes result survey.new (procedure (chain items.now nil) survey.old) }
 {
     let [first, others @ ..] = items else {
@@ -243,64 +244,64 @@ fn procedure(survey: &mut Survey, items: &[Datum]) -> Result<(), Halt>
     };
     let size = survey.scope.size();
     formals(survey, first)?;
-    one(survey, others)?;
+    one(survey, primitives, others)?;
     survey.scope.keep(size);
     Ok(())
 }
 
 #[cycle(walk)]
-fn case(survey: &mut Survey, item: &Datum) -> Result<(), Halt>
+fn case(survey: &mut Survey, primitives: &Primitives, item: &Datum) -> Result<(), Halt>
     ensures { Takes result survey.new (procedure item.now survey.old) }
 {
     match item.as_list() {
-        Some(parts) => procedure(survey, parts),
+        Some(parts) => procedure(survey, primitives, parts),
         None => Err(Halt::Refused),
     }
 }
 
 #[cycle(walk)]
-fn cases(survey: &mut Survey, items: &[Datum]) -> Result<(), Halt>
+fn cases(survey: &mut Survey, primitives: &Primitives, items: &[Datum]) -> Result<(), Halt>
     ensures { Takes result survey.new (cases (chain items.now nil) survey.old) }
 {
     for item in items {
-        case(survey, item)?;
+        case(survey, primitives, item)?;
     }
     Ok(())
 }
 
 #[cycle(walk)]
-fn binding(survey: &mut Survey, item: &Datum) -> Result<(), Halt>
+fn binding(survey: &mut Survey, primitives: &Primitives, item: &Datum) -> Result<(), Halt>
     ensures { Takes result survey.new (init item.now survey.old) }
 {
     match item.as_list() {
-        Some(parts) => init(survey, parts),
+        Some(parts) => init(survey, primitives, parts),
         None => Err(Halt::Refused),
     }
 }
 
 #[cycle(walk)]
-fn inits(survey: &mut Survey, items: &[Datum]) -> Result<(), Halt>
+fn inits(survey: &mut Survey, primitives: &Primitives, items: &[Datum]) -> Result<(), Halt>
     ensures { Takes result survey.new (inits (chain items.now nil) survey.old) }
 {
     for item in items {
-        binding(survey, item)?;
+        binding(survey, primitives, item)?;
     }
     Ok(())
 }
 
 /// The bindings of a `letrec`.
 #[cycle(walk)]
-fn bindings(survey: &mut Survey, datum: &Datum) -> Result<(), Halt>
+fn bindings(survey: &mut Survey, primitives: &Primitives, datum: &Datum) -> Result<(), Halt>
     ensures { Takes result survey.new (inits datum.now survey.old) }
 {
     match datum.as_list() {
-        Some(items) => inits(survey, items),
+        Some(items) => inits(survey, primitives, items),
         None => Err(Halt::Refused),
     }
 }
 
 #[cycle(walk)]
-fn recursive(survey: &mut Survey, items: &[Datum]) -> Result<(), Halt>
+fn recursive(survey: &mut Survey, primitives: &Primitives, items: &[Datum]) -> Result<(), Halt>
     ensures { Takes result survey.new (recursive (chain items.now nil) survey.old) }
 {
     let [first, others @ ..] = items else {
@@ -308,13 +309,13 @@ fn recursive(survey: &mut Survey, items: &[Datum]) -> Result<(), Halt>
     };
     let size = survey.scope.size();
     binding_names(survey, first)?;
-    bindings(survey, first)?;
-    one(survey, others)?;
+    bindings(survey, primitives, first)?;
+    one(survey, primitives, others)?;
     survey.scope.keep(size);
     Ok(())
 }
 
-fn definition(survey: &mut Survey, items: &[Datum]) -> Result<(), Halt>
+fn definition(survey: &mut Survey, primitives: &Primitives, items: &[Datum]) -> Result<(), Halt>
     ensures { Takes result survey.new (definition (chain items.now nil) survey.old) }
 {
     let [first, others @ ..] = items else {
@@ -324,31 +325,31 @@ fn definition(survey: &mut Survey, items: &[Datum]) -> Result<(), Halt>
         return Err(Halt::Refused);
     };
     survey.define(name)?;
-    one(survey, others)
+    one(survey, primitives, others)
 }
 
 /// A list that is the form of a line.
-fn line_list(survey: &mut Survey, items: &[Datum]) -> Result<(), Halt>
+fn line_list(survey: &mut Survey, primitives: &Primitives, items: &[Datum]) -> Result<(), Halt>
     ensures { Takes result survey.new (line_form (chain items.now nil) survey.old) }
 {
     match items {
         [] => Err(Halt::Refused),
         [head, operands @ ..] => {
             if is_define(head) {
-                definition(survey, operands)
+                definition(survey, primitives, operands)
             } else {
-                form(survey, items)
+                form(survey, primitives, items)
             }
         }
     }
 }
 
 /// The form of a line.
-pub fn line_form(survey: &mut Survey, datum: &Datum) -> Result<(), Halt>
+pub fn line_form(survey: &mut Survey, primitives: &Primitives, datum: &Datum) -> Result<(), Halt>
     ensures { Takes result survey.new (line_form datum.now survey.old) }
 {
     match datum.as_list() {
-        Some(items) => line_list(survey, items),
-        None => expression(survey, datum),
+        Some(items) => line_list(survey, primitives, items),
+        None => expression(survey, primitives, datum),
     }
 }

@@ -1,5 +1,6 @@
 //! Symbols in core text (R6RS 4.2.4).
 
+ghost use Rattle.std.specs.List.{list_all};
 ghost use Rattle.std.specs.Prelude.{◌≡◌, ◌++◌, OnOk};
 ghost use Rattle.std.specs.Str.{chars};
 ghost use Rattle.std.specs.String.{string_bytes};
@@ -23,6 +24,16 @@ pub fn write_symbol(out: &mut String, text: &str) -> Result<(), AllocError>
 fn is_peculiar(text: &str) -> bool
     ensures { result ≡ is_peculiar text.now }
 {
+    match text.as_bytes() {
+        [b'+' | b'-' | b'.', ..] => is_peculiar_sign(text),
+        _ => false,
+    }
+}
+
+// The same of a text that begins with one of the characters that such texts begin with.
+fn is_peculiar_sign(text: &str) -> bool
+    ensures { result ≡ is_peculiar text.now }
+{
     text == "+" || text == "-" || text == "..." || text.as_bytes().starts_with(b"->")
 }
 
@@ -37,7 +48,29 @@ fn write_begun(out: &mut String, text: &str) -> Result<(), AllocError>
     write_later(out, rest.as_str())
 }
 
+#[tactic(auto, using(crate::proofs::Plain::later_whole))]
 fn write_later(out: &mut String, text: &str) -> Result<(), AllocError>
+    ensures { OnOk result (string_bytes out.new ≡ string_bytes out.old ++ later_text (chars text.now)) }
+{
+    if is_later_text(text) {
+        return out.push_str(text);
+    }
+    write_later_characters(out, text)
+}
+
+// Whether each byte is a character with which an identifier may go on, so that the text stands for itself there.
+fn is_later_text(text: &str) -> bool
+    ensures { result ≡ list_all is_later text.now }
+{
+    for byte in text.as_bytes() {
+        if !is_later(*byte as char) {
+            return false;
+        }
+    }
+    true
+}
+
+fn write_later_characters(out: &mut String, text: &str) -> Result<(), AllocError>
     ensures { OnOk result (string_bytes out.new ≡ string_bytes out.old ++ later_text (chars text.now)) }
 {
     for c in text.chars() {

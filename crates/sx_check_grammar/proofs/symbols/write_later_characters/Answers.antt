@@ -4,7 +4,7 @@ use Rattle.std.specs.Str.{chars}
 use Rattle.std.proofs.lemmas.Iterator.{YieldsList-from_chars}
 use Rattle.std.proofs.lemmas.Iterator.Consumers.{YieldsList-end}
 use Rattle.std.proofs.lemmas.List.{map-id}
-use Rattle.sx_check_grammar.proofs.symbols.write_later.Goals as goal
+use Rattle.sx_check_grammar.proofs.symbols.write_later_characters.Goals as goal
 
 pub returns : goal.returns
 returns c =

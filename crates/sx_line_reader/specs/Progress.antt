@@ -1,0 +1,49 @@
+-- What the tokens of a line have come to, where the innermost list stands apart.
+use Rattle.std.specs.Prelude.{◌≡◌, ◌-◌, Bool, true, false, List, [], ◌∷◌, ◌++◌, Option, None, Some, Result, Ok, Err}
+use Rattle.sx_base.specs.Datum.{PlainDatum}
+use Rattle.sx_base.specs.declared.fault.Fault.{Fault}
+use Rattle.sx_base.specs.declared.memory.Memory.{Memory}
+use Rattle.sx_line_reader.specs.declared.progress.OpenList.{OpenList}
+use Rattle.sx_line_reader.specs.declared.progress.Progress.{Progress}
+use Rattle.sx_lexer.specs.declared.token.Bracket.{Bracket}
+use Rattle.sx_machine.specs.declared.extent.Extent.{Extent}
+use Rattle.sx_machine.specs.declared.partial.Parts.TheVariants as parts
+use Rattle.sx_machine.specs.declared.partial.Partial.{Partial}
+use Rattle.sx_machine.specs.declared.partial.State.{State}
+use Rattle.sx_machine.specs.declared.partial.Tail.TheVariants as tail
+use Rattle.sx_machine.specs.Step.{state}
+
+-- the form that a list is
+abbrev pub as_form : OpenList → Partial
+as_form l = record { opening = l.opening; room = l.room; parts = parts.List l.bracket l.items tail.Absent }
+
+-- a list with what is around it
+abbrev pub held : State → OpenList → State
+held s l = state (as_form l ∷ s.stack) s.done
+
+abbrev pub with_list : State → Option OpenList → State
+with_list s None = s
+with_list s (Some l) = held s l
+
+-- all of it
+abbrev pub whole : Progress → State
+whole p = with_list p.around p.list
+
+-- with one more element
+abbrev pub with_element : OpenList → PlainDatum → OpenList
+with_element l d = record l { items = l.items ++ d ∷ [] }
+
+-- a list that is opened inside another
+abbrev pub opened_in : OpenList → Bracket → Extent → OpenList
+opened_in l b at = record { opening = at; room = l.room - 1; bracket = b; items = [] }
+
+-- such a list whose form this is, or the form itself
+abbrev pub IsForm : Result OpenList Partial → Partial → Type 0
+IsForm (Ok l) f = f ≡ as_form l
+IsForm (Err g) f = f ≡ g
+
+-- a step was taken, or nothing changed, as the answer tells
+abbrev pub Tries : Result Bool Memory → Result State Fault → State → State → Type 0
+Tries (Ok true) given before after = given ≡ Ok after
+Tries (Ok false) given before after = after ≡ before
+Tries (Err lack) given before after = Unit {0}
