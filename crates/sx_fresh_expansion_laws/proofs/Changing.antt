@@ -16,16 +16,11 @@ use Rattle.sx_value.specs.Cells.{Each}
 use Rattle.sx_fresh_laws.specs.Leaves.{OptionHolds, TreeHolds}
 use Rattle.sx_fresh_laws.specs.Below.{mark_named}
 use Rattle.sx_fresh_laws.specs.Names.{Rises, temporary_context}
-use Rattle.sx_fresh_laws.proofs.Eachs.{each_and, each_mapped}
+use Rattle.sx_fresh_laws.proofs.Eachs.{each_and}
 use Rattle.sx_fresh_laws.proofs.Trees.{OkHolds}
 use Rattle.sx_fresh_expansion_laws.specs.Living.{InUse, Lives, RowsHold}
 
 -- Rows.
-
-pub rows-wider : (K L : Mark → Type 0) → ((m : Mark) → K m → L m) → (fs : Scope) → RowsHold K fs → RowsHold L fs
-rows-wider K L k fs h =
-    each_mapped (λ (e : FrameNo × List Row). Each (λ (r : Row). Each K r.marks) e.1) (λ (e : FrameNo × List Row). Each (λ (r : Row). Each L r.marks) e.1)
-    (λ e j. each_mapped (λ (r : Row). Each K r.marks) (λ (r : Row). Each L r.marks) (λ r i. each_mapped K L k r.marks i) e.1 j) fs h
 
 pub with-row-holds : (K : Mark → Type 0) (fs : Scope) (f : FrameNo) (r : Row) → RowsHold K fs → Each K r.marks → RowsHold K (with_row fs f r)
 with-row-holds K [] f r h k = ((k, tt), tt)

@@ -1,5 +1,5 @@
 -- What may be met on the leaves of an expansion.
-use Rattle.std.specs.Prelude.{◌≤◌, ◌<◌, ℕ, suc, List, [], ◌∷◌, Option}
+use Rattle.std.specs.Prelude.{◌≤◌, ◌<◌, ℕ, suc, [], ◌∷◌, Option}
 use Rattle.sx_base.specs.declared.library.LibName.{LibName}
 use Rattle.sx_base.specs.declared.name.FrameNo.{FrameNo}
 use Rattle.sx_base.specs.declared.name.Mark.{Mark}
@@ -7,14 +7,13 @@ use Rattle.sx_tree.specs.Context as context
 use Rattle.sx_tree.specs.Context.{LeafContext, blank}
 use Rattle.sx_tree.specs.declared.change.Change.{Change}
 use Rattle.sx_tree.specs.declared.change.Change.TheVariants as change
-use Rattle.sx_frames.specs.Rows.{Row}
-use Rattle.sx_frames.specs.Scope.{Scope}
 use Rattle.sx_records.specs.Introduced.{core_frame}
 use Rattle.sx_quasi.specs.QuasiSyntax.{core_mark}
 use Rattle.sx_value.specs.Cells.{Each}
 use Rattle.sx_fresh_laws.specs.Leaves.{OptionHolds}
 use Rattle.sx_fresh_laws.specs.Below.{mark_named}
 use Rattle.sx_fresh_laws.specs.Names.{Rises, temporary_context}
+pub use Rattle.sx_invariant_laws.specs.Stages.{RowsHold}
 
 -- a change with such a mark and such a frame
 abbrev pub IsChangeOf : (Mark → Type 0) → (FrameNo → Type 0) → Change → Type 0
@@ -44,7 +43,3 @@ pub record Lives (own : LibName) (K : ℕ → Mark → Type 0) (J : ℕ → Fram
   pub read : P 0 blank
   pub core : (k : ℕ) → P 0 (record { marks = core_mark k ∷ []; stamps = [] })
   pub marks : (n : ℕ) (c : LeafContext) → P n c → Each (K n) c.marks
-
--- so it is of the rows of frames
-abbrev pub RowsHold : (Mark → Type 0) → Scope → Type 0
-RowsHold K fs = Each (λ (e : FrameNo × List Row). Each (λ (r : Row). Each K r.marks) e.1) fs

@@ -1,12 +1,9 @@
 pub mod Eachs
-pub mod Wider
-pub mod Reading
-pub mod Calls
-pub mod Storing
-pub mod Matches
-pub mod Instances
-pub mod Variables
-pub mod Meaning
 pub mod Trees
+pub mod Wider
+pub mod Closed
+pub mod Matches
+pub mod Variables
 pub mod Read
+pub mod Meaning
 pub mod Families

@@ -1,5 +1,5 @@
 -- Trees that are put together have the leaves of their parts.
-use Rattle.std.proofs.Common.{List, [], ◌∷◌, Option, None, Some, Bool, true, false, Result, Ok, Err, if◌then◌else◌}
+use Rattle.std.proofs.Common.{List, [], ◌∷◌, Option, None, Some, Bool, true, false, Ok, Err, if◌then◌else◌}
 use Rattle.sx_base.specs.declared.span.Span.{Span}
 use Rattle.sx_tree.specs.Context.{LeafContext}
 use Rattle.sx_tree.specs.Measures.{fits, too_deep, within}
@@ -7,10 +7,7 @@ use Rattle.sx_tree.specs.Tree.{Tree, atom, leaf, pair, vector, nil, chain, spann
 use Rattle.sx_value.specs.Cells.{Each}
 use Rattle.sx_fresh_laws.specs.Leaves.{TreeHolds}
 use Rattle.sx_fresh_laws.specs.Leaves.{OptionHolds}
-
-abbrev pub OkHolds : {A E : Type 0} → (A → Type 0) → Result A E → Type 0
-OkHolds P (Ok x) = P x
-OkHolds P (Err e) = Unit {0}
+pub use Rattle.sx_invariant_laws.proofs.Trees.{OkHolds}
 
 module _ (P : LeafContext → Type 0) where
   pub spanned_holds : (s : Option Span) (t : Tree) → TreeHolds P t → TreeHolds P (spanned s t)

@@ -1,30 +1,20 @@
 -- What holds of each leaf of a tree, by its marks and stamps; and so of each leaf in a value, in cells, in core code.
-use Rattle.std.specs.Prelude.{List, Option, None, Some}
+use Rattle.std.specs.Prelude.{List, Option}
 use Rattle.sx_base.specs.declared.name.CodeNo.{CodeNo}
 use Rattle.sx_base.specs.declared.name.Label.{Label}
 use Rattle.sx_tree.specs.Context.{LeafContext}
 use Rattle.sx_tree.specs.Tree as tree
 use Rattle.sx_tree.specs.Tree.{Tree}
-use Rattle.sx_core.specs.Core.{PlainCore, quoted, variable, primitive, one_armed, two_armed, assignment, sequence, procedure, letrec, call, instance, matching}
-use Rattle.sx_core.specs.Core.{PlainCores, none, more, PlainInits, no_init, init, PlainCases, no_case, case, PlainClauses, no_clause, clause, fended, PlainCode}
+use Rattle.sx_core.specs.Core.{PlainCore, PlainCores, PlainInits, PlainCases, PlainClauses, PlainCode}
 use Rattle.sx_core.specs.Pattern as pattern
 use Rattle.sx_core.specs.Pattern.{PlainPattern, PlainPatterns}
-use Rattle.sx_core.specs.Template as template
 use Rattle.sx_core.specs.Template.{PlainTemplate, PlainItems}
 use Rattle.sx_core.specs.declared.record.Line.{Line}
-use Rattle.sx_core.specs.declared.record.Line.TheVariants as line
-use Rattle.sx_value.specs.Bind as bind
-use Rattle.sx_value.specs.Bind.{PlainBind, PlainBinds}
-use Rattle.sx_value.specs.Cells.{Each}
 use Rattle.sx_value.specs.declared.value.Value.{Value}
-use Rattle.sx_value.specs.declared.value.Value.TheVariants as value
 use Rattle.sx_value.specs.declared.cell.Cell.{Cell}
-use Rattle.sx_value.specs.declared.cell.Cell.TheVariants as cell
-
--- of what may not be there
-abbrev pub OptionHolds : {A : Type 0} → (A → Type 0) → Option A → Type 0
-OptionHolds P None = Unit {0}
-OptionHolds P (Some x) = P x
+use Rattle.sx_invariant_laws.specs.Holds as holds
+use Rattle.sx_invariant_laws.specs.Invariant.{Invariant}
+pub use Rattle.sx_invariant_laws.specs.Invariant.{OptionHolds}
 
 module _ (P : LeafContext → Type 0) where
   abbrev pub TreeHolds : Tree → Type 0
@@ -33,58 +23,7 @@ module _ (P : LeafContext → Type 0) where
   TreeHolds (tree.pair s a d) = TreeHolds a × TreeHolds d
   TreeHolds (tree.vector s d) = TreeHolds d
 
-  -- Values. What lies at a place is that of the cells.
-  abbrev pub ValueHolds : Value → Type 0
-  ValueHolds value.Unspecified = Unit {0}
-  ValueHolds (value.Atom a) = Unit {0}
-  ValueHolds (value.Symbol s) = Unit {0}
-  ValueHolds (value.Pair p) = Unit {0}
-  ValueHolds (value.Vector p) = Unit {0}
-  ValueHolds (value.Str p) = Unit {0}
-  ValueHolds (value.Closure number p) = Unit {0}
-  ValueHolds (value.Prim op) = Unit {0}
-  ValueHolds (value.Syn t) = TreeHolds t
-  ValueHolds (value.Transformer p) = Unit {0}
-
-  abbrev pub ValuesHold : List Value → Type 0
-  ValuesHold vs = Each ValueHolds vs
-
-  abbrev mutual
-    pub BindHolds : PlainBind → Type 0
-    BindHolds (bind.one v) = ValueHolds v
-    BindHolds (bind.many bs) = BindsHold bs
-
-    pub BindsHold : PlainBinds → Type 0
-    BindsHold bind.none = Unit {0}
-    BindsHold (bind.more b bs) = BindHolds b × BindsHold bs
-
-  abbrev pub VariableHolds : Option Value → Type 0
-  VariableHolds None = Unit {0}
-  VariableHolds (Some v) = ValueHolds v
-
-  abbrev pub CellHolds : Cell → Type 0
-  CellHolds (cell.Pair x y) = ValueHolds x × ValueHolds y
-  CellHolds (cell.Vector xs) = ValuesHold xs
-  CellHolds (cell.Str text) = Unit {0}
-  CellHolds (cell.Scope es parent) = Each (λ (e : Label × Option Value). VariableHolds e.1) es
-  CellHolds (cell.Binds bs parent) = Each (λ (b : Label × PlainBind). BindHolds b.1) bs
-  CellHolds (cell.Transformer x) = ValueHolds x
-
-  abbrev pub CellsHold : List Cell → Type 0
-  CellsHold cs = Each CellHolds cs
-
-  -- Constants of core code: those of templates, and the literals of patterns.
-  abbrev mutual
-    pub TemplateHolds : PlainTemplate → Type 0
-    TemplateHolds (template.variable l d) = Unit {0}
-    TemplateHolds (template.constant t) = TreeHolds t
-    TemplateHolds (template.list is t) = ItemsHold is × TemplateHolds t
-    TemplateHolds (template.vector is) = ItemsHold is
-
-    pub ItemsHold : PlainItems → Type 0
-    ItemsHold template.none = Unit {0}
-    ItemsHold (template.more t e is) = TemplateHolds t × ItemsHold is
-
+  -- The literals of patterns.
   abbrev mutual
     pub PatternHolds : PlainPattern → Type 0
     PatternHolds pattern.any = Unit {0}
@@ -99,51 +38,64 @@ module _ (P : LeafContext → Type 0) where
     PatternsHold (pattern.more p ps) = PatternHolds p × PatternsHold ps
     PatternsHold (pattern.dots p ps) = PatternHolds p × PatternsHold ps
 
-  abbrev mutual
-    pub CoreHolds : PlainCore → Type 0
-    CoreHolds (quoted d) = Unit {0}
-    CoreHolds (variable l) = Unit {0}
-    CoreHolds (primitive op) = Unit {0}
-    CoreHolds (one_armed c d) = CoreHolds c × CoreHolds d
-    CoreHolds (two_armed c d e) = CoreHolds c × (CoreHolds d × CoreHolds e)
-    CoreHolds (assignment l c) = CoreHolds c
-    CoreHolds (sequence cs) = CoresHold cs
-    CoreHolds (procedure number cs plain) = CasesHold cs
-    CoreHolds (letrec o is c) = InitsHold is × CoreHolds c
-    CoreHolds (call c cs) = CoreHolds c × CoresHold cs
-    CoreHolds (instance t s) = TemplateHolds t
-    CoreHolds (matching c cs s) = CoreHolds c × ClausesHold cs
+  -- The invariant: of atoms, symbols, strings and constants nothing is asked.
+  abbrev pub leaves : Invariant
+  leaves = record {
+    atoms = λ x. Unit {0};
+    symbols = λ s. Unit {0};
+    texts = λ s. Unit {0};
+    trees = TreeHolds;
+    constants = λ d. Unit {0};
+    clauses = λ p A. PatternHolds p × A;
+  }
 
-    pub CoresHold : PlainCores → Type 0
-    CoresHold none = Unit {0}
-    CoresHold (more c cs) = CoreHolds c × CoresHold cs
+  abbrev pub ValueHolds : Value → Type 0
+  ValueHolds = holds.ValueHolds leaves
 
-    pub InitsHold : PlainInits → Type 0
-    InitsHold no_init = Unit {0}
-    InitsHold (init l c is) = CoreHolds c × InitsHold is
+  abbrev pub ValuesHold : List Value → Type 0
+  ValuesHold = holds.ValuesHold leaves
 
-    pub CasesHold : PlainCases → Type 0
-    CasesHold no_case = Unit {0}
-    CasesHold (case f c cs) = CoreHolds c × CasesHold cs
+  abbrev pub VariableHolds : Option Value → Type 0
+  VariableHolds = holds.VariableHolds leaves
 
-    pub ClausesHold : PlainClauses → Type 0
-    ClausesHold no_clause = Unit {0}
-    ClausesHold (clause p c cs) = PatternHolds p × (CoreHolds c × ClausesHold cs)
-    ClausesHold (fended p f c cs) = PatternHolds p × (CoreHolds f × (CoreHolds c × ClausesHold cs))
+  abbrev pub CellHolds : Cell → Type 0
+  CellHolds = holds.CellHolds leaves
+
+  abbrev pub CellsHold : List Cell → Type 0
+  CellsHold = holds.CellsHold leaves
+
+  abbrev pub TemplateHolds : PlainTemplate → Type 0
+  TemplateHolds = holds.TemplateHolds leaves
+
+  abbrev pub ItemsHold : PlainItems → Type 0
+  ItemsHold = holds.ItemsHold leaves
+
+  abbrev pub CoreHolds : PlainCore → Type 0
+  CoreHolds = holds.CoreHolds leaves
+
+  abbrev pub CoresHold : PlainCores → Type 0
+  CoresHold = holds.CoresHold leaves
+
+  abbrev pub InitsHold : PlainInits → Type 0
+  InitsHold = holds.InitsHold leaves
+
+  abbrev pub CasesHold : PlainCases → Type 0
+  CasesHold = holds.CasesHold leaves
+
+  abbrev pub ClausesHold : PlainClauses → Type 0
+  ClausesHold = holds.ClausesHold leaves
 
   abbrev pub CodeHolds : PlainCode → Type 0
-  CodeHolds c = CasesHold c.cases
+  CodeHolds = holds.CodeHolds leaves
 
   abbrev pub CodesHold : List (CodeNo × PlainCode) → Type 0
-  CodesHold cs = Each (λ (c : CodeNo × PlainCode). CodeHolds c.1) cs
+  CodesHold = holds.CodesHold leaves
 
-  -- the variables of libraries
   abbrev pub GlobalsHold : List (Label × Value) → Type 0
-  GlobalsHold gs = Each (λ (g : Label × Value). ValueHolds g.1) gs
+  GlobalsHold = holds.GlobalsHold leaves
 
   abbrev pub LineHolds : Line → Type 0
-  LineHolds (line.Define l c) = CoreHolds c
-  LineHolds (line.Expr c) = CoreHolds c
+  LineHolds = holds.LineHolds leaves
 
   abbrev pub LinesHold : List Line → Type 0
-  LinesHold ls = Each LineHolds ls
+  LinesHold = holds.LinesHold leaves

@@ -1,10 +1,11 @@
 -- What is met on leaves rises with the names of a library: what was met is met later, too.
-use Rattle.std.specs.Prelude.{◌≡◌, ◌≤◌, ◌<◌, ℕ, [], ◌∷◌}
+use Rattle.std.specs.Prelude.{◌≤◌, ◌<◌, ℕ, [], ◌∷◌}
 use Rattle.sx_base.specs.declared.library.LibName.{LibName}
 use Rattle.sx_tree.specs.Context.{LeafContext}
 use Rattle.sx_eval.specs.Setting.{PlainSetting}
-use Rattle.sx_eval.specs.State.{State, Outcome, done, faulted, unfit}
-use Rattle.sx_fresh_laws.specs.Leaves.{ValueHolds, CellsHold, CodesHold, GlobalsHold}
+use Rattle.sx_eval.specs.State.{State, Outcome}
+use Rattle.sx_invariant_laws.specs.Outcome as outcome
+use Rattle.sx_fresh_laws.specs.Leaves.{leaves}
 
 -- the only mark of a temporary, whose name is this one of the library
 abbrev pub temporary_context : LibName → ℕ → LeafContext
@@ -17,18 +18,13 @@ pub record Rises (own : LibName) (first : ℕ) (P : ℕ → LeafContext → Type
   pub temporary : (m n : ℕ) → first ≤ m → m < n → P n (temporary_context own m)
 
 -- what an evaluation reads
-pub record SettingHolds (P : LeafContext → Type 0) (w : PlainSetting) : Type 0 where
-  pub codes : CodesHold P w.codes
-  pub globals : GlobalsHold P w.globals
+abbrev pub SettingHolds : (P : LeafContext → Type 0) → PlainSetting → Type 0
+SettingHolds P = outcome.SettingHolds (leaves P)
 
 -- No name that was taken is free again, and each leaf in the cells may be met by then.
-pub record StateHolds (own : LibName) (P : ℕ → LeafContext → Type 0) (m : ℕ) (s : State) : Type 0 where
-  pub up : m ≤ s.names.number
-  pub library : s.names.library ≡ own
-  pub cells : CellsHold (P s.names.number) s.cells
+abbrev pub StateHolds : (own : LibName) (P : ℕ → LeafContext → Type 0) (m : ℕ) → State → Type 0
+StateHolds own P m = outcome.StateHolds own (λ n. leaves (P n)) m
 
 -- an outcome from when this was the next name, with what may be met then
 abbrev pub OutcomeHolds : (own : LibName) (P : ℕ → LeafContext → Type 0) (m : ℕ) → Outcome → Type 0
-OutcomeHolds own P m (done v s n) = StateHolds own P m s × ValueHolds (P s.names.number) v
-OutcomeHolds own P m (faulted f s n) = StateHolds own P m s
-OutcomeHolds own P m unfit = Unit {0}
+OutcomeHolds own P m = outcome.OutcomeHolds own (λ n. leaves (P n)) m

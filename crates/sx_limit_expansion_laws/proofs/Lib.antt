@@ -1,13 +1,7 @@
-pub mod Shapes
-pub mod Templates
-pub mod Quasi
-pub mod QuasiSyntax
 pub mod Records
+pub mod Kept
+pub mod Shapes
 pub mod Standing
-pub mod Plans
-pub mod Items
-pub mod Forms
-pub mod Inserts
 pub mod Settled
 pub mod Recorded
 pub mod Limits

@@ -1,139 +1,22 @@
--- What holds of the forms of a library holds of its record.
-use Rattle.std.proofs.Common.{◌≡◌, ℕ, zero, suc, Bool, List, [], ◌∷◌, map, Option, None, Some, Result, Ok, Err, subst}
-use Rattle.sx_base.specs.Act.{after, give}
-use Rattle.sx_base.specs.declared.fault.Fault.{Fault}
+-- The law of the records of libraries.
+use Rattle.std.proofs.Common.{ℕ, List}
 use Rattle.sx_base.specs.declared.library.LibName.{LibName}
 use Rattle.sx_base.specs.declared.name.Label.{Label}
-use Rattle.sx_base.specs.declared.span.Span.{Span}
-use Rattle.sx_tree.specs.Changes.{stamp}
 use Rattle.sx_tree.specs.Tree.{Tree}
-use Rattle.sx_scope.specs.Stands.{stands}
-use Rattle.sx_core.specs.Bindings.{bound_to}
-use Rattle.sx_core.specs.Labels.{same_label, has_label}
-use Rattle.sx_core.specs.declared.binding.Binding.{Binding}
-use Rattle.sx_core.specs.declared.binding.Binding.TheVariants as binding
 use Rattle.sx_core.specs.declared.record.LibRecord.{LibRecord}
 use Rattle.sx_eval.specs.Codes.{Codes}
-use Rattle.sx_stage.specs.Stage.{keyword_at, expression_in, expression_of}
-use Rattle.sx_stage.specs.declared.keyword.Keyword.{Keyword}
-use Rattle.sx_stage.specs.declared.keyword.Keyword.TheVariants as keyword
-use Rattle.sx_standing.specs.Own.{export_labels, with_assigned, with_expression, completed, row_at, own_label, own_row, own_below, own_bindings}
-use Rattle.sx_standing.specs.Start.{bindings_of, started}
-use Rattle.sx_standing.specs.State.{State, stage_of}
-use Rattle.sx_heads.specs.Items.{begun}
-use Rattle.sx_heads.specs.declared.taken.Taken.{Taken}
+use Rattle.sx_standing.specs.Start.{started}
 use Rattle.sx_value.specs.Cells.{Each}
-use Rattle.sx_expand.specs.Body.{finish_all}
-use Rattle.sx_expand.specs.Expanding.{ready, body_of}
-use Rattle.sx_expand.specs.Expression.{inside, full_room}
-use Rattle.sx_expand.specs.Inside.{Inside}
-use Rattle.sx_expand.specs.Top.{stands_for, export, all_exports, exports, give_record, record_in, body_at, finished, first_pass, top}
-use Rattle.sx_expand.specs.declared.top.TopAt.{TopAt}
-use Rattle.sx_fresh_laws.specs.Leaves.{OptionHolds}
-use Rattle.sx_fresh_laws.proofs.Eachs.{each_both}
-use Rattle.sx_limit_laws.specs.Holds.{CodesHold, LineHolds}
-use Rattle.sx_limit_laws.specs.Stages.{ExpressionHolds, KeywordHolds, RecordsHold}
-use Rattle.sx_limit_laws.proofs.Variables.{looked_up}
-use Rattle.sx_limit_expansion_laws.specs.Records.{RecordHolds, RecordsStay}
-use Rattle.sx_limit_expansion_laws.specs.States.{BindingHolds, BindingsHold, HoldsIn}
-use Rattle.sx_limit_expansion_laws.proofs.Forms.{Keeps, stamps-hold, splice-holds, lines-hold}
-use Rattle.sx_limit_expansion_laws.proofs.Items.{TakenAt}
-use Rattle.sx_limit_expansion_laws.proofs.Settled.{inside-keeps}
-use Rattle.sx_limit_expansion_laws.proofs.Standing.{F, Ts, Gave, gave-after, gave-each}
+use Rattle.sx_invariant_expansion_laws.proofs.Recorded as recorded
+use Rattle.sx_limit_laws.specs.Holds.{CodesHold, trees}
 use Rattle.sx_limit_laws.specs.Lawful.{IsLawful}
+use Rattle.sx_limit_expansion_laws.specs.Records.{RecordHolds, RecordsStay}
+use Rattle.sx_limit_expansion_laws.specs.States.{HoldsIn}
+use Rattle.sx_limit_expansion_laws.proofs.Kept.{trees-kept}
 
 module _ (T : Tree → Type 0) (lawful : IsLawful T) where
-  abbrev Any : {A : Type 0} → A → Type 0
-  Any x = Unit {0}
-
-  -- Its own bindings.
-
-  kept-holds : (o : Option Keyword) → OptionHolds (KeywordHolds T) o → ExpressionHolds T (expression_in o)
-  kept-holds None h = tt
-  kept-holds (Some (keyword.Waiting place)) h = tt
-  kept-holds (Some (keyword.Kept e v)) h = h.0
-
-  completed-holds : (s : State) (l : Label) (b : Binding) → F T lawful s → BindingHolds T (completed s l b)
-  completed-holds s l b h = by (has_label s.assigned l) b
-    where
-      by : (a : Bool) (b : Binding) → BindingHolds T (with_expression (expression_of l (stage_of s)) (with_assigned a b))
-      by a (binding.Variable v) = tt
-      by a (binding.PatternVariable level depth) = tt
-      by a (binding.Macro level e) = kept-holds (keyword_at s.keywords l) (looked_up (KeywordHolds T) (same_label l) s.keywords h.stage.keywords)
-      by a (binding.Core f) = tt
-      by a (binding.Primitive op) = tt
-
-  row-at-holds : (s : State) (l : Label) (o : Option Binding) → F T lawful s → BindingsHold T (row_at s l o)
-  row-at-holds s l None h = tt
-  row-at-holds s l (Some b) h = (completed-holds s l b h, tt)
-
-  below-holds : (s : State) (n : ℕ) → F T lawful s → BindingsHold T (own_below s n)
-  below-holds s zero h = tt
-  below-holds s (suc n) h = each_both (λ (b : Label × Binding). BindingHolds T b.1) (own_below s n) (own_row s n) (below-holds s n h) (row-at-holds s (own_label s n) (bound_to s.bindings (own_label s n)) h)
-
-  own-holds : (s : State) → F T lawful s → BindingsHold T (own_bindings s)
-  unfolding own_bindings
-  own-holds s h = below-holds s s.names.number h
-
-  -- Exports change nothing.
-
-  stands-for-holds : (place : Span) (external : List ℕ) (id : Tree) (o : Option Label) (s : State) → F T lawful s → Gave T lawful Any (stands_for place external id o s)
-  stands-for-holds place external id None s h = tt
-  stands-for-holds place external id (Some l) s h = (h, tt)
-
-  export-holds : (at : TopAt) (e : List ℕ × Tree) (s : State) → F T lawful s → Gave T lawful Any (export at e s)
-  unfolding export
-  export-holds at e s h = stands-for-holds at.place e.0 (stamp at.frame e.1) (stands s.frames (stamp at.frame e.1)) s h
-
-  all-any : {A : Type 0} (xs : List A) → Each (Any {A = A}) xs
-  all-any [] = tt
-  all-any (x ∷ xs) = (tt, all-any xs)
-
-  exports-hold : (at : TopAt) (es : List (List ℕ × Tree)) (s : State) → F T lawful s → Gave T lawful Any (exports at es s)
-  unfolding exports
-  exports-hold at es s h =
-      gave-after T lawful (λ ls. Each (Any {A = List ℕ × Label}) ls) Any (all_exports at es s) (λ ls s'. after (export_labels ls s') (λ _. give ls))
-      (gave-each T lawful (Any {A = List ℕ × Tree}) (Any {A = List ℕ × Label}) (export at) (λ e t i j. export-holds at e t i) [] es s h tt (all-any es))
-      (λ ls u i y. (record { stage = i.stage; bindings = i.bindings }, tt))
-
-  -- The body of a library.
-
-  module _ (go : Inside) (keeps : Keeps T lawful go) where
-    finished-holds : (at : TopAt) (es : List (List ℕ × Tree)) (d : Taken) (s : State) → F T lawful s → TakenAt T lawful d → Gave T lawful (RecordHolds T) (finished go at es d s)
-    unfolding finished
-    finished-holds at es d s h k =
-        gave-after T lawful Any (RecordHolds T) (exports at es s) (λ ls s'. after (finish_all go 0 d.waiting s') (λ lines. give_record at ls lines)) (exports-hold at es s h)
-        (λ ls u i y. gave-after T lawful (λ xs. Each (LineHolds T) xs) (RecordHolds T) (finish_all go 0 d.waiting u) (λ lines. give_record at ls lines) (lines-hold T lawful go keeps 0 d.waiting u i k)
-        (λ lines v j z. (j, record { run = z; bindings = own-holds v j })))
-
-    top-holds : (at : TopAt) (es : List (List ℕ × Tree)) (forms : List Tree) (s : State) → F T lawful s → Ts T lawful forms → Gave T lawful (RecordHolds T) (top go at es forms s)
-    unfolding top first_pass
-    top-holds at es forms s h k =
-        gave-after T lawful (TakenAt T lawful) (RecordHolds T) (first_pass go at forms s) (finished go at es) (splice-holds T lawful go keeps (body_at at s.library) 0 begun (map (stamp at.frame) forms) s h tt (stamps-hold T lawful at.frame forms k))
-        (λ d u i y. finished-holds at es d u i y)
-
-  -- The law.
-
-  all-bindings : (rs : List LibRecord) → Each (RecordHolds T) rs → BindingsHold T (bindings_of rs)
-  all-bindings [] h = tt
-  all-bindings (r ∷ rs) h = each_both (λ (b : Label × Binding). BindingHolds T b.1) r.bindings (bindings_of rs) h.0.bindings (all-bindings rs h.1)
-
-  all-lines : (rs : List LibRecord) → Each (RecordHolds T) rs → RecordsHold T rs
-  all-lines [] h = tt
-  all-lines (r ∷ rs) h = (h.0.run, all-lines rs h.1)
-
-  of-record : (r : LibRecord) (q : Result (LibRecord × State) Fault) → Gave T lawful (RecordHolds T) q → record_in q ≡ Ok r → RecordHolds T r
-  of-record r (Err f) h e = absurd (cc)
-  of-record r (Ok p) h e =
-      let is : p.0 ≡ r = cc in
-      subst (RecordHolds T) is h.1
-
   pub started-holds : (own : LibName) (records : List LibRecord) (imports : List (List ℕ × Label)) (codes : Codes) → Each (RecordHolds T) records → CodesHold T codes → HoldsIn T (started own records imports codes)
-  unfolding started
-  started-holds own records imports codes before texts = record { stage = record { cells = tt; codes = texts; globals = tt; keywords = tt }; bindings = all-bindings records before }
+  started-holds own records imports codes before texts = recorded.started-holds (trees T) (trees-kept T lawful) own records imports codes before texts
 
   pub records-stay : RecordsStay T
-  records-stay own path records imports version place es forms codes r before texts read e =
-      of-record r (top (inside records full_room) (body_of (ready own path records imports codes) version place) es forms (started own records imports codes))
-      (top-holds (inside records full_room) (inside-keeps T lawful records full_room (all-lines records before)) (body_of (ready own path records imports codes) version place) es forms (started own records imports codes)
-      (started-holds own records imports codes before texts) read) e
+  records-stay = recorded.records-stay (trees T) (trees-kept T lawful)

@@ -1,4 +1,3 @@
 pub mod States
-pub mod Forms
 pub mod Records
 pub mod Limits

@@ -2,23 +2,17 @@
 use Rattle.std.specs.Prelude.{List}
 use Rattle.sx_base.specs.declared.name.Label.{Label}
 use Rattle.sx_core.specs.declared.binding.Binding.{Binding}
-use Rattle.sx_core.specs.declared.binding.Binding.TheVariants as binding
-use Rattle.sx_standing.specs.State.{State, stage_of}
-use Rattle.sx_value.specs.Cells.{Each}
-use Rattle.sx_limit_laws.specs.Stages.{ExpressionHolds, StageHolds}
+use Rattle.sx_standing.specs.State.{State}
 use Rattle.sx_tree.specs.Tree.{Tree}
+use Rattle.sx_invariant_expansion_laws.specs.States as states
+use Rattle.sx_limit_laws.specs.Holds.{trees}
 
 module _ (T : Tree → Type 0) where
   abbrev pub BindingHolds : Binding → Type 0
-  BindingHolds (binding.Variable v) = Unit {0}
-  BindingHolds (binding.PatternVariable level depth) = Unit {0}
-  BindingHolds (binding.Macro level e) = ExpressionHolds T e
-  BindingHolds (binding.Core f) = Unit {0}
-  BindingHolds (binding.Primitive op) = Unit {0}
+  BindingHolds = states.BindingHolds (trees T)
 
   abbrev pub BindingsHold : List (Label × Binding) → Type 0
-  BindingsHold bs = Each (λ (b : Label × Binding). BindingHolds b.1) bs
+  BindingsHold = states.BindingsHold (trees T)
 
-  pub record HoldsIn (s : State) : Type 0 where
-    pub stage : StageHolds T (stage_of s)
-    pub bindings : BindingsHold s.bindings
+  abbrev pub HoldsIn : State → Type 0
+  HoldsIn = states.HoldsIn (trees T)

@@ -1,96 +1,14 @@
--- What holds of core code holds of its codes, and of the variables of a library.
-use Rattle.std.proofs.Common.{Bool, true, false, List, [], ◌∷◌, Option, None, Some, if◌then◌else◌}
-use Rattle.indexmap.specs.IndexMap.{insert_entry}
-use Rattle.sx_base.specs.declared.name.Label.{Label}
-use Rattle.sx_core.specs.Core.{PlainCore, quoted, variable, primitive, one_armed, two_armed, assignment, sequence, procedure, letrec, call, instance, matching}
-use Rattle.sx_core.specs.Core.{PlainCores, none, more, PlainInits, no_init, init, PlainCases, no_case, case, PlainClauses, no_clause, clause, fended, PlainCode}
-use Rattle.sx_core.specs.Labels.{same_label}
-use Rattle.sx_core.specs.declared.record.Line.{Line}
-use Rattle.sx_core.specs.declared.record.Line.TheVariants as line
-use Rattle.sx_value.specs.Cells.{Each}
-use Rattle.sx_value.specs.declared.value.Value.{Value}
-use Rattle.sx_value.specs.declared.cell.Cell.{Cell}
-use Rattle.sx_value.specs.declared.cell.Cell.TheVariants as cell
-use Rattle.sx_eval.specs.Codes.{Codes, same_code, with_code, procedure_code, with_codes, with_all, with_inits, with_cases, with_clauses}
-use Rattle.sx_eval.specs.Lines.{with_lines, with_value, with_values, with_values_in, defined}
-use Rattle.sx_eval.specs.Variables.{Entries}
-use Rattle.sx_fresh_laws.specs.Leaves.{OptionHolds}
-use Rattle.sx_limit_laws.specs.Holds.{ValueHolds, VariableHolds, CellHolds, CoreHolds, CoresHold, InitsHold, CasesHold, ClausesHold, CodeHolds, CodesHold, GlobalsHold, LinesHold}
-use Rattle.sx_limit_laws.proofs.Variables.{EntriesHold}
+-- Codes of whose trees the law holds.
 use Rattle.sx_tree.specs.Tree.{Tree}
+use Rattle.sx_core.specs.Core.{PlainCases, PlainCode}
+use Rattle.sx_eval.specs.Codes.{Codes, with_code, with_cases}
+use Rattle.sx_invariant_laws.proofs.Codes as codes
+use Rattle.sx_limit_laws.specs.Holds.{CasesHold, CodeHolds, CodesHold, trees}
 use Rattle.sx_limit_laws.specs.Lawful.{IsLawful}
 
 module _ (T : Tree → Type 0) (lawful : IsLawful T) where
-  -- Tables with one more entry, or one in place of another.
-
-  pub inserted-holds : {A V : Type 0} (Q : V → Type 0) (same : A → A → Bool) (es : List (A × V)) (k : A) (v : V) → Each (λ (e : A × V). Q e.1) es → Q v → Each (λ (e : A × V). Q e.1) (insert_entry same es k v)
-  inserted-holds Q same [] k v h j = (j, tt)
-  inserted-holds {A} {V} Q same (e ∷ es) k v h j = by_same (_) (inserted-holds Q same es k v h.1 j)
-    where
-      by_same : (b : Bool) → Each (λ (e : A × V). Q e.1) (insert_entry same es k v) → Each (λ (e : A × V). Q e.1) (if b then (e.0, v) ∷ es else e ∷ insert_entry same es k v)
-      by_same true i = (j, h.1)
-      by_same false i = (h.0, i)
-
   pub one-code : (c : PlainCode) (cs : Codes) → CodesHold T cs → CodeHolds T c → CodesHold T (with_code c cs)
-  one-code c cs h k = inserted-holds (CodeHolds T) same_code cs c.number c h k
+  one-code c cs h k = codes.one-code (trees T) (λ p A x. x) c cs h k
 
-  mutual
-    pub codes-hold : (c : PlainCore) (cs : Codes) → CodesHold T cs → CoreHolds T c → CodesHold T (with_codes c cs)
-    codes-hold (quoted d) cs h k = h
-    codes-hold (variable l) cs h k = h
-    codes-hold (primitive op) cs h k = h
-    codes-hold (one_armed c d) cs h k = codes-hold d (with_codes c cs) (codes-hold c cs h k.0) k.1
-    codes-hold (two_armed c d e) cs h k = codes-hold e (with_codes d (with_codes c cs)) (codes-hold d (with_codes c cs) (codes-hold c cs h k.0) k.1.0) k.1.1
-    codes-hold (assignment l c) cs h k = codes-hold c cs h k
-    codes-hold (sequence xs) cs h k = all-codes xs cs h k
-    codes-hold (procedure number xs plain) cs h k = case-codes xs (with_code (procedure_code number xs plain) cs) (one-code (procedure_code number xs plain) cs h k) k
-    codes-hold (letrec o is c) cs h k = codes-hold c (with_inits is cs) (init-codes is cs h k.0) k.1
-    codes-hold (call c xs) cs h k = all-codes xs (with_codes c cs) (codes-hold c cs h k.0) k.1
-    codes-hold (instance t s) cs h k = h
-    codes-hold (matching c xs s) cs h k = clause-codes xs (with_codes c cs) (codes-hold c cs h k.0) k.1
-
-    all-codes : (xs : PlainCores) (cs : Codes) → CodesHold T cs → CoresHold T xs → CodesHold T (with_all xs cs)
-    all-codes none cs h k = h
-    all-codes (more c xs) cs h k = all-codes xs (with_codes c cs) (codes-hold c cs h k.0) k.1
-
-    init-codes : (is : PlainInits) (cs : Codes) → CodesHold T cs → InitsHold T is → CodesHold T (with_inits is cs)
-    init-codes no_init cs h k = h
-    init-codes (init l c is) cs h k = init-codes is (with_codes c cs) (codes-hold c cs h k.0) k.1
-
-    pub case-codes : (xs : PlainCases) (cs : Codes) → CodesHold T cs → CasesHold T xs → CodesHold T (with_cases xs cs)
-    case-codes no_case cs h k = h
-    case-codes (case f c xs) cs h k = case-codes xs (with_codes c cs) (codes-hold c cs h k.0) k.1
-
-    clause-codes : (xs : PlainClauses) (cs : Codes) → CodesHold T cs → ClausesHold T xs → CodesHold T (with_clauses xs cs)
-    clause-codes no_clause cs h k = h
-    clause-codes (clause p c xs) cs h k = clause-codes xs (with_codes c cs) (codes-hold c cs h k.0) k.1
-    clause-codes (fended p f c xs) cs h k = clause-codes xs (with_codes c (with_codes f cs)) (codes-hold c (with_codes f cs) (codes-hold f cs h k.0) k.1.0) k.1.1
-
-  pub line-codes : (ls : List Line) (cs : Codes) → CodesHold T cs → LinesHold T ls → CodesHold T (with_lines ls cs)
-  line-codes [] cs h k = h
-  line-codes (line.Define l c ∷ ls) cs h k = line-codes ls (with_codes c cs) (codes-hold c cs h k.0) k.1
-  line-codes (line.Expr c ∷ ls) cs h k = line-codes ls (with_codes c cs) (codes-hold c cs h k.0) k.1
-
-  -- The variables of a library.
-
-  one-value : (l : Label) (o : Option Value) (gs : List (Label × Value)) → GlobalsHold T gs → VariableHolds T o → GlobalsHold T (with_value l o gs)
-  one-value l None gs h k = h
-  one-value l (Some v) gs h k = inserted-holds (ValueHolds T) same_label gs l v h k
-
-  all-values : (es : Entries) (gs : List (Label × Value)) → GlobalsHold T gs → EntriesHold T lawful es → GlobalsHold T (with_values es gs)
-  all-values [] gs h k = h
-  all-values (e ∷ es) gs h k = all-values es (with_value e.0 e.1 gs) (one-value e.0 e.1 gs h k.0) k.1
-
-  pub values-in : (o : Option Cell) (gs : List (Label × Value)) → GlobalsHold T gs → OptionHolds (CellHolds T) o → GlobalsHold T (with_values_in o gs)
-  values-in None gs h k = h
-  values-in (Some (cell.Scope es p)) gs h k = all-values es gs h k
-  values-in (Some (cell.Pair x y)) gs h k = h
-  values-in (Some (cell.Vector xs)) gs h k = h
-  values-in (Some (cell.Str text)) gs h k = h
-  values-in (Some (cell.Binds bs p)) gs h k = h
-  values-in (Some (cell.Transformer x)) gs h k = h
-
-  pub unset-defined : (ls : List Line) → EntriesHold T lawful (defined ls)
-  unset-defined [] = tt
-  unset-defined (line.Define l c ∷ ls) = (tt, unset-defined ls)
-  unset-defined (line.Expr c ∷ ls) = unset-defined ls
+  pub case-codes : (xs : PlainCases) (cs : Codes) → CodesHold T cs → CasesHold T xs → CodesHold T (with_cases xs cs)
+  case-codes xs cs h k = codes.case-codes (trees T) (λ p A x. x) xs cs h k

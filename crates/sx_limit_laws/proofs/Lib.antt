@@ -1,12 +1,7 @@
 pub mod Trees
-pub mod Reading
-pub mod Read
-pub mod Calls
-pub mod Storing
+pub mod Steady
 pub mod Variables
 pub mod Matches
-pub mod Instances
-pub mod Meaning
 pub mod Codes
 pub mod Stages
 pub mod Limits

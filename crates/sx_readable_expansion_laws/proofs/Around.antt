@@ -9,9 +9,12 @@ use Rattle.sx_expand.specs.Inside.{Inside}
 use Rattle.sx_readable_laws.specs.Stages.{ReadableRecords}
 use Rattle.sx_readable_expansion_laws.specs.Keeping.{KeepsReadable, around, ReadablesStayIn}
 use Rattle.sx_readable_expansion_laws.specs.States.{ReadableIn}
-use Rattle.sx_readable_expansion_laws.proofs.Forms.{Keeps, CaseAt, case-holds}
-use Rattle.sx_readable_expansion_laws.proofs.Items.{TakenAt}
-use Rattle.sx_readable_expansion_laws.proofs.Settled.{form-at-holds, item-holds, inside-keeps}
+use Rattle.sx_invariant_expansion_laws.proofs.Forms as core_forms
+use Rattle.sx_invariant_expansion_laws.proofs.Items as items
+use Rattle.sx_invariant_expansion_laws.proofs.Settled as settled
+use Rattle.sx_readable_laws.specs.Readable.{readable}
+use Rattle.sx_readable_expansion_laws.proofs.Kept.{readable-kept}
+use Rattle.sx_readable_expansion_laws.proofs.Settled.{Keeps, inside-keeps}
 use Rattle.sx_readable_expansion_laws.proofs.Standing.{C, Gave}
 
 -- what was given is told by the account
@@ -26,15 +29,15 @@ as-given : (go : Inside) → KeepsReadable go → ReadableRecords go.earlier →
 as-given go keeps rs = record {
   records = rs;
   form = λ place level depth t s h g. gave C (go.form place level depth t s) (λ c u e. keeps.form place level depth t s u c h rs g e);
-  procedure = λ place level depth t ids forms s h k g. gave CaseAt (go.procedure place level depth t ids forms s) (λ c u e. keeps.procedure place level depth t ids forms s u c h rs k g e);
-  item = λ at depth d t s h k g. gave TakenAt (go.item at depth d t s) (λ d' u e. keeps.item at depth d d' t s u h rs k g e);
+  procedure = λ place level depth t ids forms s h k g. gave (core_forms.CaseAt readable readable-kept) (go.procedure place level depth t ids forms s) (λ c u e. keeps.procedure place level depth t ids forms s u c h rs k g e);
+  item = λ at depth d t s h k g. gave (items.TakenAt readable readable-kept) (go.item at depth d t s) (λ d' u e. keeps.item at depth d d' t s u h rs k g e);
 }
 
 around-keeps : (go : Inside) → KeepsReadable go → KeepsReadable (around go)
 around-keeps go keeps = record {
-  form = λ place level depth t s u c h rs g e. told C u c (form_at go place level depth t s) (form-at-holds go (as-given go keeps rs) place level depth t s h g) e;
-  procedure = λ place level depth t ids forms s u c h rs k g e. told CaseAt u c (lambda_case go place level depth t ids forms s) (case-holds go (as-given go keeps rs) place level depth t ids forms s h k g) e;
-  item = λ at depth d d' t s u h rs k g e. told TakenAt u d' (item go at depth d t s) (item-holds go (as-given go keeps rs) at depth d t s h k g) e;
+  form = λ place level depth t s u c h rs g e. told C u c (form_at go place level depth t s) (settled.form-at-holds readable readable-kept go (as-given go keeps rs) place level depth t s h g) e;
+  procedure = λ place level depth t ids forms s u c h rs k g e. told (core_forms.CaseAt readable readable-kept) u c (lambda_case go place level depth t ids forms s) (core_forms.case-holds readable readable-kept go (as-given go keeps rs) place level depth t ids forms s h k g) e;
+  item = λ at depth d d' t s u h rs k g e. told (items.TakenAt readable readable-kept) u d' (item go at depth d t s) (settled.item-holds readable readable-kept go (as-given go keeps rs) at depth d t s h k g) e;
 }
 
 earlier : (records : List LibRecord) (room : ℕ) → ReadableRecords (inside records room).earlier → ReadableRecords records
@@ -46,8 +49,8 @@ each-inside : (records : List LibRecord) (room : ℕ) → KeepsReadable (inside 
 each-inside records room = record {
   form = λ place level depth t s u c h rs g e. told C u c ((inside records room).form place level depth t s) ((inside-keeps records room (earlier records room rs)).form place level depth t s h g) e;
   procedure = λ place level depth t ids forms s u c h rs k g e.
-      told CaseAt u c ((inside records room).procedure place level depth t ids forms s) ((inside-keeps records room (earlier records room rs)).procedure place level depth t ids forms s h k g) e;
-  item = λ at depth d d' t s u h rs k g e. told TakenAt u d' ((inside records room).item at depth d t s) ((inside-keeps records room (earlier records room rs)).item at depth d t s h k g) e;
+      told (core_forms.CaseAt readable readable-kept) u c ((inside records room).procedure place level depth t ids forms s) ((inside-keeps records room (earlier records room rs)).procedure place level depth t ids forms s h k g) e;
+  item = λ at depth d d' t s u h rs k g e. told (items.TakenAt readable readable-kept) u d' ((inside records room).item at depth d t s) ((inside-keeps records room (earlier records room rs)).item at depth d t s h k g) e;
 }
 
 pub stay-in : ReadablesStayIn

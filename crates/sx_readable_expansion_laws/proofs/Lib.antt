@@ -1,13 +1,8 @@
+pub mod Built
 pub mod Shapes
-pub mod Templates
 pub mod Records
-pub mod Quasi
-pub mod QuasiSyntax
+pub mod Kept
 pub mod Standing
-pub mod Plans
-pub mod Items
-pub mod Forms
-pub mod Inserts
 pub mod Settled
-pub mod Around
 pub mod Recorded
+pub mod Around

@@ -8,13 +8,12 @@ use Rattle.sx_core.specs.declared.record.LibRecord.{LibRecord}
 use Rattle.sx_eval.specs.Codes.{Codes}
 use Rattle.sx_value.specs.Cells.{Each}
 use Rattle.sx_expand.specs.Expanding.{ready, library_record}
-use Rattle.sx_readable_laws.specs.Readable.{ReadableTree, ReadableCodes, ReadableLines}
-use Rattle.sx_readable_expansion_laws.specs.States.{ReadableBindings}
+use Rattle.sx_readable_laws.specs.Readable.{ReadableTree, ReadableCodes, readable}
+use Rattle.sx_invariant_expansion_laws.specs.Records.{RecordHolds}
 
 -- the constants of its lines and of its keywords' expressions, and the symbols of its variables
-pub record ReadableRecord (r : LibRecord) : Type 0 where
-  pub run : ReadableLines r.run
-  pub bindings : ReadableBindings r.bindings
+abbrev pub ReadableRecord : LibRecord → Type 0
+ReadableRecord = RecordHolds readable
 
 -- Where the forms of a library can be read, and so can all in the records before and in the codes of texts, so can all in its record.
 abbrev pub RecordsStayReadable : Type 0

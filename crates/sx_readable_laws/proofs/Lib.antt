@@ -1,13 +1,8 @@
 pub mod Texts
 pub mod Trees
-pub mod Reading
-pub mod Read
-pub mod Calls
-pub mod Storing
+pub mod Steady
 pub mod Matches
 pub mod Variables
-pub mod Instances
-pub mod Meaning
 pub mod Data
 pub mod Families
 pub mod Codes

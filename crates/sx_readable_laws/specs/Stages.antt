@@ -1,37 +1,33 @@
 -- Stages on which all can be written and read back, and uses of keywords there.
-use Rattle.std.specs.Prelude.{◌≡◌, List, Option, None, Some, Ok}
+use Rattle.std.specs.Prelude.{◌≡◌, List, Option, Ok}
 use Rattle.sx_base.specs.declared.name.FrameNo.{FrameNo}
 use Rattle.sx_base.specs.declared.name.Label.{Label}
 use Rattle.sx_base.specs.declared.span.Span.{Span}
 use Rattle.sx_tree.specs.Tree.{Tree}
 use Rattle.sx_core.specs.Core.{PlainCore}
 use Rattle.sx_core.specs.declared.record.LibRecord.{LibRecord}
-use Rattle.sx_value.specs.Cells.{Each}
 use Rattle.sx_stage.specs.Stage.{PlainStage}
 use Rattle.sx_stage.specs.Transformers.{finish_keyword}
 use Rattle.sx_stage.specs.Uses.{used}
 use Rattle.sx_stage.specs.declared.keyword.Keyword.{Keyword}
-use Rattle.sx_stage.specs.declared.keyword.Keyword.TheVariants as keyword
-use Rattle.sx_readable_laws.specs.Readable.{ReadableTree, ReadableValue, ReadableCells, ReadableCore, ReadableCodes, ReadableGlobals, ReadableLines}
+use Rattle.sx_invariant_laws.specs.Stages as stages
+use Rattle.sx_invariant_laws.specs.Steady.{SteadyStage}
+use Rattle.sx_readable_laws.specs.Readable.{ReadableTree, ReadableCore, readable}
 
 -- the expression of a keyword, where it is there
 abbrev pub ReadableExpression : Option PlainCore → Type 0
-ReadableExpression None = Unit {0}
-ReadableExpression (Some c) = ReadableCore c
+ReadableExpression = stages.ExpressionHolds readable
 
 abbrev pub ReadableKeyword : Keyword → Type 0
-ReadableKeyword (keyword.Waiting place) = Unit {0}
-ReadableKeyword (keyword.Kept e v) = ReadableExpression e × ReadableValue v
+ReadableKeyword = stages.KeywordHolds readable
 
 -- the lines of libraries, which are evaluated on demand
 abbrev pub ReadableRecords : List LibRecord → Type 0
-ReadableRecords rs = Each (λ (r : LibRecord). ReadableLines r.run) rs
+ReadableRecords = stages.RecordsHold readable
 
-pub record ReadableStage (g : PlainStage) : Type 0 where
-  pub cells : ReadableCells g.cells
-  pub codes : ReadableCodes g.codes
-  pub globals : ReadableGlobals g.globals
-  pub keywords : Each (λ (k : Label × Keyword). ReadableKeyword k.1) g.keywords
+-- all cells, codes, variables and keywords of a stage
+abbrev pub ReadableStage : PlainStage → Type 0
+ReadableStage = SteadyStage readable
 
 -- So it is when a keyword was used, and the form that its transformer gives can be read; and so it is when a keyword's expression was
 -- evaluated.

@@ -1,0 +1,15 @@
+pub mod Eachs
+pub mod Trees
+pub mod Wider
+pub mod Reading
+pub mod Read
+pub mod Variables
+pub mod Calls
+pub mod Storing
+pub mod Matches
+pub mod Instances
+pub mod Meaning
+pub mod Codes
+pub mod Stages
+pub mod Steady
+pub mod Families

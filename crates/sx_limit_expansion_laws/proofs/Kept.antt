@@ -1,0 +1,30 @@
+-- Expansion keeps such a law of trees.
+use Rattle.std.proofs.Common.{None}
+use Rattle.sx_tree.specs.Tree.{Tree}
+use Rattle.sx_records.specs.Names.{record_uid}
+use Rattle.sx_invariant_expansion_laws.specs.Kept.{IsBuilt, IsKept}
+use Rattle.sx_limit_laws.specs.Holds.{trees}
+use Rattle.sx_limit_laws.specs.Lawful.{IsLawful}
+use Rattle.sx_limit_laws.proofs.Steady.{trees-closed, trees-steady}
+use Rattle.sx_limit_laws.proofs.Trees.{strip_holds}
+use Rattle.sx_limit_expansion_laws.proofs.Records.{record-holds}
+
+module _ (T : Tree → Type 0) (lawful : IsLawful T) where
+  trees-built : IsBuilt (trees T)
+  trees-built = record {
+    closed = trees-closed T lawful;
+    spanned = lawful.spanned;
+    unspanned = lawful.unspanned;
+    insert = λ k. lawful.leaves None _ _;
+    ellipsis = lawful.leaves None _ _;
+    constants = strip_holds T lawful;
+    symbols = λ s x c h. tt;
+  }
+
+  pub trees-kept : IsKept (trees T)
+  trees-kept = record {
+    built = trees-built;
+    steady = trees-steady T lawful;
+    records = λ fs t f place own count h. record-holds T lawful fs t f place (record_uid own t count);
+    clauses = λ p A h. h;
+  }
