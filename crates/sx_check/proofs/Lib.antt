@@ -1,11 +1,11 @@
-pub mod Effects
+mod Effects
 mod Same
-pub mod WalkLaw
+mod WalkLaw
 mod ReadLaw
-pub mod NamesLaw
+mod NamesLaw
 mod LineEnds
-pub mod LinesLaw
-pub mod VerdictLaw
+mod LinesLaw
+mod VerdictLaw
 mod RunLaw
 mod Steps
 mod PrimitiveNames

@@ -1,7 +1,6 @@
 //! Lines of a text are read quickly, one after another.
 //!
-//! `sx_reader` reads any source; this crate gives the same data for lines as core text has them, and takes a third of the
-//! time. Of the line
+//! `sx_reader` reads any source. This crate gives the same data, in less time for lines such as core text has. Of the line
 //!
 //! ```text
 //! (define %m/walk/0 (lambda (%m/tree/1) (if (null? %m/tree/1) 10 (car %m/tree/1))))
