@@ -1,6 +1,8 @@
 -- What patterns and templates in memory are, as their codecs take them.
 use Rattle.std.specs.Prelude.{ℕ, zero, suc, ◌-◌, ◌<◌, Bool, true, List, [], ◌∷◌, map, Option, Some, None}
 use Rattle.std.proofs.Common.{◌≡◌, refl, sym, ap, ◌∙◌, arith, inl, inr}
+use Rattle.sx_base.specs.declared.atom.Atom.{Atom}
+use Rattle.sx_base.specs.declared.name.Label.{Label}
 use Rattle.sx_bytes.specs.Codec.{Codec, listed, never, ◌then◌, u32}
 use Rattle.sx_codec.specs.Code.{Split, split, joined, has_one_dots, has_no_dots, plain_patterns, pattern, pattern_level, template, template_level, items, item_list, items_of}
 use Rattle.sx_core.specs.Pattern as p
@@ -11,11 +13,28 @@ use Rattle.sx_core.specs.TemplateView as view
 use Rattle.sx_core.specs.declared.pattern.Elements.{Elements}
 use Rattle.sx_core.specs.declared.pattern.Repeated.{Repeated}
 use Rattle.sx_core.specs.declared.template.Item.{Item}
+use Rattle.sx_tree.specs.Tree.{Tree}
 
 -- the repeated pattern, and those after it
 abbrev pub repeated_parts : Option Repeated → Option PlainPattern × List PlainPattern
 repeated_parts None = (None, [])
 repeated_parts (Some r) = (Some r.pattern.value, r.after.items)
+
+-- a pattern of one kind, of what is read of it
+abbrev pub variable_case : Label × List ℕ → PlainPattern × List ℕ
+variable_case x = (p.variable x.0, x.1)
+
+abbrev pub literal_case : Tree × List ℕ → PlainPattern × List ℕ
+literal_case x = (p.literal x.0, x.1)
+
+abbrev pub atom_case : Atom × List ℕ → PlainPattern × List ℕ
+atom_case x = (p.atom x.0, x.1)
+
+abbrev pub list_case : (PlainPatterns × PlainPattern) × List ℕ → PlainPattern × List ℕ
+list_case x = (p.list x.0.0 x.0.1, x.1)
+
+abbrev pub vector_case : PlainPatterns × List ℕ → PlainPattern × List ℕ
+vector_case x = (p.vector x.0, x.1)
 
 plain_there : (xs : List PlainPattern) → (plain_patterns (patterns xs) ≡ xs) × (has_no_dots (patterns xs) ≡ true)
 plain_there [] = (refl, refl)

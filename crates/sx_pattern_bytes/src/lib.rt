@@ -12,5 +12,6 @@
 //! has none; what is read is the value that the bytes begin with, or nothing where they begin with no spelling.
 #![tactic(auto)]
 
+pub mod held;
 pub mod patterns;
 pub mod templates;
