@@ -1,28 +1,43 @@
 -- What a core expression in memory is, as the cases of its codec.
-use Rattle.std.specs.Prelude.{ℕ, zero, suc, ◌-◌, ◌<◌, List, [], ◌∷◌, length, map, Option, Some, None}
+use Rattle.std.specs.Prelude.{ℕ, Bool, true, false, zero, suc, ◌-◌, ◌<◌, List, [], ◌∷◌, length, map, Option, Some, None}
 use Rattle.std.proofs.Common.{◌≡◌, refl, ap, ◌∙◌, arith, inl, inr}
 use Rattle.std.specs.declared.alloc.Global.{Global}
 use Rattle.std.specs.declared.boxed.Box.{Box}
+use Rattle.sx_base.specs.Datum.{PlainDatum}
+use Rattle.sx_base.specs.declared.name.CodeNo.{CodeNo}
 use Rattle.sx_base.specs.declared.name.Label.{Label}
+use Rattle.sx_base.specs.declared.op.Op.{Op}
+use Rattle.sx_base.specs.declared.span.Span.{Span}
 use Rattle.sx_bytes.specs.Codec.{Codec, bool, checked, last, never, optional, tagged, ◌>>=◌, ◌or◌, ◌then◌}
 use Rattle.sx_codec.specs.Code.{CoreCases, core_to, core_list, init_list, inits_of, case_list}
 use Rattle.sx_codec.specs.Code.{cases_of, clause_list, clauses_of, core, core_level, ClauseParts, clause_on, core_from, core_parts, inits, cases, clauses, are_two, is_procedure, template}
 use Rattle.sx_codec.specs.Trees.{datum}
 use Rattle.sx_bytes.specs.Names.{code_number, label, op, span}
 use Rattle.sx_core.specs.Core as c
-use Rattle.sx_core.specs.Core.{PlainCore, PlainInits, PlainCases, PlainClauses, cores}
+use Rattle.sx_core.specs.Core.{PlainCore, PlainCores, PlainInits, PlainCases, PlainClauses, cores}
 use Rattle.sx_core.specs.CoreView as view
 use Rattle.sx_core.specs.Pattern.{PlainPattern}
+use Rattle.sx_core.specs.Template.{PlainTemplate}
 use Rattle.sx_core.specs.declared.code.Clause.{Clause}
 use Rattle.sx_core.specs.declared.code.CoreNode.{CoreNode}
 use Rattle.sx_core.specs.declared.code.CoreNode.TheVariants as n
 use Rattle.sx_core.specs.declared.code.Init.{Init}
 use Rattle.sx_core.specs.declared.code.Lambda.{Lambda}
 use Rattle.sx_core.specs.declared.formals.Formals.{Formals}
+use Rattle.sx_pattern_bytes.specs.declared.held.Held.{Held}
 
 abbrev pub unboxed : Option (Box PlainCore Global) → Option PlainCore
 unboxed None = None
 unboxed (Some b) = Some b.value
+
+abbrev pub held_there : Option (Held (Box PlainCore Global)) → Option PlainCore
+held_there None = None
+held_there (Some h) = Some h.value.value
+
+-- what was read, with the bytes that are left, where it could be read
+abbrev pub if_read : {A : Type 0} → Bool → A → List ℕ → Option (A × List ℕ)
+if_read true x left = Some (x, left)
+if_read false x left = None
 
 abbrev pub node_cases : CoreNode → CoreCases
 node_cases (n.Quote d) = inl d
@@ -70,6 +85,41 @@ abbrev pub choice : Codec PlainCore → Codec CoreCases
 choice part = tagged (datum 1000 or label or op or (part then part then optional part) or (label then part) or checked are_two (core_parts part)
     or checked is_procedure (code_number then cases part then bool) or (bool then inits part then part) or (part then core_parts part) or (template 2000 then span) or last (part then clauses part then span))
 
+-- the case of each kind: what has no parts of its own, with the bytes behind it
+abbrev pub quote_case : PlainDatum × List ℕ → CoreCases × List ℕ
+quote_case x = (inl x.0, x.1)
+
+abbrev pub reference_case : Label × List ℕ → CoreCases × List ℕ
+reference_case x = (inr (inl x.0), x.1)
+
+abbrev pub primitive_case : Op × List ℕ → CoreCases × List ℕ
+primitive_case x = (inr (inr (inl x.0)), x.1)
+
+abbrev pub instance_case : (PlainTemplate × Span) × List ℕ → CoreCases × List ℕ
+instance_case x = (inr (inr (inr (inr (inr (inr (inr (inr (inr (inl x.0))))))))), x.1)
+
+-- and what has parts
+abbrev pub if_case : PlainCore → PlainCore → Option PlainCore → CoreCases
+if_case x y z = inr (inr (inr (inl (x, (y, z)))))
+
+abbrev pub assignment_case : Label → PlainCore → CoreCases
+assignment_case l x = inr (inr (inr (inr (inl (l, x)))))
+
+abbrev pub sequence_case : PlainCores → CoreCases
+sequence_case xs = inr (inr (inr (inr (inr (inl xs)))))
+
+abbrev pub lambda_case : CodeNo → PlainCases → Bool → CoreCases
+lambda_case n xs plain = inr (inr (inr (inr (inr (inr (inl (n, (xs, plain))))))))
+
+abbrev pub letrec_case : Bool → PlainInits → PlainCore → CoreCases
+letrec_case star is x = inr (inr (inr (inr (inr (inr (inr (inl (star, (is, x)))))))))
+
+abbrev pub call_case : PlainCore → PlainCores → CoreCases
+call_case x xs = inr (inr (inr (inr (inr (inr (inr (inr (inl (x, xs)))))))))
+
+abbrev pub matching_case : PlainCore → PlainClauses → Span → CoreCases
+matching_case x xs s = inr (inr (inr (inr (inr (inr (inr (inr (inr (inr (x, (xs, s)))))))))))
+
 pub cores_there : (xs : List PlainCore) → core_list (cores xs) ≡ xs
 cores_there [] = refl
 cores_there (x ∷ xs) = ap (λ (ys : List PlainCore). x ∷ ys) (cores_there xs)
@@ -83,9 +133,6 @@ case_part c = (c.formals, c.body)
 
 abbrev pub clause_part : Clause → ClauseParts
 clause_part c = (c.pattern, (c.fender, c.output))
-
-abbrev pub with_pattern : PlainPattern → Option ((Option PlainCore × PlainCore) × List ℕ) → Option (ClauseParts × List ℕ)
-with_pattern q r = r >>= λ x. Some ((q, x.0), x.1)
 
 pub inits_are : (is : List Init) → init_list (view.inits is) ≡ map init_part is
 inits_are [] = refl

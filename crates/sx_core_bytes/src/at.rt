@@ -1,40 +1,42 @@
 //! Reads core code.
+//!
+//! A forged entry can nest core code 8,192 levels deep, and each level takes the frames of the calls that read it. So an
+//! expression is read into the box that is to own it, the bytes that are left are lent, and the calls that read parts answer
+//! with little more than whether they could. Larger values are made, and put into their places, by calls that are never
+//! inlined. What is held of an expression is given up where the bytes turn out to be no spelling, since a drop walks it by
+//! recursion.
 
-ghost use Rattle.std.specs.Prelude.{◌≡◌, ◌∷◌, IfOk, map, option_map};
+ghost use Rattle.std.specs.Prelude.{◌≡◌, ◌∷◌, ◌++◌, [], IfOk, OnOk, map, option_map};
 ghost use Rattle.sx_bytes.specs.Codec as spec;
 ghost use Rattle.sx_bytes.specs.Codec.{checked, listed, optional, some_get, ◌then◌};
-ghost use Rattle.sx_bytes.specs.Names.{code_number, label, span};
+ghost use Rattle.sx_bytes.specs.Names.{code_number, label};
 ghost use Rattle.sx_codec.specs.Code as code;
 ghost use Rattle.sx_core.specs.Core.{cores};
 ghost use Rattle.sx_core.specs.CoreView as view;
-ghost use Rattle.sx_core_bytes.specs.Seen.{choice, node_cases, unboxed, init_part, case_part, clause_part, with_pattern};
+ghost use Rattle.sx_core_bytes.specs.Seen.{choice, node_cases, held_there, if_read, init_part, case_part, clause_part};
 
-use crate::formals::formals_at;
+use crate::leaves::{
+    bool_in, count_in, formals_in, label_in, number_in, pattern_in, read_instance, read_primitive,
+    read_quote, read_reference, span_in,
+};
+use crate::lists::{
+    CaseParts, ClauseParts, InitParts, Outcome, add_case, add_clause, add_init, add_part,
+};
+use crate::nodes::{
+    Boxed, put_assignment, put_call, put_if, put_lambda, put_letrec, put_matching, put_sequence,
+};
+use std::alloc::Global;
 use std::boxed::Box;
 use std::rc::Rc;
 use sx_base::memory::Memory;
-use sx_base::name::{CodeNo, Label};
-use sx_base::span::Span;
+use sx_base::name::CodeNo;
+use sx_base::op::Op;
 use sx_bytes::libraries::Libraries;
-use sx_bytes::names::op_at;
-use sx_bytes::numbers::{bool_at, u64_at};
-use sx_bytes::spelled::Spelled;
 use sx_core::code::{Clause, Code, Core, CoreNode, Init, Lambda};
-use sx_core::pattern::Pattern;
-use sx_core::template::Template;
-use sx_pattern_bytes::patterns::pattern_at;
-use sx_pattern_bytes::templates::template_at;
-use sx_tree_bytes::data::datum_at;
-
-/// How high data may be, and patterns and templates.
-const MAX_DATUM: u32 = 1000;
-
-const MAX_PATTERN: u32 = 2000;
+use sx_pattern_bytes::held::Held;
 
 /// The core code that the bytes begin with, where it has fewer core expressions round one than the
 /// room, and the bytes behind it.
-#[cycle(core_read)]
-#[tactic(auto, using(crate::specs::Seen::core_none, crate::specs::Seen::core_more))]
 pub fn core_at<'a>(
     libraries: &mut Libraries,
     room: u32,
@@ -42,317 +44,359 @@ pub fn core_at<'a>(
 ) -> Result<Option<(Core, &'a [u8])>, Memory>
     ensures { IfOk result (λ o. option_map (λ x. (x.0, x.1.now)) o ≡ (code.core room).get bytes.now) }
 {
-    if room == 0 {
-        return Ok(None);
-    }
-    match node_at(libraries, room - 1, bytes)? {
-        Some((node, rest)) => Ok(Some((Core { node }, rest))),
+    let mut left = bytes;
+    match boxed_in(libraries, room, &mut left)? {
+        Some(core) => Ok(Some((Box::into_inner(core.take()), left))),
         None => Ok(None),
     }
 }
 
-#[cycle(core_read)]
-#[tactic(auto, unfolding(sx_codec::specs::Code::core_level), using(crate::specs::Seen::seen_from))]
-fn node_at<'a>(
-    libraries: &mut Libraries,
-    room: u32,
-    bytes: &'a [u8],
-) -> Result<Option<(CoreNode, &'a [u8])>, Memory>
-    ensures { IfOk result (λ o. option_map (λ x. (view.seen x.0, x.1.now)) o ≡ (code.core_level (code.core room)).get bytes.now) }
-{
-    match choice_at(libraries, room, bytes)? {
-        Some((node, rest)) => Ok(Some((node, rest))),
-        None => Ok(None),
-    }
-}
-
-/// The core expression that a tag and the parts behind it spell.
-#[cycle(core_read)]
-fn choice_at<'a>(
-    libraries: &mut Libraries,
-    room: u32,
-    bytes: &'a [u8],
-) -> Result<Option<(CoreNode, &'a [u8])>, Memory>
-    ensures { IfOk result (λ o. option_map (λ x. (node_cases x.0, x.1.now)) o ≡ (choice (code.core room)).get bytes.now) }
-{
-    match bytes {
-        [0, rest @ ..] => match datum_at(libraries, MAX_DATUM, rest)? {
-            Some((datum, rest)) => Ok(Some((CoreNode::Quote(datum), rest))),
-            None => Ok(None),
-        },
-        [1, rest @ ..] => match Label::at(libraries, rest)? {
-            Some((label, rest)) => Ok(Some((CoreNode::Ref(label), rest))),
-            None => Ok(None),
-        },
-        [2, rest @ ..] => match op_at(rest) {
-            Some((op, rest)) => Ok(Some((CoreNode::Prim(op), rest))),
-            None => Ok(None),
-        },
-        [3, rest @ ..] => if_at(libraries, room, rest),
-        [4, rest @ ..] => assignment_at(libraries, room, rest),
-        [5, rest @ ..] => sequence_at(libraries, room, rest),
-        [6, rest @ ..] => lambda_at(libraries, room, rest),
-        [7, rest @ ..] => letrec_at(libraries, room, rest),
-        [8, rest @ ..] => call_at(libraries, room, rest),
-        [9, rest @ ..] => match instance_at(libraries, rest)? {
-            Some((parts, rest)) => Ok(Some((CoreNode::Syntax(parts.template, parts.span), rest))),
-            None => Ok(None),
-        },
-        [10, rest @ ..] => matching_at(libraries, room, rest),
-        _ => Ok(None),
-    }
+/// A box for an expression that is still to be read.
+#[inline(never)]
+fn unread(alloc: Global) -> Result<Boxed, Memory> {
+    let node = CoreNode::Prim(Op(0));
+    Ok(Held::new(Box::new(alloc, Core { node })?))
 }
 
 /// A core expression in a box of its own.
 #[cycle(core_read)]
-fn boxed_at<'a>(
+fn boxed_in<'a>(
     libraries: &mut Libraries,
     room: u32,
-    bytes: &'a [u8],
-) -> Result<Option<(Box<Core>, &'a [u8])>, Memory>
-    ensures { IfOk result (λ o. option_map (λ x. (x.0.value, x.1.now)) o ≡ (code.core room).get bytes.now) }
+    left: &mut &'a [u8],
+) -> Result<Option<Boxed>, Memory>
+    ensures { IfOk result (λ o. option_map (λ x. (x.value.value, left.new.now)) o ≡ (code.core room).get left.old.now) }
 {
-    match core_at(libraries, room, bytes)? {
-        Some((core, rest)) => {
-            let boxed = Box::new(libraries.alloc(), core)?;
-            Ok(Some((boxed, rest)))
+    let mut core = unread(libraries.alloc())?;
+    if read(libraries, room, left, &mut core.value)? {
+        Ok(Some(core))
+    } else {
+        Ok(None)
+    }
+}
+
+/// Reads core code that has fewer core expressions round one than the room.
+#[cycle(core_read)]
+#[tactic(auto, using(crate::specs::Seen::core_none, crate::specs::Seen::core_more))]
+fn read<'a>(
+    libraries: &mut Libraries,
+    room: u32,
+    left: &mut &'a [u8],
+    core: &mut Core,
+) -> Result<bool, Memory>
+    ensures { IfOk result (λ b. if_read b core.new left.new.now ≡ (code.core room).get left.old.now) }
+{
+    if room == 0 {
+        return Ok(false);
+    }
+    read_node(libraries, room - 1, left, &mut core.node)
+}
+
+#[cycle(core_read)]
+#[tactic(auto, unfolding(sx_codec::specs::Code::core_level), using(crate::specs::Seen::seen_from))]
+fn read_node<'a>(
+    libraries: &mut Libraries,
+    room: u32,
+    left: &mut &'a [u8],
+    node: &mut CoreNode,
+) -> Result<bool, Memory>
+    ensures { IfOk result (λ b. if_read b (view.seen node.new) left.new.now ≡ (code.core_level (code.core room)).get left.old.now) }
+{
+    if read_choice(libraries, room, left, node)? {
+        Ok(true)
+    } else {
+        Ok(false)
+    }
+}
+
+/// Reads the core expression that a tag and the parts behind it spell.
+#[cycle(core_read)]
+fn read_choice<'a>(
+    libraries: &mut Libraries,
+    room: u32,
+    left: &mut &'a [u8],
+    node: &mut CoreNode,
+) -> Result<bool, Memory>
+    ensures { IfOk result (λ b. if_read b (node_cases node.new) left.new.now ≡ (choice (code.core room)).get left.old.now) }
+{
+    let [tag, rest @ ..] = *left else {
+        return Ok(false);
+    };
+    *left = rest;
+    match *tag {
+        0 => read_quote(libraries, left, node),
+        1 => read_reference(libraries, left, node),
+        2 => Ok(read_primitive(left, node)),
+        3 => read_if(libraries, room, left, node),
+        4 => read_assignment(libraries, room, left, node),
+        5 => read_sequence(libraries, room, left, node),
+        6 => read_lambda(libraries, room, left, node),
+        7 => read_letrec(libraries, room, left, node),
+        8 => read_call(libraries, room, left, node),
+        9 => read_instance(libraries, left, node),
+        10 => read_matching(libraries, room, left, node),
+        _ => Ok(false),
+    }
+}
+
+/// Reads the test of an `if`, and what is evaluated where it is true, and where it is false.
+#[cycle(core_read)]
+#[inline(never)]
+fn read_if<'a>(
+    libraries: &mut Libraries,
+    room: u32,
+    left: &mut &'a [u8],
+    node: &mut CoreNode,
+) -> Result<bool, Memory>
+    ensures { IfOk result (λ b. if_read b (node_cases node.new) left.new.now ≡ (choice (code.core room)).get (3 ∷ left.old.now)) }
+{
+    let Some(test) = boxed_in(libraries, room, left)? else {
+        return Ok(false);
+    };
+    let Some(consequent) = boxed_in(libraries, room, left)? else {
+        return Ok(false);
+    };
+    match other_in(libraries, room, left)? {
+        Some(other) => {
+            put_if(node, test, consequent, other);
+            Ok(true)
         }
-        None => Ok(None),
-    }
-}
-
-/// The test of an `if`, and what is evaluated where it is true, and where it is false.
-#[cycle(core_read)]
-fn if_at<'a>(
-    libraries: &mut Libraries,
-    room: u32,
-    bytes: &'a [u8],
-) -> Result<Option<(CoreNode, &'a [u8])>, Memory>
-    ensures { IfOk result (λ o. option_map (λ x. (node_cases x.0, x.1.now)) o ≡ (choice (code.core room)).get (3 ∷ bytes.now)) }
-{
-    let Some((test, rest)) = boxed_at(libraries, room, bytes)? else {
-        return Ok(None);
-    };
-    let Some((consequent, rest)) = boxed_at(libraries, room, rest)? else {
-        return Ok(None);
-    };
-    match other_at(libraries, room, rest)? {
-        Some((other, rest)) => Ok(Some((CoreNode::If(test, consequent, other), rest))),
-        None => Ok(None),
+        None => Ok(false),
     }
 }
 
 #[cycle(core_read)]
-fn other_at<'a>(
+fn other_in<'a>(
     libraries: &mut Libraries,
     room: u32,
-    bytes: &'a [u8],
-) -> Result<Option<(Option<Box<Core>>, &'a [u8])>, Memory>
-    ensures { IfOk result (λ o. option_map (λ x. (unboxed x.0, x.1.now)) o ≡ (optional (code.core room)).get bytes.now) }
+    left: &mut &'a [u8],
+) -> Result<Option<Option<Boxed>>, Memory>
+    ensures { IfOk result (λ o. option_map (λ x. (held_there x, left.new.now)) o ≡ (optional (code.core room)).get left.old.now) }
 {
-    match bytes {
-        [] => Ok(None),
-        [0, rest @ ..] => Ok(Some((None, rest))),
-        [1, rest @ ..] => match boxed_at(libraries, room, rest)? {
-            Some((core, rest)) => Ok(Some((Some(core), rest))),
+    let [tag, rest @ ..] = *left else {
+        return Ok(None);
+    };
+    *left = rest;
+    match *tag {
+        0 => Ok(Some(None)),
+        1 => match boxed_in(libraries, room, left)? {
+            Some(core) => Ok(Some(Some(core))),
             None => Ok(None),
         },
-        [_, ..] => Ok(None),
+        _ => Ok(None),
     }
 }
 
-/// The variable of a `set!`, and the expression of its value.
+/// Reads the variable of a `set!`, and the expression of its value.
 #[cycle(core_read)]
-fn assignment_at<'a>(
+#[inline(never)]
+fn read_assignment<'a>(
     libraries: &mut Libraries,
     room: u32,
-    bytes: &'a [u8],
-) -> Result<Option<(CoreNode, &'a [u8])>, Memory>
-    ensures { IfOk result (λ o. option_map (λ x. (node_cases x.0, x.1.now)) o ≡ (choice (code.core room)).get (4 ∷ bytes.now)) }
+    left: &mut &'a [u8],
+    node: &mut CoreNode,
+) -> Result<bool, Memory>
+    ensures { IfOk result (λ b. if_read b (node_cases node.new) left.new.now ≡ (choice (code.core room)).get (4 ∷ left.old.now)) }
 {
-    let Some((label, rest)) = Label::at(libraries, bytes)? else {
-        return Ok(None);
+    let Some(label) = label_in(libraries, left)? else {
+        return Ok(false);
     };
-    match boxed_at(libraries, room, rest)? {
-        Some((value, rest)) => Ok(Some((CoreNode::Set(label, value), rest))),
-        None => Ok(None),
+    match boxed_in(libraries, room, left)? {
+        Some(value) => {
+            put_assignment(node, label, value);
+            Ok(true)
+        }
+        None => Ok(false),
     }
 }
 
-/// The parts of a `begin`, of which there are two or more.
+/// Reads the parts of a `begin`, of which there are two or more.
 #[cycle(core_read)]
+#[inline(never)]
 #[tactic(auto, using(crate::specs::Seen::cores_there))]
-fn sequence_at<'a>(
+fn read_sequence<'a>(
     libraries: &mut Libraries,
     room: u32,
-    bytes: &'a [u8],
-) -> Result<Option<(CoreNode, &'a [u8])>, Memory>
-    ensures { IfOk result (λ o. option_map (λ x. (node_cases x.0, x.1.now)) o ≡ (choice (code.core room)).get (5 ∷ bytes.now)) }
+    left: &mut &'a [u8],
+    node: &mut CoreNode,
+) -> Result<bool, Memory>
+    ensures { IfOk result (λ b. if_read b (node_cases node.new) left.new.now ≡ (choice (code.core room)).get (5 ∷ left.old.now)) }
 {
-    let Some((parts, rest)) = parts_at(libraries, room, bytes)? else {
-        return Ok(None);
+    let Some(parts) = parts_in(libraries, room, left)? else {
+        return Ok(false);
     };
-    if parts.len() < 2 {
-        return Ok(None);
+    if parts.value.len() < 2 {
+        return Ok(false);
     }
-    Ok(Some((CoreNode::Seq(parts), rest)))
+    put_sequence(node, parts);
+    Ok(true)
 }
 
-/// A `lambda` or a `case-lambda`.
+/// Reads a `lambda` or a `case-lambda`.
 #[cycle(core_read)]
-fn lambda_at<'a>(
+#[inline(never)]
+fn read_lambda<'a>(
     libraries: &mut Libraries,
     room: u32,
-    bytes: &'a [u8],
-) -> Result<Option<(CoreNode, &'a [u8])>, Memory>
-    ensures { IfOk result (λ o. option_map (λ x. (node_cases x.0, x.1.now)) o ≡ (choice (code.core room)).get (6 ∷ bytes.now)) }
+    left: &mut &'a [u8],
+    node: &mut CoreNode,
+) -> Result<bool, Memory>
+    ensures { IfOk result (λ b. if_read b (node_cases node.new) left.new.now ≡ (choice (code.core room)).get (6 ∷ left.old.now)) }
 {
-    match procedure_at(libraries, room, bytes)? {
-        Some((procedure, rest)) => Ok(Some((CoreNode::Lambda(procedure), rest))),
-        None => Ok(None),
+    match procedure_in(libraries, room, left)? {
+        Some(procedure) => {
+            put_lambda(node, procedure);
+            Ok(true)
+        }
+        None => Ok(false),
     }
 }
 
 /// The number, the cases and the kind of a procedure. A `lambda` has one case.
 #[cycle(core_read)]
 #[tactic(auto, using(crate::specs::Seen::count_of_cases))]
-fn procedure_at<'a>(
+fn procedure_in<'a>(
     libraries: &mut Libraries,
     room: u32,
-    bytes: &'a [u8],
-) -> Result<Option<(Rc<Code>, &'a [u8])>, Memory>
-    ensures { IfOk result (λ o. option_map (λ x. ((x.0.value.number, (x.0.value.cases, x.0.value.plain)), x.1.now)) o
-        ≡ (checked code.is_procedure (code_number then code.cases (code.core room) then spec.bool)).get bytes.now) }
+    left: &mut &'a [u8],
+) -> Result<Option<Held<Rc<Code>>>, Memory>
+    ensures { IfOk result (λ o. option_map (λ x. ((x.value.value.number, (x.value.value.cases, x.value.value.plain)), left.new.now)) o
+        ≡ (checked code.is_procedure (code_number then code.cases (code.core room) then spec.bool)).get left.old.now) }
 {
-    let Some((number, rest)) = CodeNo::at(libraries, bytes)? else {
+    let Some(number) = number_in(libraries, left)? else {
         return Ok(None);
     };
-    let Some((cases, rest)) = cases_at(libraries, room, rest)? else {
+    let Some(cases) = cases_in(libraries, room, left)? else {
         return Ok(None);
     };
-    let Some((plain, rest)) = bool_at(rest) else {
+    let Some(plain) = bool_in(left) else {
         return Ok(None);
     };
-    if plain && cases.len() != 1 {
+    if plain && cases.value.len() != 1 {
         return Ok(None);
     }
-    let procedure = Code {
+    let procedure = shared(libraries.alloc(), number, cases, plain)?;
+    Ok(Some(procedure))
+}
+
+#[inline(never)]
+fn shared(
+    alloc: Global,
+    number: CodeNo,
+    cases: Held<Vec<Lambda>>,
+    plain: bool,
+) -> Result<Held<Rc<Code>>, Memory>
+    ensures { IfOk result (λ c. c.value.value ≡ record { number = number; cases = view.cases cases.value.items; plain = plain }) }
+{
+    let code = Code {
         number,
-        cases,
+        cases: cases.take(),
         plain,
     };
-    let procedure = Rc::new(libraries.alloc(), procedure)?;
-    Ok(Some((procedure, rest)))
+    Ok(Held::new(Rc::new(alloc, code)?))
 }
 
-/// The kind, the variables and the body of a `letrec` or a `letrec*`.
+/// Reads the kind, the variables and the body of a `letrec` or a `letrec*`.
 #[cycle(core_read)]
-fn letrec_at<'a>(
+#[inline(never)]
+fn read_letrec<'a>(
     libraries: &mut Libraries,
     room: u32,
-    bytes: &'a [u8],
-) -> Result<Option<(CoreNode, &'a [u8])>, Memory>
-    ensures { IfOk result (λ o. option_map (λ x. (node_cases x.0, x.1.now)) o ≡ (choice (code.core room)).get (7 ∷ bytes.now)) }
+    left: &mut &'a [u8],
+    node: &mut CoreNode,
+) -> Result<bool, Memory>
+    ensures { IfOk result (λ b. if_read b (node_cases node.new) left.new.now ≡ (choice (code.core room)).get (7 ∷ left.old.now)) }
 {
-    let Some((star, rest)) = bool_at(bytes) else {
-        return Ok(None);
+    let Some(star) = bool_in(left) else {
+        return Ok(false);
     };
-    let Some((inits, rest)) = inits_at(libraries, room, rest)? else {
-        return Ok(None);
+    let Some(inits) = inits_in(libraries, room, left)? else {
+        return Ok(false);
     };
-    match boxed_at(libraries, room, rest)? {
-        Some((body, rest)) => Ok(Some((CoreNode::Letrec(star, inits, body), rest))),
-        None => Ok(None),
+    match boxed_in(libraries, room, left)? {
+        Some(body) => {
+            put_letrec(node, star, inits, body);
+            Ok(true)
+        }
+        None => Ok(false),
     }
 }
 
-/// The operator and the operands of a call.
+/// Reads the operator and the operands of a call.
 #[cycle(core_read)]
-fn call_at<'a>(
+#[inline(never)]
+fn read_call<'a>(
     libraries: &mut Libraries,
     room: u32,
-    bytes: &'a [u8],
-) -> Result<Option<(CoreNode, &'a [u8])>, Memory>
-    ensures { IfOk result (λ o. option_map (λ x. (node_cases x.0, x.1.now)) o ≡ (choice (code.core room)).get (8 ∷ bytes.now)) }
+    left: &mut &'a [u8],
+    node: &mut CoreNode,
+) -> Result<bool, Memory>
+    ensures { IfOk result (λ b. if_read b (node_cases node.new) left.new.now ≡ (choice (code.core room)).get (8 ∷ left.old.now)) }
 {
-    let Some((operator, rest)) = boxed_at(libraries, room, bytes)? else {
-        return Ok(None);
+    let Some(operator) = boxed_in(libraries, room, left)? else {
+        return Ok(false);
     };
-    match parts_at(libraries, room, rest)? {
-        Some((operands, rest)) => Ok(Some((CoreNode::App(operator, operands), rest))),
-        None => Ok(None),
+    match parts_in(libraries, room, left)? {
+        Some(operands) => {
+            put_call(node, operator, operands);
+            Ok(true)
+        }
+        None => Ok(false),
     }
 }
 
-/// The template of a `syntax`, and the span of its form.
-#[derive(Drop)]
-struct InstanceParts {
-    template: Template,
-    span: Span,
-}
-
-fn instance_at<'a>(
-    libraries: &mut Libraries,
-    bytes: &'a [u8],
-) -> Result<Option<(InstanceParts, &'a [u8])>, Memory>
-    ensures { IfOk result (λ o. option_map (λ x. ((x.0.template, x.0.span), x.1.now)) o ≡ (code.template 2000 then span).get bytes.now) }
-{
-    let Some((template, rest)) = template_at(libraries, MAX_PATTERN, bytes)? else {
-        return Ok(None);
-    };
-    match Span::at(libraries, rest)? {
-        Some((span, rest)) => Ok(Some((InstanceParts { template, span }, rest))),
-        None => Ok(None),
-    }
-}
-
-/// The subject and the clauses of a `syntax-case`, and the span of its form.
+/// Reads the subject and the clauses of a `syntax-case`, and the span of its form.
 #[cycle(core_read)]
-fn matching_at<'a>(
+#[inline(never)]
+fn read_matching<'a>(
     libraries: &mut Libraries,
     room: u32,
-    bytes: &'a [u8],
-) -> Result<Option<(CoreNode, &'a [u8])>, Memory>
-    ensures { IfOk result (λ o. option_map (λ x. (node_cases x.0, x.1.now)) o ≡ (choice (code.core room)).get (10 ∷ bytes.now)) }
+    left: &mut &'a [u8],
+    node: &mut CoreNode,
+) -> Result<bool, Memory>
+    ensures { IfOk result (λ b. if_read b (node_cases node.new) left.new.now ≡ (choice (code.core room)).get (10 ∷ left.old.now)) }
 {
-    let Some((subject, rest)) = boxed_at(libraries, room, bytes)? else {
-        return Ok(None);
+    let Some(subject) = boxed_in(libraries, room, left)? else {
+        return Ok(false);
     };
-    let Some((clauses, rest)) = clauses_at(libraries, room, rest)? else {
-        return Ok(None);
+    let Some(clauses) = clauses_in(libraries, room, left)? else {
+        return Ok(false);
     };
-    match Span::at(libraries, rest)? {
-        Some((span, rest)) => Ok(Some((CoreNode::SyntaxCase(subject, clauses, span), rest))),
-        None => Ok(None),
+    match span_in(libraries, left)? {
+        Some(span) => {
+            put_matching(node, subject, clauses, span);
+            Ok(true)
+        }
+        None => Ok(false),
     }
 }
 
 #[cycle(core_read)]
 #[tactic(auto, unfolding(sx_codec::specs::Code::core_parts))]
-fn parts_at<'a>(
+fn parts_in<'a>(
     libraries: &mut Libraries,
     room: u32,
-    bytes: &'a [u8],
-) -> Result<Option<(Vec<Core>, &'a [u8])>, Memory>
-    ensures { IfOk result (λ o. option_map (λ x. (cores x.0.items, x.1.now)) o ≡ (code.core_parts (code.core room)).get bytes.now) }
+    left: &mut &'a [u8],
+) -> Result<Option<Held<Vec<Core>>>, Memory>
+    ensures { IfOk result (λ o. option_map (λ x. (cores x.value.items, left.new.now)) o ≡ (code.core_parts (code.core room)).get left.old.now) }
 {
-    match all_parts_at(libraries, room, bytes)? {
-        Some((parts, rest)) => Ok(Some((parts, rest))),
+    match all_parts_in(libraries, room, left)? {
+        Some(parts) => Ok(Some(parts)),
         None => Ok(None),
     }
 }
 
 #[cycle(core_read)]
-fn all_parts_at<'a>(
+fn all_parts_in<'a>(
     libraries: &mut Libraries,
     room: u32,
-    bytes: &'a [u8],
-) -> Result<Option<(Vec<Core>, &'a [u8])>, Memory>
-    ensures { IfOk result (λ o. option_map (λ x. (x.0.items, x.1.now)) o
-        ≡ (listed (code.core room)).get bytes.now) }
+    left: &mut &'a [u8],
+) -> Result<Option<Held<Vec<Core>>>, Memory>
+    ensures { IfOk result (λ o. option_map (λ x. (x.value.items, left.new.now)) o
+        ≡ (listed (code.core room)).get left.old.now) }
 {
-    match u64_at(bytes) {
-        Some((count, rest)) => some_parts(libraries, room, count, rest),
+    match count_in(left) {
+        Some(count) => some_parts(libraries, room, count, left),
         None => Ok(None),
     }
 }
@@ -362,118 +406,115 @@ fn some_parts<'a>(
     libraries: &mut Libraries,
     room: u32,
     count: u64,
-    bytes: &'a [u8],
-) -> Result<Option<(Vec<Core>, &'a [u8])>, Memory>
-    ensures { IfOk result (λ o. option_map (λ x. (x.0.items, x.1.now)) o
-        ≡ some_get (code.core room).get count bytes.now) }
+    left: &mut &'a [u8],
+) -> Result<Option<Held<Vec<Core>>>, Memory>
+    ensures { IfOk result (λ o. option_map (λ x. (x.value.items, left.new.now)) o
+        ≡ some_get (code.core room).get count left.old.now) }
 {
-    let mut list = Vec::new(libraries.alloc());
-    let mut rest = bytes;
+    let mut list = Held::new(Vec::new(libraries.alloc()));
     for _ in 0..count {
-        let Some((core, after)) = core_at(libraries, room, rest)? else {
+        let Some(core) = boxed_in(libraries, room, left)? else {
             return Ok(None);
         };
-        list.push(core)?;
-        rest = after;
+        add_part(&mut list.value, core)?;
     }
-    Ok(Some((list, rest)))
+    Ok(Some(list))
 }
 
 #[cycle(core_read)]
 #[tactic(auto, unfolding(sx_codec::specs::Code::inits), using(crate::specs::Seen::inits_back))]
-fn inits_at<'a>(
+fn inits_in<'a>(
     libraries: &mut Libraries,
     room: u32,
-    bytes: &'a [u8],
-) -> Result<Option<(Vec<Init>, &'a [u8])>, Memory>
-    ensures { IfOk result (λ o. option_map (λ x. (view.inits x.0.items, x.1.now)) o ≡ (code.inits (code.core room)).get bytes.now) }
+    left: &mut &'a [u8],
+) -> Result<Option<Held<Vec<Init>>>, Memory>
+    ensures { IfOk result (λ o. option_map (λ x. (view.inits x.value.items, left.new.now)) o ≡ (code.inits (code.core room)).get left.old.now) }
 {
-    match all_inits_at(libraries, room, bytes)? {
-        Some((inits, rest)) => Ok(Some((inits, rest))),
+    match all_inits_in(libraries, room, left)? {
+        Some(inits) => Ok(Some(inits)),
         None => Ok(None),
     }
 }
 
 #[cycle(core_read)]
-fn all_inits_at<'a>(
+fn all_inits_in<'a>(
     libraries: &mut Libraries,
     room: u32,
-    bytes: &'a [u8],
-) -> Result<Option<(Vec<Init>, &'a [u8])>, Memory>
-    ensures { IfOk result (λ o. option_map (λ x. (map init_part x.0.items, x.1.now)) o
-        ≡ (listed (label then code.core room)).get bytes.now) }
+    left: &mut &'a [u8],
+) -> Result<Option<Held<Vec<Init>>>, Memory>
+    ensures { IfOk result (λ o. option_map (λ x. (map init_part x.value.items, left.new.now)) o
+        ≡ (listed (label then code.core room)).get left.old.now) }
 {
-    match u64_at(bytes) {
-        Some((count, rest)) => some_inits(libraries, room, count, rest),
+    match count_in(left) {
+        Some(count) => some_inits(libraries, room, count, left),
         None => Ok(None),
     }
 }
 
 #[cycle(core_read)]
+#[inline(never)]
 fn some_inits<'a>(
     libraries: &mut Libraries,
     room: u32,
     count: u64,
-    bytes: &'a [u8],
-) -> Result<Option<(Vec<Init>, &'a [u8])>, Memory>
-    ensures { IfOk result (λ o. option_map (λ x. (map init_part x.0.items, x.1.now)) o
-        ≡ some_get (label then code.core room).get count bytes.now) }
+    left: &mut &'a [u8],
+) -> Result<Option<Held<Vec<Init>>>, Memory>
+    ensures { IfOk result (λ o. option_map (λ x. (map init_part x.value.items, left.new.now)) o
+        ≡ some_get (label then code.core room).get count left.old.now) }
 {
-    let mut list = Vec::new(libraries.alloc());
-    let mut rest = bytes;
+    let mut list = Held::new(Vec::new(libraries.alloc()));
     for _ in 0..count {
-        let Some((init, after)) = init_at(libraries, room, rest)? else {
+        let Some(init) = init_in(libraries, room, left)? else {
             return Ok(None);
         };
-        list.push(init)?;
-        rest = after;
+        add_init(&mut list.value, init)?;
     }
-    Ok(Some((list, rest)))
+    Ok(Some(list))
 }
 
 #[cycle(core_read)]
-fn init_at<'a>(
+fn init_in<'a>(
     libraries: &mut Libraries,
     room: u32,
-    bytes: &'a [u8],
-) -> Result<Option<(Init, &'a [u8])>, Memory>
-    ensures { IfOk result (λ o. option_map (λ x. (init_part x.0, x.1.now)) o ≡ (label then code.core room).get bytes.now) }
+    left: &mut &'a [u8],
+) -> Result<Option<InitParts>, Memory>
+    ensures { IfOk result (λ o. option_map (λ x. ((x.label, x.value.value.value), left.new.now)) o ≡ (label then code.core room).get left.old.now) }
 {
-    let Some((label, rest)) = Label::at(libraries, bytes)? else {
+    let Some(label) = label_in(libraries, left)? else {
         return Ok(None);
     };
-    match core_at(libraries, room, rest)? {
-        Some((value, rest)) => Ok(Some((Init { label, value }, rest))),
+    match boxed_in(libraries, room, left)? {
+        Some(value) => Ok(Some(InitParts { label, value })),
         None => Ok(None),
     }
 }
 
 #[cycle(core_read)]
 #[tactic(auto, unfolding(sx_codec::specs::Code::cases), using(crate::specs::Seen::cases_back))]
-fn cases_at<'a>(
+fn cases_in<'a>(
     libraries: &mut Libraries,
     room: u32,
-    bytes: &'a [u8],
-) -> Result<Option<(Vec<Lambda>, &'a [u8])>, Memory>
-    ensures { IfOk result (λ o. option_map (λ x. (view.cases x.0.items, x.1.now)) o ≡ (code.cases (code.core room)).get bytes.now) }
+    left: &mut &'a [u8],
+) -> Result<Option<Held<Vec<Lambda>>>, Memory>
+    ensures { IfOk result (λ o. option_map (λ x. (view.cases x.value.items, left.new.now)) o ≡ (code.cases (code.core room)).get left.old.now) }
 {
-    match all_cases_at(libraries, room, bytes)? {
-        Some((cases, rest)) => Ok(Some((cases, rest))),
+    match all_cases_in(libraries, room, left)? {
+        Some(cases) => Ok(Some(cases)),
         None => Ok(None),
     }
 }
 
 #[cycle(core_read)]
-fn all_cases_at<'a>(
+fn all_cases_in<'a>(
     libraries: &mut Libraries,
     room: u32,
-    bytes: &'a [u8],
-) -> Result<Option<(Vec<Lambda>, &'a [u8])>, Memory>
-    ensures { IfOk result (λ o. option_map (λ x. (map case_part x.0.items, x.1.now)) o
-        ≡ (listed (code.formals then code.core room)).get bytes.now) }
+    left: &mut &'a [u8],
+) -> Result<Option<Held<Vec<Lambda>>>, Memory>
+    ensures { IfOk result (λ o. option_map (λ x. (map case_part x.value.items, left.new.now)) o
+        ≡ (listed (code.formals then code.core room)).get left.old.now) }
 {
-    match u64_at(bytes) {
-        Some((count, rest)) => some_cases(libraries, room, count, rest),
+    match count_in(left) {
+        Some(count) => some_cases(libraries, room, count, left),
         None => Ok(None),
     }
 }
@@ -483,66 +524,65 @@ fn some_cases<'a>(
     libraries: &mut Libraries,
     room: u32,
     count: u64,
-    bytes: &'a [u8],
-) -> Result<Option<(Vec<Lambda>, &'a [u8])>, Memory>
-    ensures { IfOk result (λ o. option_map (λ x. (map case_part x.0.items, x.1.now)) o
-        ≡ some_get (code.formals then code.core room).get count bytes.now) }
+    left: &mut &'a [u8],
+) -> Result<Option<Held<Vec<Lambda>>>, Memory>
+    ensures { IfOk result (λ o. option_map (λ x. (map case_part x.value.items, left.new.now)) o
+        ≡ some_get (code.formals then code.core room).get count left.old.now) }
 {
-    let mut list = Vec::new(libraries.alloc());
-    let mut rest = bytes;
+    let mut list = Held::new(Vec::new(libraries.alloc()));
     for _ in 0..count {
-        let Some((case, after)) = case_at(libraries, room, rest)? else {
+        let Some(case) = case_in(libraries, room, left)? else {
             return Ok(None);
         };
-        list.push(case)?;
-        rest = after;
+        add_case(&mut list.value, case)?;
     }
-    Ok(Some((list, rest)))
+    Ok(Some(list))
 }
 
 #[cycle(core_read)]
-fn case_at<'a>(
+fn case_in<'a>(
     libraries: &mut Libraries,
     room: u32,
-    bytes: &'a [u8],
-) -> Result<Option<(Lambda, &'a [u8])>, Memory>
-    ensures { IfOk result (λ o. option_map (λ x. (case_part x.0, x.1.now)) o ≡ (code.formals then code.core room).get bytes.now) }
+    left: &mut &'a [u8],
+) -> Result<Option<CaseParts>, Memory>
+    ensures { IfOk result (λ o. option_map (λ x. ((x.formals.value.value, x.body.value.value), left.new.now)) o
+        ≡ (code.formals then code.core room).get left.old.now) }
 {
-    let Some((formals, rest)) = formals_at(libraries, bytes)? else {
+    let Some(formals) = formals_in(libraries, left)? else {
         return Ok(None);
     };
-    match core_at(libraries, room, rest)? {
-        Some((body, rest)) => Ok(Some((Lambda { formals, body }, rest))),
+    match boxed_in(libraries, room, left)? {
+        Some(body) => Ok(Some(CaseParts { formals, body })),
         None => Ok(None),
     }
 }
 
 #[cycle(core_read)]
 #[tactic(auto, unfolding(sx_codec::specs::Code::clauses), using(crate::specs::Seen::clauses_back))]
-fn clauses_at<'a>(
+fn clauses_in<'a>(
     libraries: &mut Libraries,
     room: u32,
-    bytes: &'a [u8],
-) -> Result<Option<(Vec<Clause>, &'a [u8])>, Memory>
-    ensures { IfOk result (λ o. option_map (λ x. (view.clauses x.0.items, x.1.now)) o ≡ (code.clauses (code.core room)).get bytes.now) }
+    left: &mut &'a [u8],
+) -> Result<Option<Held<Vec<Clause>>>, Memory>
+    ensures { IfOk result (λ o. option_map (λ x. (view.clauses x.value.items, left.new.now)) o ≡ (code.clauses (code.core room)).get left.old.now) }
 {
-    match all_clauses_at(libraries, room, bytes)? {
-        Some((clauses, rest)) => Ok(Some((clauses, rest))),
+    match all_clauses_in(libraries, room, left)? {
+        Some(clauses) => Ok(Some(clauses)),
         None => Ok(None),
     }
 }
 
 #[cycle(core_read)]
-fn all_clauses_at<'a>(
+fn all_clauses_in<'a>(
     libraries: &mut Libraries,
     room: u32,
-    bytes: &'a [u8],
-) -> Result<Option<(Vec<Clause>, &'a [u8])>, Memory>
-    ensures { IfOk result (λ o. option_map (λ x. (map clause_part x.0.items, x.1.now)) o
-        ≡ (listed (code.pattern 2000 then optional (code.core room) then code.core room)).get bytes.now) }
+    left: &mut &'a [u8],
+) -> Result<Option<Held<Vec<Clause>>>, Memory>
+    ensures { IfOk result (λ o. option_map (λ x. (map clause_part x.value.items, left.new.now)) o
+        ≡ (listed (code.pattern 2000 then optional (code.core room) then code.core room)).get left.old.now) }
 {
-    match u64_at(bytes) {
-        Some((count, rest)) => some_clauses(libraries, room, count, rest),
+    match count_in(left) {
+        Some(count) => some_clauses(libraries, room, count, left),
         None => Ok(None),
     }
 }
@@ -552,116 +592,53 @@ fn some_clauses<'a>(
     libraries: &mut Libraries,
     room: u32,
     count: u64,
-    bytes: &'a [u8],
-) -> Result<Option<(Vec<Clause>, &'a [u8])>, Memory>
-    ensures { IfOk result (λ o. option_map (λ x. (map clause_part x.0.items, x.1.now)) o
-        ≡ some_get (code.pattern 2000 then optional (code.core room) then code.core room).get count bytes.now) }
+    left: &mut &'a [u8],
+) -> Result<Option<Held<Vec<Clause>>>, Memory>
+    ensures { IfOk result (λ o. option_map (λ x. (map clause_part x.value.items, left.new.now)) o
+        ≡ some_get (code.pattern 2000 then optional (code.core room) then code.core room).get count left.old.now) }
 {
-    let mut list = Vec::new(libraries.alloc());
-    let mut rest = bytes;
+    let mut list = Held::new(Vec::new(libraries.alloc()));
     for _ in 0..count {
-        let Some((clause, after)) = clause_at(libraries, room, rest)? else {
+        let Some(clause) = clause_in(libraries, room, left)? else {
             return Ok(None);
         };
-        list.push(clause)?;
-        rest = after;
+        add_clause(&mut list.value, clause)?;
     }
-    Ok(Some((list, rest)))
+    Ok(Some(list))
 }
 
 #[cycle(core_read)]
-fn clause_at<'a>(
+fn clause_in<'a>(
     libraries: &mut Libraries,
     room: u32,
-    bytes: &'a [u8],
-) -> Result<Option<(Clause, &'a [u8])>, Memory>
-    ensures { IfOk result (λ o. option_map (λ x. (clause_part x.0, x.1.now)) o
-        ≡ (code.pattern 2000 then optional (code.core room) then code.core room).get bytes.now) }
+    left: &mut &'a [u8],
+) -> Result<Option<ClauseParts>, Memory>
+    ensures { IfOk result (λ o. option_map (λ x. ((x.pattern.value.value, (held_there x.outcome.fender, x.outcome.output.value.value)), left.new.now)) o
+        ≡ (code.pattern 2000 then optional (code.core room) then code.core room).get left.old.now) }
 {
-    match pattern_at(libraries, MAX_PATTERN, bytes)? {
-        Some((pattern, rest)) => clause_behind(libraries, room, pattern, rest),
-        None => Ok(None),
-    }
-}
-
-/// The clause with that pattern whose fender and output the bytes begin with.
-#[cycle(core_read)]
-fn clause_behind<'a>(
-    libraries: &mut Libraries,
-    room: u32,
-    pattern: Pattern,
-    bytes: &'a [u8],
-) -> Result<Option<(Clause, &'a [u8])>, Memory>
-    ensures { IfOk result (λ o. option_map (λ x. (clause_part x.0, x.1.now)) o
-        ≡ with_pattern pattern ((optional (code.core room) then code.core room).get bytes.now)) }
-{
-    match outcome_at(libraries, room, bytes)? {
-        Some((outcome, rest)) => {
-            let clause = Clause {
-                pattern,
-                fender: outcome.fender,
-                output: outcome.output,
-            };
-            Ok(Some((clause, rest)))
-        }
-        None => Ok(None),
-    }
-}
-
-/// The fender and the output of a clause.
-#[derive(Drop)]
-struct Outcome {
-    fender: Option<Core>,
-    output: Core,
-}
-
-#[cycle(core_read)]
-fn outcome_at<'a>(
-    libraries: &mut Libraries,
-    room: u32,
-    bytes: &'a [u8],
-) -> Result<Option<(Outcome, &'a [u8])>, Memory>
-    ensures { IfOk result (λ o. option_map (λ x. ((x.0.fender, x.0.output), x.1.now)) o
-        ≡ (optional (code.core room) then code.core room).get bytes.now) }
-{
-    match bytes {
-        [] => Ok(None),
-        [0, rest @ ..] => match core_at(libraries, room, rest)? {
-            Some((output, rest)) => {
-                let outcome = Outcome {
-                    fender: None,
-                    output,
-                };
-                Ok(Some((outcome, rest)))
-            }
-            None => Ok(None),
-        },
-        [1, rest @ ..] => fended_at(libraries, room, rest),
-        [_, ..] => Ok(None),
-    }
-}
-
-/// The fender and the output of a clause that has a fender.
-#[cycle(core_read)]
-fn fended_at<'a>(
-    libraries: &mut Libraries,
-    room: u32,
-    bytes: &'a [u8],
-) -> Result<Option<(Outcome, &'a [u8])>, Memory>
-    ensures { IfOk result (λ o. option_map (λ x. ((x.0.fender, x.0.output), x.1.now)) o
-        ≡ (optional (code.core room) then code.core room).get (1 ∷ bytes.now)) }
-{
-    let Some((fender, rest)) = boxed_at(libraries, room, bytes)? else {
+    let Some(pattern) = pattern_in(libraries, left)? else {
         return Ok(None);
     };
-    match core_at(libraries, room, rest)? {
-        Some((output, rest)) => {
-            let outcome = Outcome {
-                fender: Some(Box::into_inner(fender)),
-                output,
-            };
-            Ok(Some((outcome, rest)))
-        }
+    match outcome_in(libraries, room, left)? {
+        Some(outcome) => Ok(Some(ClauseParts { pattern, outcome })),
+        None => Ok(None),
+    }
+}
+
+#[cycle(core_read)]
+fn outcome_in<'a>(
+    libraries: &mut Libraries,
+    room: u32,
+    left: &mut &'a [u8],
+) -> Result<Option<Outcome>, Memory>
+    ensures { IfOk result (λ o. option_map (λ x. ((held_there x.fender, x.output.value.value), left.new.now)) o
+        ≡ (optional (code.core room) then code.core room).get left.old.now) }
+{
+    let Some(fender) = other_in(libraries, room, left)? else {
+        return Ok(None);
+    };
+    match boxed_in(libraries, room, left)? {
+        Some(output) => Ok(Some(Outcome { fender, output })),
         None => Ok(None),
     }
 }

@@ -10,4 +10,7 @@
 
 pub mod at;
 pub mod formals;
+mod leaves;
+mod lists;
+mod nodes;
 pub mod put;
