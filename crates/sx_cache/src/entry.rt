@@ -16,6 +16,7 @@ use sx_bytes::spelled::Spelled;
 use sx_bytes::texts::{blob_at, put_blob};
 use sx_core::record::LibRecord;
 use sx_load::found::Source;
+use sx_pattern_bytes::held::Held;
 use sx_record_bytes::record::{put_record, record_at};
 
 /// A library that was expanded: the path of its file, the roots of the run, the sources of all that it needs with
@@ -178,8 +179,8 @@ fn put_entry(out: &mut Vec<u8>, alloc: Global, entry: &Entry) -> Result<bool, Me
 fn entry_at<'a>(
     libraries: &mut Libraries,
     bytes: &'a [u8],
-) -> Result<Option<(Entry, &'a [u8])>, Memory>
-    ensures { IfOk result (λ o. option_map (λ x. (x.0, x.1.now)) o ≡ spell.entry.get bytes.now) }
+) -> Result<Option<(Held<Entry>, &'a [u8])>, Memory>
+    ensures { IfOk result (λ o. option_map (λ x. (x.0.value, x.1.now)) o ≡ spell.entry.get bytes.now) }
 {
     let Some((path, rest)) = Symbol::at(libraries, bytes)? else {
         return Ok(None);
@@ -197,9 +198,9 @@ fn entry_at<'a>(
         path,
         roots,
         sources: Items::from_vec(sources),
-        stored,
+        stored: stored.take(),
     };
-    Ok(Some((entry, rest)))
+    Ok(Some((Held::new(entry), rest)))
 }
 
 /// The spelling of an entry, or nothing where its record has none.
@@ -222,7 +223,7 @@ pub fn decode_entry(alloc: Global, bytes: &[u8]) -> Result<Option<Entry>, Memory
     match entry_at(&mut libraries, bytes)? {
         Some((entry, rest)) => {
             if rest.is_empty() {
-                Ok(Some(entry))
+                Ok(Some(entry.take()))
             } else {
                 Ok(None)
             }

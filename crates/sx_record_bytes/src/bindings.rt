@@ -19,6 +19,7 @@ use sx_core::binding::{Binding, Expression, VarInfo};
 use sx_core::core_form::CoreForm;
 use sx_core_bytes::at::core_at;
 use sx_core_bytes::put::put_core;
+use sx_pattern_bytes::held::Held;
 
 /// One more than how many core expressions core code may have round one.
 pub(crate) const MAX_CORE: u32 = 8193;
@@ -314,14 +315,14 @@ fn put_row(out: &mut Vec<u8>, alloc: Global, row: &(Label, Binding)) -> Result<b
 pub fn bindings_at<'a>(
     libraries: &mut Libraries,
     bytes: &'a [u8],
-) -> Result<Option<(Vec<(Label, Binding)>, &'a [u8])>, Memory>
-    ensures { IfOk result (λ o. option_map (λ x. (x.0.items, x.1.now)) o
+) -> Result<Option<(Held<Vec<(Label, Binding)>>, &'a [u8])>, Memory>
+    ensures { IfOk result (λ o. option_map (λ x. (x.0.value.items, x.1.now)) o
         ≡ (checked spell.bindings_rise (listed (label then spell.binding))).get bytes.now) }
 {
     let Some((bindings, rest)) = all_at(libraries, bytes)? else {
         return Ok(None);
     };
-    if !bindings_rise(&bindings) {
+    if !bindings_rise(&bindings.value) {
         return Ok(None);
     }
     Ok(Some((bindings, rest)))
@@ -330,8 +331,8 @@ pub fn bindings_at<'a>(
 fn all_at<'a>(
     libraries: &mut Libraries,
     bytes: &'a [u8],
-) -> Result<Option<(Vec<(Label, Binding)>, &'a [u8])>, Memory>
-    ensures { IfOk result (λ o. option_map (λ x. (x.0.items, x.1.now)) o ≡ (listed (label then spell.binding)).get bytes.now) }
+) -> Result<Option<(Held<Vec<(Label, Binding)>>, &'a [u8])>, Memory>
+    ensures { IfOk result (λ o. option_map (λ x. (x.0.value.items, x.1.now)) o ≡ (listed (label then spell.binding)).get bytes.now) }
 {
     match u64_at(bytes) {
         Some((count, rest)) => some_bindings(libraries, count, rest),
@@ -343,16 +344,16 @@ fn some_bindings<'a>(
     libraries: &mut Libraries,
     count: u64,
     bytes: &'a [u8],
-) -> Result<Option<(Vec<(Label, Binding)>, &'a [u8])>, Memory>
-    ensures { IfOk result (λ o. option_map (λ x. (x.0.items, x.1.now)) o ≡ some_get (label then spell.binding).get count bytes.now) }
+) -> Result<Option<(Held<Vec<(Label, Binding)>>, &'a [u8])>, Memory>
+    ensures { IfOk result (λ o. option_map (λ x. (x.0.value.items, x.1.now)) o ≡ some_get (label then spell.binding).get count bytes.now) }
 {
-    let mut list = Vec::new(libraries.alloc());
+    let mut list = Held::new(Vec::new(libraries.alloc()));
     let mut rest = bytes;
     for _ in 0..count {
         let Some((row, after)) = row_at(libraries, rest)? else {
             return Ok(None);
         };
-        list.push(row)?;
+        list.value.push(row)?;
         rest = after;
     }
     Ok(Some((list, rest)))

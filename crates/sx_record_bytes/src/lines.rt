@@ -17,6 +17,7 @@ use sx_core::code::Core;
 use sx_core::record::Line;
 use sx_core_bytes::at::core_at;
 use sx_core_bytes::put::put_core;
+use sx_pattern_bytes::held::Held;
 
 #[tactic(auto, unfolding(sx_codec::specs::Records::line))]
 fn put_line(out: &mut Vec<u8>, alloc: Global, line: &Line) -> Result<bool, Memory>
@@ -97,8 +98,8 @@ pub fn put_lines(out: &mut Vec<u8>, alloc: Global, lines: &[Line]) -> Result<boo
 pub fn lines_at<'a>(
     libraries: &mut Libraries,
     bytes: &'a [u8],
-) -> Result<Option<(Vec<Line>, &'a [u8])>, Memory>
-    ensures { IfOk result (λ o. option_map (λ x. (x.0.items, x.1.now)) o ≡ (listed spell.line).get bytes.now) }
+) -> Result<Option<(Held<Vec<Line>>, &'a [u8])>, Memory>
+    ensures { IfOk result (λ o. option_map (λ x. (x.0.value.items, x.1.now)) o ≡ (listed spell.line).get bytes.now) }
 {
     match u64_at(bytes) {
         Some((count, rest)) => some_lines(libraries, count, rest),
@@ -110,16 +111,16 @@ fn some_lines<'a>(
     libraries: &mut Libraries,
     count: u64,
     bytes: &'a [u8],
-) -> Result<Option<(Vec<Line>, &'a [u8])>, Memory>
-    ensures { IfOk result (λ o. option_map (λ x. (x.0.items, x.1.now)) o ≡ some_get spell.line.get count bytes.now) }
+) -> Result<Option<(Held<Vec<Line>>, &'a [u8])>, Memory>
+    ensures { IfOk result (λ o. option_map (λ x. (x.0.value.items, x.1.now)) o ≡ some_get spell.line.get count bytes.now) }
 {
-    let mut list = Vec::new(libraries.alloc());
+    let mut list = Held::new(Vec::new(libraries.alloc()));
     let mut rest = bytes;
     for _ in 0..count {
         let Some((line, after)) = line_at(libraries, rest)? else {
             return Ok(None);
         };
-        list.push(line)?;
+        list.value.push(line)?;
         rest = after;
     }
     Ok(Some((list, rest)))

@@ -20,6 +20,7 @@ use sx_bytes::libraries::Libraries;
 use sx_bytes::spelled::Spelled;
 use sx_core::binding::Binding;
 use sx_core::record::{LibRecord, Line};
+use sx_pattern_bytes::held::Held;
 use sx_tree::frame_row::FrameRow;
 
 /// Adds what stands behind the exports of a record.
@@ -56,9 +57,9 @@ pub fn put_record(out: &mut Vec<u8>, alloc: Global, record: &LibRecord) -> Resul
 /// What stands behind the exports of a record.
 #[derive(Drop)]
 struct Body {
-    bindings: Vec<(Label, Binding)>,
+    bindings: Held<Vec<(Label, Binding)>>,
     frames: Vec<FrameRow>,
-    run: Vec<Line>,
+    run: Held<Vec<Line>>,
     refs: Items<LibName>,
 }
 
@@ -66,7 +67,7 @@ fn body_at<'a>(
     libraries: &mut Libraries,
     bytes: &'a [u8],
 ) -> Result<Option<(Body, &'a [u8])>, Memory>
-    ensures { IfOk result (λ o. option_map (λ x. ((x.0.bindings.items, (x.0.frames.items, (x.0.run.items, x.0.refs))), x.1.now)) o
+    ensures { IfOk result (λ o. option_map (λ x. ((x.0.bindings.value.items, (x.0.frames.items, (x.0.run.value.items, x.0.refs))), x.1.now)) o
         ≡ (checked spell.bindings_rise (listed (label then spell.binding)) then checked spell.rows_rise (listed frame_row)
         then listed spell.line then listed library).get bytes.now) }
 {
@@ -96,8 +97,8 @@ fn body_at<'a>(
 pub fn record_at<'a>(
     libraries: &mut Libraries,
     bytes: &'a [u8],
-) -> Result<Option<(LibRecord, &'a [u8])>, Memory>
-    ensures { IfOk result (λ o. option_map (λ x. (x.0, x.1.now)) o ≡ spell.lib_record.get bytes.now) }
+) -> Result<Option<(Held<LibRecord>, &'a [u8])>, Memory>
+    ensures { IfOk result (λ o. option_map (λ x. (x.0.value, x.1.now)) o ≡ spell.lib_record.get bytes.now) }
 {
     let Some((path, rest)) = Symbol::at(libraries, bytes)? else {
         return Ok(None);
@@ -119,12 +120,12 @@ pub fn record_at<'a>(
         name,
         version,
         exports,
-        bindings: Items::from_vec(body.bindings),
+        bindings: Items::from_vec(body.bindings.take()),
         frames: Items::from_vec(body.frames),
-        run: Items::from_vec(body.run),
+        run: Items::from_vec(body.run.take()),
         refs: body.refs,
     };
-    Ok(Some((record, rest)))
+    Ok(Some((Held::new(record), rest)))
 }
 
 /// The spelling of a record, or nothing where it has none: its bindings or rows don't rise, its core code isn't
@@ -148,7 +149,7 @@ pub fn decode(alloc: Global, bytes: &[u8]) -> Result<Option<LibRecord>, Memory>
     match record_at(&mut libraries, bytes)? {
         Some((record, rest)) => {
             if rest.is_empty() {
-                Ok(Some(record))
+                Ok(Some(record.take()))
             } else {
                 Ok(None)
             }

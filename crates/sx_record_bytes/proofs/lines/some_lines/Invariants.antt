@@ -5,4 +5,4 @@ use Rattle.sx_bytes.proofs.Loop.{with_front}
 use Rattle.sx_record_bytes.proofs.lines.some_lines.Given as goal
 
 abbrev pub invariant-loop : goal.invariant-loop
-invariant-loop l = with_front l.list.items (some_get (spell.line).get (l.count - l.counter) l.rest) ≡ some_get (spell.line).get l.count l.bytes
+invariant-loop l = with_front l.list.value.items (some_get (spell.line).get (l.count - l.counter) l.rest) ≡ some_get (spell.line).get l.count l.bytes
