@@ -313,8 +313,132 @@ def limits():
     expect('long again', want, [name for name, size in zip(names, sizes) if size], names, '--cache', 'd', 'q.sps')
 
 
+def number(n, size=8):
+    return n.to_bytes(size, 'big')
+
+
+def spelled(text):
+    return number(len(text)) + text.encode()
+
+
+NIL = bytes(4)  # '()
+SPAN = spelled('./m.sls') + number(0, 4) + number(1, 4)
+
+
+def named(n):
+    """A label of the library (m), or the number of a procedure."""
+    return b'\4' + number(1) + spelled('m') + number(n)
+
+
+def around(before, inner, after):
+    """So many levels round what is in them. What stands before a level may have a name of its own."""
+    if callable(before):
+        return lambda levels: b''.join(before(named(1000000 + i)) for i in range(levels)) + inner + after * levels
+    return lambda levels: before * levels + inner + after * levels
+
+
+CLAUSE = b'\x0a' + NIL + number(1)
+# Core code within core code.
+EVALUATED = {
+    'if, test': around(b'\3', NIL, NIL + b'\0'),
+    'if, consequent': around(b'\3' + NIL, NIL, b'\0'),
+    'if, alternative': around(b'\3' + NIL + NIL + b'\1', NIL, b''),
+    'begin, first': around(b'\5' + number(2), NIL, NIL),
+    'begin, last': around(b'\5' + number(2) + NIL, NIL, b''),
+    'lambda': around(lambda n: b'\6' + n + number(1) + number(0) + b'\0', NIL, b'\1'),
+    'case-lambda': around(lambda n: b'\6' + n + number(2) + number(0) + b'\0' + NIL + number(0) + b'\0', NIL, b'\0'),
+    'letrec, body': around(b'\7\0' + number(0), NIL, b''),
+    'syntax-case, output': around(CLAUSE + b'\0\0', NIL, SPAN),
+    'syntax-case, fender': around(CLAUSE + b'\0\1', NIL, NIL + SPAN),
+}
+DEEP_CODE = {
+    **EVALUATED,
+    'letrec*, value': around(lambda n: b'\7\1' + number(1) + n, NIL, NIL),
+    'call, operator': around(b'\x08', NIL, number(0)),
+    'call, operand': around(b'\x08' + NIL + number(1), NIL, b''),
+    'syntax-case, subject': around(b'\x0a', NIL, number(0) + SPAN),
+}
+# The text before and behind each level.
+DEEP_TEXTS = {
+    'set!': ('(set! v ', ')'),
+    'if, test': ('(if ', ' (quote ()))'),
+    'if, consequent': ('(if (quote ()) ', ')'),
+    'if, alternative': ('(if (quote ()) (quote ()) ', ')'),
+    'begin, first': ('(begin ', ' (quote ()))'),
+    'begin, last': ('(begin (quote ()) ', ')'),
+    'lambda': ('(lambda () ', ')'),
+    'case-lambda': ('(case-lambda (() (quote ())) (() ', '))'),
+    'letrec, body': ('(letrec () ', ')'),
+    'call, operator': ('(', ')'),
+    'call, operand': ('((quote ()) ', ')'),
+}
+# Of what stands in core code how many levels an entry may have, and so many round its innermost part.
+DEEP_PARTS = {}
+for what, levels, before, parts, after in (
+        ('a list', 1000, b'\0', around(b'\0\2' + number(1), bytes(3), bytes(3)), b''),
+        ('a vector', 1000, b'\0', around(b'\0\3' + number(1), bytes(3), b''), b''),
+        ('a pattern of a vector', 2000, CLAUSE, around(b'\5' + number(1), b'\0', b'\0' + number(0)), b'\0' + NIL + SPAN),
+        ('a pattern of a list', 2000, CLAUSE, around(b'\4' + number(1), b'\0', b'\0' + number(0) + b'\0'), b'\0' + NIL + SPAN),
+        ('a pattern behind a list', 2000, CLAUSE, around(b'\4' + number(1) + b'\0\0' + number(0), b'\0', b''), b'\0' + NIL + SPAN),
+        ('a pattern that is repeated', 2000, CLAUSE, around(b'\5' + number(0) + b'\1', b'\0', number(0)), b'\0' + NIL + SPAN),
+        ('a pattern after an ellipsis', 2000, CLAUSE, around(b'\5' + number(0) + b'\1\0' + number(1), b'\0', b''), b'\0' + NIL + SPAN),
+        ('a template of a vector', 2000, b'\x09', around(b'\3' + number(1), b'\1' + bytes(3), bytes(4)), SPAN),
+        ('a template of a list', 2000, b'\x09', around(b'\2' + number(1), b'\1' + bytes(3), bytes(4) + b'\1' + bytes(3)), SPAN),
+        ('a template behind a list', 2000, b'\x09', around(b'\2' + number(1) + b'\1' + bytes(7), b'\1' + bytes(3), b''), SPAN),
+        ('a tree of a list', 1000, b'\x09\1', around(b'\0\2' + number(1), bytes(3), bytes(3)), SPAN),
+        ('a tree of a vector', 1000, b'\x09\1', around(b'\0\3' + number(1), bytes(3), b''), SPAN)):
+    DEEP_PARTS[what] = levels, lambda count, before=before, parts=parts, after=after: before + parts(count) + after
+
+
+def deep():
+    """Entries under a right seal that nest code, patterns, templates and data as deep as an entry may, and deeper.
+
+    A procedure of such code has just it in the text. A transformer with such code beside what it gives leaves the text as
+    it is without a cache. One level more has no spelling: the library is expanded. The stack has 8 MB, as on most systems.
+    """
+    source = ("(library (m) (export g k) (import (rnrs))\n  (define v 1)\n  (define (g) (set! v 'LINE))\n"
+              "  (define-syntax k (lambda (s) (begin 'EVALUATED (lambda () 'INNER) (syntax 1)))))\n")
+    write('m.sls', source)
+    write('p.sps', '(import (rnrs) (m)) (g) (k)')
+    want = run('p.sps')[1]
+    expect('deep', want, [], ['(m)'], '--cache', 'c', 'p.sps')
+    at = place('m.sls')
+    body = read(at)[40:]
+
+    def quoted(word):
+        first = source.index(word)
+        return b'\0\1' + spelled('./m.sls') + number(first, 4) + number(first + len(word), 4) + b'\1' + spelled(word)
+
+    def forged(what, word, code, text, reused):
+        if body.count(quoted(word)) != 1:
+            fail('no quotation of %s in the entry' % word)
+        write(at, sealed(body.replace(quoted(word), code)))
+        expect(what, text, ['(m)'] if reused else [], ['(m)'], '--cache', 'c', 'p.sps',
+               preexec_fn=lambda: resource.setrlimit(resource.RLIMIT_STACK, (8 << 20, resource.getrlimit(resource.RLIMIT_STACK)[1])))
+
+    # `v` as a label, which stands before the word, and as a variable of the text.
+    label = body[:body.index(quoted('LINE'))][-len(named(0)):]
+    variable = want[want.index(b'(set! ') + 6:want.index(b' (quote LINE)')].decode()
+    # In place of each word there may be so many core expressions, one within another: behind a procedure and a `set!` or a
+    # `begin`, and for one word a procedure more.
+    all_code = {**DEEP_CODE, 'set!': around(b'\4' + label, NIL, b'')}
+    for word, levels, tried in (('LINE', 8191, DEEP_TEXTS), ('EVALUATED', 8191, EVALUATED), ('INNER', 8190, DEEP_CODE)):
+        for what in tried:
+            code, text = all_code[what], want
+            if word == 'LINE':
+                before, after = DEEP_TEXTS[what]
+                deepest = before.replace('v', variable) * (levels - 1) + '(quote ())' + after * (levels - 1)
+                text = want.replace(b'(quote LINE)', deepest.encode())
+            forged('%s for %s' % (what, word), word, code(levels - 1), text, True)
+            forged('%s for %s, a level more' % (what, word), word, code(levels), want, False)
+    # In core code that is as deep as it may be.
+    for what, (levels, part) in DEEP_PARTS.items():
+        for count, reused in ((levels - 1, True), (levels, False)):
+            forged('%s of %d levels' % (what, count + 1), 'INNER', around(b'\3' + NIL, part(count), b'\0')(8188), want, reused)
+
+
 def main():
-    for part in (other_files, by_hand, limits, rights, stopped_puts, changed_bytes):
+    for part in (other_files, by_hand, limits, deep, rights, stopped_puts, changed_bytes):
         if PARTS and part.__name__ not in PARTS:
             continue
         folder = tempfile.mkdtemp(prefix='cache')
