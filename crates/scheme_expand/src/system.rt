@@ -4,9 +4,11 @@ ghost use Rattle.std.specs.Prelude.{◌≡◌, ◌<◌};
 
 use std::alloc::Global;
 use std::marker::Brand;
-use std::sync::ledger::{Blank, Ledger};
+use std::sync::ledger::{Blank, Book, Ledger};
 use sx_base::memory::Memory;
 use sx_base::steps::Steps;
+use sx_expand::tally::Tally;
+use sx_fuel::fuel::{Counted, Fuel};
 use sx_ops::basics::basics;
 use sx_ops::characters::characters;
 use sx_ops::data::{data, trees};
@@ -30,11 +32,21 @@ use sx_run::top;
 use sx_run::top::Outside;
 use sx_standing::means::Counts;
 
+// At most so many libraries are expanded in one run.
+const MOST_EXPANSIONS: u64 = 1_000_000_000;
+
 // The rows with one more.
 fn with_row(rows: Vec<PrimRow>, row: PrimRow) -> Result<Vec<PrimRow>, Memory> {
     let mut rows = rows;
     rows.push(row)?;
     Ok(rows)
+}
+
+// The book of the fuel, beside what is spent.
+#[derive(Drop)]
+struct Booked<'a, L: Ledger> {
+    book: &'a mut Book<L>,
+    fuel: Fuel<L>,
 }
 
 // Both counters are borrowed for one time, as `Counts` has them.
@@ -43,7 +55,7 @@ fn run_both<'a, N: Ledger, L: Ledger>(
     words: &[String],
     prims: &PrimTable,
     nodes: &'a mut Steps<N>,
-    steps: &'a mut Steps<L>,
+    booked: Booked<'a, L>,
 ) -> Result<Status, Memory> {
     let alloc = rt.alloc();
     let mut outside = Outside {
@@ -54,8 +66,10 @@ fn run_both<'a, N: Ledger, L: Ledger>(
         out: HostSink::new(rt.stdout()),
         err: HostSink::new(rt.stderr()),
     };
-    let mut counts = Counts { nodes, steps };
-    Ok(top::run(alloc, words, &mut outside, prims, &mut counts))
+    let Booked { book, fuel } = booked;
+    let counts = Counts { nodes, book };
+    let mut tally = Tally { counts, fuel };
+    Ok(top::run(alloc, words, &mut outside, prims, &mut tally))
 }
 
 fn run_counted<N: Ledger, L: Ledger>(
@@ -68,11 +82,15 @@ fn run_counted<N: Ledger, L: Ledger>(
     requires name { nodes.name ≡ N.name }
     requires parts { (nodes.parts ≡ N.parts) × (0 < N.parts) }
     requires step_name { steps.name ≡ L.name }
-    requires step_parts { (steps.parts ≡ L.parts) × (0 < L.parts) }
+    requires step_parts { (steps.parts ≡ L.parts) × (1000000001 < L.parts) }
 {
     let mut nodes = Steps::<N>::open(nodes);
-    let mut steps = Steps::<L>::open(steps);
-    run_both(rt, words, prims, &mut nodes, &mut steps)
+    let Counted { mut book, fuel } = Fuel::<L>::open(steps, MOST_EXPANSIONS);
+    let booked = Booked {
+        book: &mut book,
+        fuel,
+    };
+    run_both(rt, words, prims, &mut nodes, booked)
 }
 
 // A run whose nodes and fuel nobody counts. Rows in order always fill the table.
@@ -80,7 +98,7 @@ fn run_with(rt: &HostRuntime, words: &[String], rows: Vec<PrimRow>) -> Result<St
     let Ok(prims) = PrimTable::fill(rows) else {
         return Ok(Status::Memory);
     };
-    run_counted::<Brand, Brand>(rt, words, &prims, Blank::new(1), Blank::new(1))
+    run_counted::<Brand, Brand>(rt, words, &prims, Blank::new(1), Blank::new(1_000_000_002))
 }
 
 // The primitives are boxed here, since a call that handed boxes back would hide what they hold.

@@ -12,9 +12,10 @@ use Rattle.sx_builtin.specs.Exports.{derived}
 use Rattle.sx_builtin.specs.declared.derived.TheConstants.{DERIVED_SOURCE}
 use Rattle.sx_core.specs.declared.record.LibRecord.{LibRecord}
 use Rattle.sx_eval.specs.Codes.{Codes}
-use Rattle.sx_expand.specs.Expanding.{ready, library_record}
+use Rattle.sx_expand.specs.Expanding.{ready, library_record, library_spent}
 use Rattle.sx_import.specs.Table.{same_text}
 use Rattle.sx_prelude.specs.Prelude.{at_place}
+use Rattle.sx_prelude.specs.Spent.{spent_behind}
 use Rattle.sx_reader.specs.Read.{data_of, file_nesting}
 use Rattle.sx_tree.specs.Context.{blank}
 use Rattle.sx_tree.specs.Leaves.{tree_of}
@@ -41,6 +42,14 @@ record_of codes forms = library_record (ready library.Derived path [] names code
 -- the record of the derived library; as in any library, what procedures mean that are texts comes after its forms
 unfoldable pub derived_record : Result Codes Fault → Result LibRecord Fault
 derived_record prelude = forms_of DERIVED_SOURCE.now >>= (λ forms. prelude >>= (λ codes. record_of codes forms))
+
+-- the fuel that the expansion of these forms spends
+unfoldable pub record_spent : Codes → List Tree → ℕ
+record_spent codes forms = library_spent (ready library.Derived path [] names codes) [] [] start (exports_of derived) forms
+
+-- the fuel that the derived library's spends
+unfoldable pub derived_spent : Result Codes Fault → ℕ
+derived_spent prelude = spent_behind (forms_of DERIVED_SOURCE.now) (λ forms. spent_behind prelude (λ codes. record_spent codes forms))
 
 -- What a derived name stands for: the label under which the record exports it.
 

@@ -1,41 +1,39 @@
 //! The record of the derived library.
 
-ghost use Rattle.std.specs.Prelude.{◌≡◌, ◌<◌, ◌^◌, length, [], false, IfOk, Ok};
+ghost use Rattle.std.specs.Prelude.{◌≡◌, ◌<◌, ◌+◌, ◌^◌, length, [], false, IfOk, OnOk, Ok};
 ghost use Rattle.std.specs.Map.{lookup};
 ghost use Rattle.sx_base.specs.Gives.{Gives};
 ghost use Rattle.sx_import.specs.Table.{same_text};
 ghost use Rattle.sx_base.specs.declared.library.LibName.TheVariants as library;
 ghost use Rattle.sx_builtin.specs.Exports.{derived};
 ghost use Rattle.sx_eval.specs.Codes as table;
-ghost use Rattle.sx_expand.specs.Expanding.{ready, library_record};
+ghost use Rattle.sx_expand.specs.Expanding.{ready, library_record, library_spent};
 ghost use Rattle.sx_prelude.specs.Prelude.{kept};
 ghost use Rattle.sx_derived.specs.Names.{path, start, names, exports_of};
-ghost use Rattle.sx_derived.specs.Derived.{tree_at, trees, forms_of, record_of, derived_record, label_or, relabelled_in};
+ghost use Rattle.sx_derived.specs.Derived.{tree_at, trees, forms_of, record_of, record_spent, derived_record, derived_spent, label_or, relabelled_in};
 
 use crate::implementation::Implementation;
 use crate::names::{exports, names, path, start};
-use indexmap::IndexMap;
 use std::alloc::Global;
-use std::rc::Rc;
 use std::sync::ledger::Ledger;
 use sx_base::datum::Datum;
 use sx_base::fault::{Bare, BareStop, Fault, Stop};
 use sx_base::items::Items;
 use sx_base::library::LibName;
 use sx_base::memory::Memory;
-use sx_base::name::{CodeNo, Label};
+use sx_base::name::Label;
 use sx_base::span::Span;
 use sx_base::symbol::Symbol;
 use sx_builtin::derived::derived_source;
-use sx_core::code::Code;
 use sx_core::record::LibRecord;
 use sx_expand::expander::{Expander, LibraryBody};
+use sx_expand::tally::Tally;
 use sx_prims::table::PrimTable;
 use sx_reader::read::read_all;
 use sx_stage::earlier::Earlier;
-use sx_standing::means::{Counts, Means};
+use sx_standing::means::Means;
 use sx_standing::ready::ReadyRecords;
-use sx_standing::start::Environment;
+use sx_standing::start::{Environment, Supplies};
 use sx_syntax::syn::Syn;
 
 fn tree_at(alloc: Global, place: &Span, datum: &Datum) -> Result<Syn, Stop>
@@ -87,12 +85,12 @@ struct Text<'a> {
 }
 
 // An expander behind no records.
-fn expander_of(
+fn expander_of<L: Ledger>(
     alloc: Global,
     names: &[(Symbol, Label)],
-    codes: IndexMap<CodeNo, Rc<Code>>,
-) -> Result<Expander, Stop>
-    ensures { Gives (λ e. e) result (Ok (ready library.Derived path [] names.now (table.seen codes.entries))) }
+    supplies: Supplies<L>,
+) -> Result<Expander<L>, Stop>
+    ensures { Gives (λ e. e) result (Ok (ready library.Derived path [] names.now (table.seen supplies.codes.entries))) }
 {
     let path = path(alloc)?;
     let records = ReadyRecords::new(alloc)?;
@@ -101,19 +99,20 @@ fn expander_of(
         needs: &[],
         imports: names,
     };
-    Expander::new(alloc, LibName::Derived, path, &environment, codes)
+    Expander::new(alloc, LibName::Derived, path, &environment, supplies)
 }
 
 // The record of these forms.
 fn record_by<N: Ledger, L: Ledger>(
-    begun: Expander,
+    begun: Expander<L>,
     text: &Text,
     forms: Items<Syn>,
     prims: &PrimTable,
-    counts: &mut Counts<N, L>,
+    tally: &mut Tally<N, L>,
 ) -> Result<LibRecord, Stop>
     requires { begun.failed ≡ false }
-    ensures { Gives (λ r. r) result (library_record begun [] [] text.now.place.now text.now.exports.now forms) }
+    ensures record { Gives (λ r. r) result (library_record begun [] [] text.now.place.now text.now.exports.now forms) }
+    ensures fuel { OnOk result (tally.new.fuel ≡ tally.old.fuel + library_spent begun [] [] text.now.place.now text.now.exports.now forms) }
 {
     let earlier = Earlier {
         records: &[],
@@ -126,48 +125,54 @@ fn record_by<N: Ledger, L: Ledger>(
         exports: text.exports,
         version: Items::new(text.alloc),
     };
-    begun.top(body, &means, counts)
+    begun.top(body, &means, tally)
 }
 
 // The record of these forms, where this is what the procedures mean that are texts.
-#[tactic(auto, unfolding(crate::specs::Derived::record_of))]
+#[tactic(auto, unfolding(crate::specs::Derived::record_of, crate::specs::Derived::record_spent))]
 fn record_of<N: Ledger, L: Ledger>(
-    codes: IndexMap<CodeNo, Rc<Code>>,
+    supplies: Supplies<L>,
     text: &Text,
     forms: Items<Syn>,
     prims: &PrimTable,
-    counts: &mut Counts<N, L>,
+    tally: &mut Tally<N, L>,
 ) -> Result<LibRecord, Stop>
     requires imports { text.now.imports.now ≡ names }
     requires exports { text.now.exports.now ≡ exports_of derived }
     requires place { text.now.place.now ≡ start }
-    ensures { Gives (λ r. r) result (record_of (table.seen codes.entries) forms) }
+    ensures record { Gives (λ r. r) result (record_of (table.seen supplies.codes.entries) forms) }
+    ensures fuel { OnOk result (tally.new.fuel ≡ tally.old.fuel + record_spent (table.seen supplies.codes.entries) forms) }
 {
-    let begun = expander_of(text.alloc, text.imports, codes)?;
-    record_by(begun, text, forms, prims, counts)
+    let begun = expander_of(text.alloc, text.imports, supplies)?;
+    record_by(begun, text, forms, prims, tally)
 }
 
 /// The record of the derived library. It is expanded behind no other.
-#[tactic(auto, unfolding(crate::specs::Derived::derived_record))]
+#[tactic(auto, unfolding(crate::specs::Derived::derived_record, crate::specs::Derived::derived_spent))]
 pub fn derived_record<N: Ledger, L: Ledger>(
     alloc: Global,
     implementation: &Implementation,
-    counts: &mut Counts<N, L>,
+    tally: &mut Tally<N, L>,
 ) -> Result<LibRecord, Stop>
-    ensures { Gives (λ r. r) result (derived_record (kept implementation.now.prelude)) }
+    ensures record { Gives (λ r. r) result (derived_record (kept implementation.now.prelude)) }
+    ensures fuel { OnOk result (tally.new.fuel ≡ tally.old.fuel + derived_spent (kept implementation.now.prelude)) }
 {
     let place = start(alloc)?;
     let forms = forms_of(alloc, &place, derived_source())?;
     let names = names(alloc)?;
     let exports = exports(alloc)?;
     let codes = implementation.prelude.codes(alloc)?;
+    let Some(unspent) = tally.fuel.begin() else {
+        return Err(Stop::Memory);
+    };
+    let supplies = Supplies { codes, unspent };
     let text = Text {
         alloc,
         place: &place,
         imports: names.as_slice(),
         exports: exports.as_slice(),
     };
-    record_of(codes, &text, forms, implementation.primitives, counts)
+    record_of(supplies, &text, forms, implementation.primitives, tally)
 }
 
 // The label under which a record exports a name, or another.

@@ -16,7 +16,7 @@ use Rattle.sx_standing.specs.State.{State, state_code, Does}
 use Rattle.sx_standing.specs.Start.{started, first_frame}
 use Rattle.sx_expand.specs.Body.{body}
 use Rattle.sx_expand.specs.Expression.{inside, full_room}
-use Rattle.sx_expand.specs.Top.{record_in, linked_in, top}
+use Rattle.sx_expand.specs.Top.{record_in, linked_in, spent_in, top}
 use Rattle.sx_expand.specs.declared.top.Linked.{Linked}
 use Rattle.sx_expand.specs.declared.top.TopAt.{TopAt}
 
@@ -57,3 +57,7 @@ library_record e rs version place exports forms = record_in (top (inside rs full
 -- the same, with the links of its expansion
 abbrev pub library_linked : Expanding → List LibRecord → List ℕ → Span → List (List ℕ × Tree) → List Tree → Result Linked Fault
 library_linked e rs version place exports forms = linked_in (top (inside rs full_room) (body_of e version place) exports forms e.state)
+
+-- the fuel that its expansion spends, where it gives a record
+abbrev pub library_spent : Expanding → List LibRecord → List ℕ → Span → List (List ℕ × Tree) → List Tree → ℕ
+library_spent e rs version place exports forms = spent_in (top (inside rs full_room) (body_of e version place) exports forms e.state)

@@ -101,6 +101,11 @@ abbrev pub linked_in : Result (LibRecord × State) Fault → Result Linked Fault
 linked_in (Err e) = Err e
 linked_in (Ok p) = Ok (record { library = p.0; links = p.1.links })
 
+-- the fuel that was spent, where there is a record
+abbrev pub spent_in : Result (LibRecord × State) Fault → ℕ
+spent_in (Err e) = 0
+spent_in (Ok p) = p.1.spent
+
 abbrev pub kind_of : LibName → BodyKind
 kind_of library.Core = body_kind.Library
 kind_of library.Derived = body_kind.Library

@@ -126,7 +126,7 @@ fn lambda_at(frame: FrameNo, place: &Span, level: u32) -> Result<BodyAt, Memory>
 /// Forms of a body, in order.
 #[cycle(form)]
 fn splice<M: Transformers, N: Ledger, L: Ledger>(
-    state: &mut Expansion,
+    state: &mut Expansion<L>,
     at: &ItemAt<M>,
     taken: &mut Taken,
     forms: &[Syn],
@@ -144,7 +144,7 @@ fn splice<M: Transformers, N: Ledger, L: Ledger>(
 #[cycle(form)]
 #[tactic(auto, using(crate::proofs::Steps::item_step, crate::proofs::Steps::item_too_deep))]
 pub(crate) fn item<M: Transformers, N: Ledger, L: Ledger>(
-    state: &mut Expansion,
+    state: &mut Expansion<L>,
     at: &ItemAt<M>,
     taken: &mut Taken,
     form: &Syn,
@@ -166,7 +166,7 @@ pub(crate) fn item<M: Transformers, N: Ledger, L: Ledger>(
 #[cycle(form)]
 #[tactic(auto, unfolding(crate::specs::Body::item), using(crate::proofs::Steps::earlier_inside))]
 fn item_at<M: Transformers, N: Ledger, L: Ledger>(
-    state: &mut Expansion,
+    state: &mut Expansion<L>,
     at: &ItemAt<M>,
     taken: &mut Taken,
     form: &Syn,
@@ -186,7 +186,7 @@ fn item_at<M: Transformers, N: Ledger, L: Ledger>(
 #[cycle(form)]
 #[tactic(auto, unfolding(crate::specs::Body::perform_item))]
 fn perform_item<M: Transformers, N: Ledger, L: Ledger>(
-    state: &mut Expansion,
+    state: &mut Expansion<L>,
     at: &ItemAt<M>,
     taken: &mut Taken,
     settled: &SettledItem,
@@ -237,7 +237,7 @@ fn perform_item<M: Transformers, N: Ledger, L: Ledger>(
 
 #[cycle(form)]
 fn value_of<M: Transformers, N: Ledger, L: Ledger>(
-    state: &mut Expansion,
+    state: &mut Expansion<L>,
     value: &Option<Syn>,
     at: &FormAt<M>,
     counts: &mut Counts<N, L>,
@@ -254,7 +254,7 @@ fn value_of<M: Transformers, N: Ledger, L: Ledger>(
 #[cycle(form)]
 #[tactic(auto, unfolding(crate::specs::Body::finish_as))]
 pub(crate) fn finish_one<M: Transformers, N: Ledger, L: Ledger>(
-    state: &mut Expansion,
+    state: &mut Expansion<L>,
     waiting: &Waiting,
     at: &FormAt<M>,
     counts: &mut Counts<N, L>,
@@ -298,7 +298,7 @@ pub(crate) fn finish_one<M: Transformers, N: Ledger, L: Ledger>(
 /// The second pass: a line for each that waits, in order. Of `at` the place and the depth are not looked at.
 #[cycle(form)]
 fn finish_all<M: Transformers, N: Ledger, L: Ledger>(
-    state: &mut Expansion,
+    state: &mut Expansion<L>,
     waiting: &[Waiting],
     at: &FormAt<M>,
     counts: &mut Counts<N, L>,
@@ -317,7 +317,7 @@ fn finish_all<M: Transformers, N: Ledger, L: Ledger>(
 #[cycle(form)]
 #[tactic(auto, unfolding(crate::specs::Body::finish))]
 fn finish<M: Transformers, N: Ledger, L: Ledger>(
-    state: &mut Expansion,
+    state: &mut Expansion<L>,
     form: &Syn,
     taken: &Taken,
     at: &FormAt<M>,
@@ -336,7 +336,7 @@ fn finish<M: Transformers, N: Ledger, L: Ledger>(
 #[cycle(form)]
 #[tactic(auto, unfolding(crate::specs::Body::body))]
 pub fn body<M: Transformers, N: Ledger, L: Ledger>(
-    state: &mut Expansion,
+    state: &mut Expansion<L>,
     whole: &BodyForm,
     at: &FormAt<M>,
     counts: &mut Counts<N, L>,
@@ -353,7 +353,7 @@ pub fn body<M: Transformers, N: Ledger, L: Ledger>(
 /// Such a body whose definitions have this frame.
 #[cycle(form)]
 fn body_in<M: Transformers, N: Ledger, L: Ledger>(
-    state: &mut Expansion,
+    state: &mut Expansion<L>,
     frame: FrameNo,
     whole: &BodyForm,
     at: &FormAt<M>,
@@ -375,7 +375,7 @@ fn body_in<M: Transformers, N: Ledger, L: Ledger>(
 /// The first pass over the forms of a body, on which its frame is put.
 #[cycle(form)]
 fn taken_of<M: Transformers, N: Ledger, L: Ledger>(
-    state: &mut Expansion,
+    state: &mut Expansion<L>,
     at: &ItemAt<M>,
     forms: &[Syn],
     counts: &mut Counts<N, L>,

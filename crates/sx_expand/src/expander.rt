@@ -1,36 +1,36 @@
 //! An expander: what has the state of one library's expansion.
 
-ghost use Rattle.std.specs.Prelude.{◌≡◌, IfOk, OnOk, OnErr, true, false, Ok};
+ghost use Rattle.std.specs.Prelude.{◌≡◌, ◌+◌, IfOk, OnOk, OnErr, true, false, Ok};
 ghost use Rattle.sx_base.specs.Act.{GivesAfter};
 ghost use Rattle.sx_base.specs.Gives.{Gives};
 ghost use Rattle.sx_eval.specs.Codes as table;
 ghost use Rattle.sx_stage.specs.Libraries.{earlier_in};
 ghost use Rattle.sx_standing.specs.Ready.{needed_records};
-ghost use Rattle.sx_expand.specs.Expanding.{ready, expression, lambda_body, library_record, library_linked};
+ghost use Rattle.sx_expand.specs.Expanding.{ready, expression, lambda_body, library_record, library_linked, library_spent};
 
 use crate::at::{FormAt, OuterAt};
 use crate::body::{BodyForm, body};
 use crate::expression::expression;
 use crate::inside::ROOM;
+use crate::tally::Tally;
 use crate::top::{Linked, TopAt, TopBody, top};
-use indexmap::IndexMap;
 use std::alloc::Global;
 use std::marker::Model;
-use std::rc::Rc;
 use std::sync::ledger::Ledger;
 use sx_base::atom::Atom;
 use sx_base::fault::Stop;
 use sx_base::items::Items;
 use sx_base::library::LibName;
 use sx_base::memory::Memory;
-use sx_base::name::{CodeNo, FrameNo};
+use sx_base::name::FrameNo;
 use sx_base::span::Span;
 use sx_base::symbol::Symbol;
-use sx_core::code::{Code, Core};
+use sx_core::code::Core;
 use sx_core::record::LibRecord;
+use sx_fuel::fuel::Fuel;
 use sx_standing::expansion::Expansion;
 use sx_standing::means::{Counts, Means};
-use sx_standing::start::Environment;
+use sx_standing::start::{Environment, Supplies};
 use sx_syntax::syn::Syn;
 
 /// The body of a library or program that is to be expanded, where it stands, and its exports and version.
@@ -46,9 +46,9 @@ pub struct LibraryBody<'a> {
 }
 
 /// The state of one library's expansion, and whether a call was refused. After a refusal it is of no use.
-pub struct Expander {
+pub struct Expander<L: Ledger> {
     /// In a box: what owns an expander moves and drops a pointer.
-    state: Box<Expansion>,
+    state: Box<Expansion<L>>,
     /// The frame of imports and definitions.
     frame: FrameNo,
     /// The path of the library's file.
@@ -56,7 +56,7 @@ pub struct Expander {
     failed: bool,
 }
 
-impl Drop for Expander {
+impl<L: Ledger> Drop for Expander<L> {
     /// The parts are dropped here alone: what owns an expander makes one call, and needn't know them.
     fn drop(self) {
         let Expander {
@@ -68,7 +68,7 @@ impl Drop for Expander {
     }
 }
 
-impl Model for Expander {
+impl<L: Ledger> Model for Expander<L> {
     ghost use Rattle.sx_expand.specs.Expanding.{Expanding, expanding_code};
 
     ghost Value = { Expanding };
@@ -78,19 +78,18 @@ impl Model for Expander {
     ghost view = { λ e. record { state = e.state.value; frame = e.frame; path = e.path; failed = e.failed } };
 }
 
-impl Expander {
-    /// An expander for the library of this name, whose file has this path, in its environment. The codes are
-    /// those of procedures that are texts. Two imports of one name are refused as want of memory is.
+impl<L: Ledger> Expander<L> {
+    /// An expander for the library of this name, whose file has this path, in its environment. Two imports of one name are refused as want of memory is.
     pub fn new(
         alloc: Global,
         name: LibName,
         path: Symbol,
         environment: &Environment,
-        codes: IndexMap<CodeNo, Rc<Code>>,
-    ) -> Result<Expander, Stop>
-        ensures { Gives (λ e. e) result (Ok (ready name path (needed_records environment.now.needs.now environment.now.earlier.now) environment.now.imports.now (table.seen codes.entries))) }
+        supplies: Supplies<L>,
+    ) -> Result<Expander<L>, Stop>
+        ensures { Gives (λ e. e) result (Ok (ready name path (needed_records environment.now.needs.now environment.now.earlier.now) environment.now.imports.now (table.seen supplies.codes.entries))) }
     {
-        match begun(alloc, name, path, environment, codes) {
+        match begun(alloc, name, path, environment, supplies) {
             Ok(expander) => Ok(expander),
             Err(memory) => Err(Stop::from(memory)),
         }
@@ -104,7 +103,7 @@ impl Expander {
     }
 
     /// What an expression expands to.
-    pub fn expression<N: Ledger, L: Ledger>(
+    pub fn expression<N: Ledger>(
         &mut self,
         form: &Syn,
         at: &OuterAt,
@@ -135,7 +134,7 @@ impl Expander {
     }
 
     /// What these forms expand to as the body of a procedure.
-    pub fn body<N: Ledger, L: Ledger>(
+    pub fn body<N: Ledger>(
         &mut self,
         forms: &[Syn],
         at: &OuterAt,
@@ -159,46 +158,59 @@ impl Expander {
     }
 
     /// The record of a library or program with this body, whose forms go on the way.
-    pub fn top<N: Ledger, L: Ledger>(
+    pub fn top<N: Ledger>(
         self,
         body: LibraryBody,
         means: &Means,
-        counts: &mut Counts<N, L>,
+        tally: &mut Tally<N, L>,
     ) -> Result<LibRecord, Stop>
         requires { self.failed ≡ false }
-        ensures { Gives (λ r. r) result (library_record self (earlier_in means.now.earlier) body.entry.version body.entry.place.now body.entry.exports.now body.entry.forms) }
+        ensures record { Gives (λ r. r) result (library_record self (earlier_in means.now.earlier) body.entry.version body.entry.place.now body.entry.exports.now body.entry.forms) }
+        ensures fuel { OnOk result (tally.new.fuel ≡ tally.old.fuel + library_spent self (earlier_in means.now.earlier) body.entry.version body.entry.place.now body.entry.exports.now body.entry.forms) }
     {
         let mut expander = self;
-        library_record(&mut expander, body, means, counts)
+        let library = library_record(&mut expander, body, means, &mut tally.counts)?;
+        expander.end(&mut tally.fuel);
+        Ok(library)
     }
 
     /// The record, as `top` gives it, and which identifiers stand for which labels: each identifier with a span that is
     /// bound as a variable, refers to a variable or a primitive, or is assigned, in the order of expansion.
-    pub fn top_linked<N: Ledger, L: Ledger>(
+    pub fn top_linked<N: Ledger>(
         self,
         body: LibraryBody,
         means: &Means,
-        counts: &mut Counts<N, L>,
+        tally: &mut Tally<N, L>,
     ) -> Result<Linked, Stop>
         requires { self.failed ≡ false }
-        ensures { Gives (λ r. r) result (library_linked self (earlier_in means.now.earlier) body.entry.version body.entry.place.now body.entry.exports.now body.entry.forms) }
+        ensures linked { Gives (λ r. r) result (library_linked self (earlier_in means.now.earlier) body.entry.version body.entry.place.now body.entry.exports.now body.entry.forms) }
+        ensures fuel { OnOk result (tally.new.fuel ≡ tally.old.fuel + library_spent self (earlier_in means.now.earlier) body.entry.version body.entry.place.now body.entry.exports.now body.entry.forms) }
     {
         let mut expander = self;
-        library_linked(&mut expander, body, means, counts)
+        let linked = library_linked(&mut expander, body, means, &mut tally.counts)?;
+        expander.end(&mut tally.fuel);
+        Ok(linked)
+    }
+
+    /// What was spent is spent of a run, when nothing follows. It takes no memory.
+    pub fn end(&mut self, fuel: &mut Fuel<L>)
+        ensures { fuel.new ≡ fuel.old + self.old.state.spent }
+    {
+        self.state.end(fuel);
     }
 }
 
 #[tactic(auto, unfolding(sx_standing::specs::Start::started))]
-fn begun(
+fn begun<L: Ledger>(
     alloc: Global,
     name: LibName,
     path: Symbol,
     environment: &Environment,
-    codes: IndexMap<CodeNo, Rc<Code>>,
-) -> Result<Expander, Memory>
-    ensures { IfOk result (λ e. e ≡ ready name path (needed_records environment.now.needs.now environment.now.earlier.now) environment.now.imports.now (table.seen codes.entries)) }
+    supplies: Supplies<L>,
+) -> Result<Expander<L>, Memory>
+    ensures { IfOk result (λ e. e ≡ ready name path (needed_records environment.now.needs.now environment.now.earlier.now) environment.now.imports.now (table.seen supplies.codes.entries)) }
 {
-    let state = Expansion::start(alloc, name, environment, codes)?;
+    let state = Expansion::start(alloc, name, environment, supplies)?;
     let state = Box::new(alloc, state)?;
     let frame = state.first_frame()?;
     Ok(Expander {
@@ -231,12 +243,13 @@ fn body_of(
 /// As `Expander::top`: only the caller owns the expander.
 #[tactic(auto, using(crate::proofs::Linked::record_given, crate::proofs::Linked::record_stops))]
 fn library_record<N: Ledger, L: Ledger>(
-    expander: &mut Expander,
+    expander: &mut Expander<L>,
     body: LibraryBody,
     means: &Means,
     counts: &mut Counts<N, L>,
 ) -> Result<LibRecord, Stop>
-    ensures { Gives (λ r. r) result (library_record expander.old (earlier_in means.now.earlier) body.entry.version body.entry.place.now body.entry.exports.now body.entry.forms) }
+    ensures record { Gives (λ r. r) result (library_record expander.old (earlier_in means.now.earlier) body.entry.version body.entry.place.now body.entry.exports.now body.entry.forms) }
+    ensures spent { OnOk result (expander.new.state.spent ≡ library_spent expander.old (earlier_in means.now.earlier) body.entry.version body.entry.place.now body.entry.exports.now body.entry.forms) }
 {
     match library_linked(expander, body, means, counts) {
         Ok(linked) => {
@@ -249,12 +262,13 @@ fn library_record<N: Ledger, L: Ledger>(
 
 /// As `Expander::top_linked`: only the caller owns the expander.
 fn library_linked<N: Ledger, L: Ledger>(
-    expander: &mut Expander,
+    expander: &mut Expander<L>,
     body: LibraryBody,
     means: &Means,
     counts: &mut Counts<N, L>,
 ) -> Result<Linked, Stop>
-    ensures { Gives (λ r. r) result (library_linked expander.old (earlier_in means.now.earlier) body.entry.version body.entry.place.now body.entry.exports.now body.entry.forms) }
+    ensures linked { Gives (λ r. r) result (library_linked expander.old (earlier_in means.now.earlier) body.entry.version body.entry.place.now body.entry.exports.now body.entry.forms) }
+    ensures spent { OnOk result (expander.new.state.spent ≡ library_spent expander.old (earlier_in means.now.earlier) body.entry.version body.entry.place.now body.entry.exports.now body.entry.forms) }
 {
     let LibraryBody {
         forms,
@@ -268,7 +282,7 @@ fn library_linked<N: Ledger, L: Ledger>(
 }
 
 fn lambda_body<N: Ledger, L: Ledger>(
-    state: &mut Expansion,
+    state: &mut Expansion<L>,
     forms: &[Syn],
     at: &OuterAt,
     means: &Means,

@@ -119,7 +119,7 @@ pub(crate) fn stamp_all<N: Ledger>(
 #[cycle(form)]
 #[tactic(auto, using(crate::proofs::Steps::form_step, crate::proofs::Steps::form_too_deep))]
 pub fn expression<M: Transformers, N: Ledger, L: Ledger>(
-    state: &mut Expansion,
+    state: &mut Expansion<L>,
     form: &Syn,
     at: &FormAt<M>,
     counts: &mut Counts<N, L>,
@@ -139,7 +139,7 @@ pub fn expression<M: Transformers, N: Ledger, L: Ledger>(
 /// An expression that a frame is put on.
 #[cycle(form)]
 pub(crate) fn expression_in<M: Transformers, N: Ledger, L: Ledger>(
-    state: &mut Expansion,
+    state: &mut Expansion<L>,
     frame: &FrameNo,
     form: &Syn,
     at: &FormAt<M>,
@@ -155,7 +155,7 @@ pub(crate) fn expression_in<M: Transformers, N: Ledger, L: Ledger>(
 #[cycle(form)]
 #[tactic(auto, unfolding(crate::specs::Expression::form_at), using(crate::proofs::Steps::earlier_inside))]
 fn form_at<M: Transformers, N: Ledger, L: Ledger>(
-    state: &mut Expansion,
+    state: &mut Expansion<L>,
     form: &Syn,
     at: &FormAt<M>,
     counts: &mut Counts<N, L>,
@@ -177,7 +177,7 @@ fn form_at<M: Transformers, N: Ledger, L: Ledger>(
 #[cycle(form)]
 #[tactic(auto, unfolding(crate::specs::Expression::perform))]
 fn perform<M: Transformers, N: Ledger, L: Ledger>(
-    state: &mut Expansion,
+    state: &mut Expansion<L>,
     form: &Syn,
     plan: Plan,
     at: &FormAt<M>,
@@ -195,7 +195,7 @@ fn perform<M: Transformers, N: Ledger, L: Ledger>(
 #[cycle(form)]
 #[tactic(auto, unfolding(crate::specs::Expression::perform))]
 fn perform_plan<M: Transformers, N: Ledger, L: Ledger>(
-    state: &mut Expansion,
+    state: &mut Expansion<L>,
     form: &Syn,
     plan: &Plan,
     at: &FormAt<M>,
@@ -276,7 +276,7 @@ fn perform_plan<M: Transformers, N: Ledger, L: Ledger>(
 #[cycle(form)]
 #[tactic(auto, unfolding(crate::specs::Expression::application))]
 fn application<M: Transformers, N: Ledger, L: Ledger>(
-    state: &mut Expansion,
+    state: &mut Expansion<L>,
     operator: &Syn,
     operands: &[Syn],
     at: &FormAt<M>,
@@ -292,7 +292,7 @@ fn application<M: Transformers, N: Ledger, L: Ledger>(
 #[cycle(form)]
 #[tactic(auto, unfolding(crate::specs::Expression::conditional))]
 fn conditional<M: Transformers, N: Ledger, L: Ledger>(
-    state: &mut Expansion,
+    state: &mut Expansion<L>,
     parts: &IfForm,
     at: &FormAt<M>,
     counts: &mut Counts<N, L>,
@@ -307,7 +307,7 @@ fn conditional<M: Transformers, N: Ledger, L: Ledger>(
 
 #[cycle(form)]
 fn alternate<M: Transformers, N: Ledger, L: Ledger>(
-    state: &mut Expansion,
+    state: &mut Expansion<L>,
     tested: OneArmed,
     other: &Option<Syn>,
     at: &FormAt<M>,
@@ -328,7 +328,7 @@ fn alternate<M: Transformers, N: Ledger, L: Ledger>(
 #[cycle(form)]
 #[tactic(auto, unfolding(crate::specs::Expression::set))]
 fn set<M: Transformers, N: Ledger, L: Ledger>(
-    state: &mut Expansion,
+    state: &mut Expansion<L>,
     label: &Label,
     value: &Syn,
     at: &FormAt<M>,
@@ -343,7 +343,7 @@ fn set<M: Transformers, N: Ledger, L: Ledger>(
 #[cycle(form)]
 #[tactic(auto, unfolding(crate::specs::Expression::in_sequence))]
 pub(crate) fn in_sequence<M: Transformers, N: Ledger, L: Ledger>(
-    state: &mut Expansion,
+    state: &mut Expansion<L>,
     forms: &[Syn],
     at: &FormAt<M>,
     counts: &mut Counts<N, L>,
@@ -356,7 +356,7 @@ pub(crate) fn in_sequence<M: Transformers, N: Ledger, L: Ledger>(
 
 #[cycle(form)]
 fn in_order<M: Transformers, N: Ledger, L: Ledger>(
-    state: &mut Expansion,
+    state: &mut Expansion<L>,
     forms: &[Syn],
     at: &FormAt<M>,
     counts: &mut Counts<N, L>,
@@ -374,7 +374,7 @@ fn in_order<M: Transformers, N: Ledger, L: Ledger>(
 #[cycle(form)]
 #[tactic(auto, unfolding(crate::specs::Expression::lambda))]
 fn lambda<M: Transformers, N: Ledger, L: Ledger>(
-    state: &mut Expansion,
+    state: &mut Expansion<L>,
     parts: &ProcedureForm,
     at: &FormAt<M>,
     counts: &mut Counts<N, L>,
@@ -389,7 +389,7 @@ fn lambda<M: Transformers, N: Ledger, L: Ledger>(
 #[cycle(form)]
 #[tactic(auto, unfolding(crate::specs::Expression::case_lambda))]
 fn case_lambda<M: Transformers, N: Ledger, L: Ledger>(
-    state: &mut Expansion,
+    state: &mut Expansion<L>,
     form: &Syn,
     cases: &[LambdaCase],
     at: &FormAt<M>,
@@ -404,7 +404,7 @@ fn case_lambda<M: Transformers, N: Ledger, L: Ledger>(
 
 #[cycle(form)]
 fn all_cases<M: Transformers, N: Ledger, L: Ledger>(
-    state: &mut Expansion,
+    state: &mut Expansion<L>,
     form: &Syn,
     cases: &[LambdaCase],
     at: &FormAt<M>,
@@ -429,7 +429,7 @@ fn all_cases<M: Transformers, N: Ledger, L: Ledger>(
 #[cycle(form)]
 #[tactic(auto, unfolding(crate::specs::Expression::lambda_case))]
 pub fn lambda_case<M: Transformers, N: Ledger, L: Ledger>(
-    state: &mut Expansion,
+    state: &mut Expansion<L>,
     parts: &ProcedureForm,
     at: &FormAt<M>,
     counts: &mut Counts<N, L>,
@@ -446,7 +446,7 @@ pub fn lambda_case<M: Transformers, N: Ledger, L: Ledger>(
 /// A case whose formals have this frame.
 #[cycle(form)]
 fn case_in<M: Transformers, N: Ledger, L: Ledger>(
-    state: &mut Expansion,
+    state: &mut Expansion<L>,
     frame: &FrameNo,
     parts: &ProcedureForm,
     at: &FormAt<M>,
@@ -471,7 +471,7 @@ fn case_in<M: Transformers, N: Ledger, L: Ledger>(
 /// A body on whose forms a frame is put.
 #[cycle(form)]
 fn body_under<M: Transformers, N: Ledger, L: Ledger>(
-    state: &mut Expansion,
+    state: &mut Expansion<L>,
     frame: &FrameNo,
     whole: &BodyForm,
     at: &FormAt<M>,
@@ -492,7 +492,7 @@ fn body_under<M: Transformers, N: Ledger, L: Ledger>(
 #[cycle(form)]
 #[tactic(auto, using(crate::proofs::Steps::procedure_step, crate::proofs::Steps::procedure_too_deep))]
 pub fn procedure<M: Transformers, N: Ledger, L: Ledger>(
-    state: &mut Expansion,
+    state: &mut Expansion<L>,
     parts: &ProcedureForm,
     at: &FormAt<M>,
     counts: &mut Counts<N, L>,
@@ -512,7 +512,7 @@ pub fn procedure<M: Transformers, N: Ledger, L: Ledger>(
 #[cycle(form)]
 #[tactic(auto, unfolding(crate::specs::Expression::letrec_form))]
 fn letrec_form<M: Transformers, N: Ledger, L: Ledger>(
-    state: &mut Expansion,
+    state: &mut Expansion<L>,
     parts: &LetrecForm,
     at: &FormAt<M>,
     counts: &mut Counts<N, L>,
@@ -529,7 +529,7 @@ fn letrec_form<M: Transformers, N: Ledger, L: Ledger>(
 /// A `letrec` or `letrec*` whose variables have this frame.
 #[cycle(form)]
 fn letrec_in<M: Transformers, N: Ledger, L: Ledger>(
-    state: &mut Expansion,
+    state: &mut Expansion<L>,
     frame: &FrameNo,
     parts: &LetrecForm,
     at: &FormAt<M>,
@@ -555,7 +555,7 @@ fn letrec_in<M: Transformers, N: Ledger, L: Ledger>(
 
 #[cycle(form)]
 fn all_inits<M: Transformers, N: Ledger, L: Ledger>(
-    state: &mut Expansion,
+    state: &mut Expansion<L>,
     frame: &FrameNo,
     bound: &[BoundSpec],
     at: &FormAt<M>,
@@ -574,7 +574,7 @@ fn all_inits<M: Transformers, N: Ledger, L: Ledger>(
 #[cycle(form)]
 #[tactic(auto, unfolding(crate::specs::Expression::one_init))]
 fn one_init<M: Transformers, N: Ledger, L: Ledger>(
-    state: &mut Expansion,
+    state: &mut Expansion<L>,
     frame: &FrameNo,
     bound: &BoundSpec,
     at: &FormAt<M>,

@@ -54,7 +54,7 @@ pub(crate) struct KeywordDefinition<'a> {
 /// An expression with nothing in scope.
 #[cycle(form)]
 fn expression_apart<M: Transformers, N: Ledger, L: Ledger>(
-    state: &mut Expansion,
+    state: &mut Expansion<L>,
     form: &Syn,
     at: &FormAt<M>,
     counts: &mut Counts<N, L>,
@@ -71,7 +71,7 @@ fn expression_apart<M: Transformers, N: Ledger, L: Ledger>(
 #[cycle(form)]
 #[tactic(auto, unfolding(crate::specs::Keywords::keyword), using(crate::proofs::Steps::earlier_inside))]
 fn keyword<M: Transformers, N: Ledger, L: Ledger>(
-    state: &mut Expansion,
+    state: &mut Expansion<L>,
     bound: &BoundSpec,
     at: &FormAt<M>,
     counts: &mut Counts<N, L>,
@@ -112,7 +112,7 @@ fn seen_in<N: Ledger>(
 
 #[cycle(form)]
 fn keyword_in<M: Transformers, N: Ledger, L: Ledger>(
-    state: &mut Expansion,
+    state: &mut Expansion<L>,
     scope: &KeywordFrame,
     bound: &BoundSpec,
     at: &FormAt<M>,
@@ -132,7 +132,7 @@ fn keyword_in<M: Transformers, N: Ledger, L: Ledger>(
 
 #[cycle(form)]
 fn all_keywords<M: Transformers, N: Ledger, L: Ledger>(
-    state: &mut Expansion,
+    state: &mut Expansion<L>,
     scope: &KeywordFrame,
     bound: &[BoundSpec],
     at: &FormAt<M>,
@@ -150,7 +150,7 @@ fn all_keywords<M: Transformers, N: Ledger, L: Ledger>(
 #[cycle(form)]
 #[tactic(auto, unfolding(crate::specs::Keywords::keywords))]
 fn keywords<M: Transformers, N: Ledger, L: Ledger>(
-    state: &mut Expansion,
+    state: &mut Expansion<L>,
     scope: &KeywordFrame,
     specs: &[BindingSpec],
     at: &FormAt<M>,
@@ -170,7 +170,7 @@ fn keywords<M: Transformers, N: Ledger, L: Ledger>(
 /// The forms among the keywords of `let-syntax` or `letrec-syntax`, which are evaluated.
 #[cycle(form)]
 pub(crate) fn with_keywords<M: Transformers, N: Ledger, L: Ledger>(
-    state: &mut Expansion,
+    state: &mut Expansion<L>,
     parts: &LetSyntaxForm,
     at: &FormAt<M>,
     counts: &mut Counts<N, L>,
@@ -190,7 +190,7 @@ pub(crate) fn with_keywords<M: Transformers, N: Ledger, L: Ledger>(
 #[cycle(form)]
 #[tactic(auto, unfolding(crate::specs::Expression::keywords_form))]
 pub(crate) fn keywords_form<M: Transformers, N: Ledger, L: Ledger>(
-    state: &mut Expansion,
+    state: &mut Expansion<L>,
     parts: &LetSyntaxForm,
     at: &FormAt<M>,
     counts: &mut Counts<N, L>,
@@ -205,7 +205,7 @@ pub(crate) fn keywords_form<M: Transformers, N: Ledger, L: Ledger>(
 #[cycle(form)]
 #[tactic(auto, unfolding(crate::specs::Keywords::define_syntax))]
 pub(crate) fn define_syntax<M: Transformers, N: Ledger, L: Ledger>(
-    state: &mut Expansion,
+    state: &mut Expansion<L>,
     at: &ItemAt<M>,
     taken: &Taken,
     definition: &KeywordDefinition,

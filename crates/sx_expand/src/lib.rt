@@ -34,5 +34,6 @@ pub mod links;
 pub mod patterns;
 pub mod quasi;
 pub mod settle;
+pub mod tally;
 pub mod top;
 pub mod transformers;

@@ -6,6 +6,7 @@ ghost use Rattle.sx_standing.specs.State.{noted};
 ghost use Rattle.sx_expand.specs.Settle.{linked, linked_code, linked_primitive, target_span, first_span};
 
 use std::rc::Rc;
+use std::sync::ledger::Ledger;
 use sx_base::library::LibName;
 use sx_base::memory::Memory;
 use sx_base::name::{Label, Name};
@@ -17,7 +18,7 @@ use sx_standing::expansion::Expansion;
 use sx_syntax::syn::{Opened, Syn};
 
 /// Links an identifier to a primitive.
-fn link_primitive(state: &mut Expansion, id: &Syn, op: Op) -> Result<(), Memory>
+fn link_primitive<L: Ledger>(state: &mut Expansion<L>, id: &Syn, op: Op) -> Result<(), Memory>
     ensures { OnOk result (state.new ≡ linked_primitive id.now op state.old) }
 {
     let library = Rc::new(state.alloc(), LibName::Core)?;
@@ -29,7 +30,7 @@ fn link_primitive(state: &mut Expansion, id: &Syn, op: Op) -> Result<(), Memory>
 }
 
 /// Links a form that is a reference to a variable or a primitive.
-fn link_code(state: &mut Expansion, form: &Syn, core: &Core) -> Result<(), Memory>
+fn link_code<L: Ledger>(state: &mut Expansion<L>, form: &Syn, core: &Core) -> Result<(), Memory>
     ensures { OnOk result (state.new ≡ linked_code form.now core.now state.old) }
 {
     match &core.node {
@@ -40,7 +41,7 @@ fn link_code(state: &mut Expansion, form: &Syn, core: &Core) -> Result<(), Memor
 }
 
 /// Links the first element of a list to the variable that it stands for.
-fn link_first(state: &mut Expansion, list: &Syn, label: &Label) -> Result<(), Memory>
+fn link_first<L: Ledger>(state: &mut Expansion<L>, list: &Syn, label: &Label) -> Result<(), Memory>
     ensures { OnOk result (state.new ≡ noted (first_span list.now) label.now links.Refer state.old) }
 {
     match list.open(state.alloc())? {
@@ -50,7 +51,7 @@ fn link_first(state: &mut Expansion, list: &Syn, label: &Label) -> Result<(), Me
 }
 
 /// Links the target of an assignment to the variable that it stands for.
-fn link_target(state: &mut Expansion, form: &Syn, label: &Label) -> Result<(), Memory>
+fn link_target<L: Ledger>(state: &mut Expansion<L>, form: &Syn, label: &Label) -> Result<(), Memory>
     ensures { OnOk result (state.new ≡ noted (target_span form.now) label.now links.Refer state.old) }
 {
     match form.open(state.alloc())? {
@@ -60,7 +61,11 @@ fn link_target(state: &mut Expansion, form: &Syn, label: &Label) -> Result<(), M
 }
 
 /// Links a form that is a reference, or the target of one that is an assignment.
-pub(crate) fn link(state: &mut Expansion, form: &Syn, plan: &Plan) -> Result<(), Memory>
+pub(crate) fn link<L: Ledger>(
+    state: &mut Expansion<L>,
+    form: &Syn,
+    plan: &Plan,
+) -> Result<(), Memory>
     ensures { OnOk result (state.new ≡ linked form.now plan.now state.old) }
 {
     match plan {

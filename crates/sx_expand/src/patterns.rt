@@ -43,7 +43,7 @@ struct FramedCase<'a> {
 
 #[cycle(form)]
 fn fender<M: Transformers, N: Ledger, L: Ledger>(
-    state: &mut Expansion,
+    state: &mut Expansion<L>,
     frame: &FrameNo,
     form: &Option<Syn>,
     at: &FormAt<M>,
@@ -64,7 +64,7 @@ fn fender<M: Transformers, N: Ledger, L: Ledger>(
 #[cycle(form)]
 #[tactic(auto, unfolding(crate::specs::Expression::pattern_clause))]
 fn pattern_clause<M: Transformers, N: Ledger, L: Ledger>(
-    state: &mut Expansion,
+    state: &mut Expansion<L>,
     literals: &[Syn],
     case: &PatternCase,
     at: &FormAt<M>,
@@ -86,7 +86,7 @@ fn pattern_clause<M: Transformers, N: Ledger, L: Ledger>(
 /// A clause whose variables have this frame.
 #[cycle(form)]
 fn clause_in<M: Transformers, N: Ledger, L: Ledger>(
-    state: &mut Expansion,
+    state: &mut Expansion<L>,
     literals: &[Syn],
     framed: &FramedCase,
     at: &FormAt<M>,
@@ -108,7 +108,7 @@ fn clause_in<M: Transformers, N: Ledger, L: Ledger>(
 /// A clause whose pattern is compiled, and its variables bound.
 #[cycle(form)]
 fn clause_of<M: Transformers, N: Ledger, L: Ledger>(
-    state: &mut Expansion,
+    state: &mut Expansion<L>,
     framed: &FramedCase,
     pattern: Pattern,
     at: &FormAt<M>,
@@ -127,7 +127,7 @@ fn clause_of<M: Transformers, N: Ledger, L: Ledger>(
 
 #[cycle(form)]
 fn all_clauses<M: Transformers, N: Ledger, L: Ledger>(
-    state: &mut Expansion,
+    state: &mut Expansion<L>,
     literals: &[Syn],
     cases: &[PatternCase],
     at: &FormAt<M>,
@@ -147,7 +147,7 @@ fn all_clauses<M: Transformers, N: Ledger, L: Ledger>(
 #[cycle(form)]
 #[tactic(auto, unfolding(crate::specs::Expression::syntax_case))]
 pub(crate) fn syntax_case<M: Transformers, N: Ledger, L: Ledger>(
-    state: &mut Expansion,
+    state: &mut Expansion<L>,
     parts: &SyntaxCaseForm,
     at: &FormAt<M>,
     counts: &mut Counts<N, L>,

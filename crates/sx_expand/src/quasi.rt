@@ -33,7 +33,7 @@ pub(crate) struct TemplateForm<'a> {
 /// The parts in order, each at its own depth: that of `at` is not looked at.
 #[cycle(form)]
 fn parts_in_order<M: Transformers, N: Ledger, L: Ledger>(
-    state: &mut Expansion,
+    state: &mut Expansion<L>,
     parts: &[Part],
     at: &FormAt<M>,
     counts: &mut Counts<N, L>,
@@ -55,7 +55,7 @@ fn parts_in_order<M: Transformers, N: Ledger, L: Ledger>(
 /// The code of the parts of a template, in order.
 #[cycle(form)]
 fn cores_of<M: Transformers, N: Ledger, L: Ledger>(
-    state: &mut Expansion,
+    state: &mut Expansion<L>,
     form: &Syn,
     quasi: &QuasiForm,
     at: &FormAt<M>,
@@ -71,7 +71,7 @@ fn cores_of<M: Transformers, N: Ledger, L: Ledger>(
 #[cycle(form)]
 #[tactic(auto, unfolding(crate::specs::Quasi::quasi_form))]
 pub(crate) fn quasi_form<M: Transformers, N: Ledger, L: Ledger>(
-    state: &mut Expansion,
+    state: &mut Expansion<L>,
     parts: &TemplateForm,
     at: &FormAt<M>,
     counts: &mut Counts<N, L>,

@@ -73,7 +73,7 @@ struct Target {
 
 /// The form that a use gives, of a keyword with a transformer or of a record form.
 fn used_form<M: Transformers, N: Ledger, L: Ledger>(
-    state: &mut Expansion,
+    state: &mut Expansion<L>,
     used: MacroUse,
     means: &M,
     counts: &mut Counts<N, L>,
@@ -96,7 +96,7 @@ fn used_form<M: Transformers, N: Ledger, L: Ledger>(
 /// The form that a use gives, after which so many uses are left.
 #[tactic(auto, unfolding(crate::specs::Settle::next_form))]
 fn next_form<M: Transformers, N: Ledger, L: Ledger>(
-    state: &mut Expansion,
+    state: &mut Expansion<L>,
     left: u32,
     used: MacroUse,
     means: &M,
@@ -121,8 +121,8 @@ fn next_form<M: Transformers, N: Ledger, L: Ledger>(
     used_form(state, used, means, counts)
 }
 
-fn set_step(
-    state: &mut Expansion,
+fn set_step<L: Ledger>(
+    state: &mut Expansion<L>,
     form: &Syn,
     target: Target,
     is_use: bool,
@@ -137,7 +137,7 @@ fn set_step(
 }
 
 fn step_of<M: Transformers, N: Ledger, L: Ledger>(
-    state: &mut Expansion,
+    state: &mut Expansion<L>,
     form: &Syn,
     plan: Plan,
     at: &FormAt<M>,
@@ -159,7 +159,7 @@ fn step_of<M: Transformers, N: Ledger, L: Ledger>(
 
 #[tactic(auto, unfolding(crate::specs::Settle::step))]
 fn next_step<M: Transformers, N: Ledger, L: Ledger>(
-    state: &mut Expansion,
+    state: &mut Expansion<L>,
     form: &Syn,
     at: &FormAt<M>,
     counts: &mut Counts<N, L>,
@@ -171,7 +171,12 @@ fn next_step<M: Transformers, N: Ledger, L: Ledger>(
 }
 
 /// A form that is no use, and its plan. The identifier that it is, or that it assigns, is linked.
-fn settled_form(state: &mut Expansion, place: Span, form: Syn, plan: Plan) -> Result<Settled, Stop>
+fn settled_form<L: Ledger>(
+    state: &mut Expansion<L>,
+    place: Span,
+    form: Syn,
+    plan: Plan,
+) -> Result<Settled, Stop>
     ensures { GivesAfter (λ d. d) result state.new (Ok (record { place = place; form = form; plan = plan }, linked form plan state.old)) }
 {
     link(state, &form, &plan)?;
@@ -181,7 +186,7 @@ fn settled_form(state: &mut Expansion, place: Span, form: Syn, plan: Plan) -> Re
 /// What is to be done with the form that comes of the uses of keywords that a form begins with. What comes of
 /// a use stands at the place of the use.
 pub(crate) fn settle<M: Transformers, N: Ledger, L: Ledger>(
-    state: &mut Expansion,
+    state: &mut Expansion<L>,
     form: &Syn,
     at: &FormAt<M>,
     counts: &mut Counts<N, L>,
@@ -248,8 +253,8 @@ fn share_at(at: &BodyAt) -> Result<BodyAt, Memory>
     })
 }
 
-fn set_item_step<M>(
-    state: &mut Expansion,
+fn set_item_step<M, L: Ledger>(
+    state: &mut Expansion<L>,
     one: &ItemForm<M>,
     taken: &mut Taken,
     label: Label,
@@ -265,7 +270,7 @@ fn set_item_step<M>(
 }
 
 fn item_step_of<M: Transformers, N: Ledger, L: Ledger>(
-    state: &mut Expansion,
+    state: &mut Expansion<L>,
     one: &ItemForm<M>,
     taken: &mut Taken,
     item: Item,
@@ -286,7 +291,7 @@ fn item_step_of<M: Transformers, N: Ledger, L: Ledger>(
 
 #[tactic(auto, unfolding(crate::specs::Settle::item_step))]
 fn item_step<M: Transformers, N: Ledger, L: Ledger>(
-    state: &mut Expansion,
+    state: &mut Expansion<L>,
     one: &ItemForm<M>,
     taken: &mut Taken,
     counts: &mut Counts<N, L>,
@@ -300,7 +305,7 @@ fn item_step<M: Transformers, N: Ledger, L: Ledger>(
 /// As `settle`, of a form of a body. A use gets the frame of the body, so that what comes of it can bind in
 /// that frame.
 pub(crate) fn settle_item<M: Transformers, N: Ledger, L: Ledger>(
-    state: &mut Expansion,
+    state: &mut Expansion<L>,
     at: &ItemAt<M>,
     taken: &mut Taken,
     form: &Syn,

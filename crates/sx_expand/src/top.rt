@@ -6,7 +6,7 @@ ghost use Rattle.sx_base.specs.Gives.{Gives};
 ghost use Rattle.sx_stage.specs.Libraries.{earlier_in};
 ghost use Rattle.sx_expand.specs.Body.{finish_one, finish_all, splice};
 ghost use Rattle.sx_expand.specs.Expression.{inside, full_room};
-ghost use Rattle.sx_expand.specs.Top.{export, all_exports, exports, with_label_of, with_labels_of, code_of, with_lines_of, refs_of, record_of, linked_in, kind_of, body_at, first_pass, finished, top};
+ghost use Rattle.sx_expand.specs.Top.{export, all_exports, exports, with_label_of, with_labels_of, code_of, with_lines_of, refs_of, record_of, linked_in, spent_in, kind_of, body_at, first_pass, finished, top};
 
 use crate::at::{FormAt, ItemAt};
 use crate::body::{begun, finish_one, item};
@@ -63,8 +63,8 @@ pub struct Linked {
 
 /// The label that an export stands for, with its external name.
 #[tactic(auto, unfolding(crate::specs::Top::export))]
-fn export<N: Ledger>(
-    state: &mut Expansion,
+fn export<N: Ledger, L: Ledger>(
+    state: &mut Expansion<L>,
     at: &TopAt,
     external: &Symbol,
     id: &Syn,
@@ -79,8 +79,8 @@ fn export<N: Ledger>(
     }
 }
 
-fn all_exports<N: Ledger>(
-    state: &mut Expansion,
+fn all_exports<N: Ledger, L: Ledger>(
+    state: &mut Expansion<L>,
     at: &TopAt,
     list: &[(Symbol, Syn)],
     nodes: &mut Steps<N>,
@@ -97,8 +97,8 @@ fn all_exports<N: Ledger>(
 
 /// The exports, which are looked for between the two passes.
 #[tactic(auto, unfolding(crate::specs::Top::exports))]
-fn exports<N: Ledger>(
-    state: &mut Expansion,
+fn exports<N: Ledger, L: Ledger>(
+    state: &mut Expansion<L>,
     at: &TopAt,
     list: &[(Symbol, Syn)],
     nodes: &mut Steps<N>,
@@ -159,14 +159,15 @@ fn refs_of(alloc: Global, own: &LibName, lines: &[Line]) -> Result<Items<LibName
     done.into_items(alloc)
 }
 
-fn record_of(
-    state: &mut Expansion,
+fn record_of<L: Ledger>(
+    state: &mut Expansion<L>,
     at: TopAt,
     exports: Items<(Symbol, Label)>,
     lines: Vec<Line>,
 ) -> Result<LibRecord, Memory>
     ensures given { IfOk result (λ r. r ≡ record_of at exports lines.items state.old) }
     ensures links { state.new.links ≡ state.old.links }
+    ensures spent { OnOk result (state.new.spent ≡ state.old.spent) }
 {
     let alloc = state.alloc();
     let name = share_library(alloc, state.library())?;
@@ -199,7 +200,7 @@ fn kind_of(library: &LibName) -> BodyKind
 
 /// The line of one that has waited, which is dropped here.
 fn finish_next<N: Ledger, L: Ledger>(
-    state: &mut Expansion,
+    state: &mut Expansion<L>,
     one: Waiting,
     at: &FormAt<Means>,
     counts: &mut Counts<N, L>,
@@ -213,7 +214,7 @@ fn finish_next<N: Ledger, L: Ledger>(
 /// and their core code aren't kept side by side.
 #[tactic(auto, using(crate::proofs::Taking::each_none))]
 fn finish_each<N: Ledger, L: Ledger>(
-    state: &mut Expansion,
+    state: &mut Expansion<L>,
     waiting: Items<Waiting>,
     at: &FormAt<Means>,
     counts: &mut Counts<N, L>,
@@ -233,13 +234,14 @@ fn finish_each<N: Ledger, L: Ledger>(
 /// What comes after the first pass.
 #[tactic(auto, unfolding(crate::specs::Top::finished))]
 fn finished<N: Ledger, L: Ledger>(
-    state: &mut Expansion,
+    state: &mut Expansion<L>,
     body: TopBody,
     taken: Taken,
     means: &Means,
     counts: &mut Counts<N, L>,
 ) -> Result<Linked, Stop>
-    ensures { Gives (λ r. r) result (linked_in (finished (inside (earlier_in means.now.earlier) full_room) body.entry.at body.entry.exports.now taken state.old)) }
+    ensures linked { Gives (λ r. r) result (linked_in (finished (inside (earlier_in means.now.earlier) full_room) body.entry.at body.entry.exports.now taken state.old)) }
+    ensures spent { OnOk result (state.new.spent ≡ spent_in (finished (inside (earlier_in means.now.earlier) full_room) body.entry.at body.entry.exports.now taken state.old)) }
 {
     let TopBody { at, exports: list } = body;
     let exports = exports(state, &at, list, counts.nodes)?;
@@ -258,7 +260,7 @@ fn finished<N: Ledger, L: Ledger>(
     Ok(Linked { library, links })
 }
 
-fn body_at(state: &Expansion, at: &TopAt) -> Result<BodyAt, Memory>
+fn body_at<L: Ledger>(state: &Expansion<L>, at: &TopAt) -> Result<BodyAt, Memory>
     ensures { IfOk result (λ b. b ≡ body_at at.now state.now.library) }
 {
     let frame = at.frame.share()?;
@@ -276,7 +278,7 @@ fn body_at(state: &Expansion, at: &TopAt) -> Result<BodyAt, Memory>
 /// aren't kept side by side.
 #[tactic(auto, using(crate::proofs::Taking::gather_none))]
 fn splice_each<N: Ledger, L: Ledger>(
-    state: &mut Expansion,
+    state: &mut Expansion<L>,
     at: &ItemAt<Means>,
     taken: &mut Taken,
     forms: Items<Syn>,
@@ -294,7 +296,7 @@ fn splice_each<N: Ledger, L: Ledger>(
 /// The first pass over the body of a library or program.
 #[tactic(auto, unfolding(crate::specs::Top::first_pass))]
 fn first_pass<N: Ledger, L: Ledger>(
-    state: &mut Expansion,
+    state: &mut Expansion<L>,
     at: &TopAt,
     forms: Items<Syn>,
     means: &Means,
@@ -316,16 +318,17 @@ fn first_pass<N: Ledger, L: Ledger>(
     Ok(taken)
 }
 
-/// The body of a library or program: its record and links. Nothing is known of the state that is left.
+/// The body of a library or program: its record and links. Of the state that is left its fuel is known alone.
 #[tactic(auto, unfolding(crate::specs::Top::top))]
 pub fn top<N: Ledger, L: Ledger>(
-    state: &mut Expansion,
+    state: &mut Expansion<L>,
     body: TopBody,
     forms: Items<Syn>,
     means: &Means,
     counts: &mut Counts<N, L>,
 ) -> Result<Linked, Stop>
-    ensures { Gives (λ r. r) result (linked_in (top (inside (earlier_in means.now.earlier) full_room) body.entry.at body.entry.exports.now forms state.old)) }
+    ensures linked { Gives (λ r. r) result (linked_in (top (inside (earlier_in means.now.earlier) full_room) body.entry.at body.entry.exports.now forms state.old)) }
+    ensures spent { OnOk result (state.new.spent ≡ spent_in (top (inside (earlier_in means.now.earlier) full_room) body.entry.at body.entry.exports.now forms state.old)) }
 {
     let taken = first_pass(state, &body.at, forms, means, counts)?;
     finished(state, body, taken, means, counts)

@@ -26,7 +26,7 @@ pub trait Transformers {
     /// What comes of a use of the keyword with this label. Faults of evaluation stand at the place in `used`.
     fn use_keyword<N: Ledger, L: Ledger>(
         &self,
-        state: &mut Expansion,
+        state: &mut Expansion<L>,
         used: UsedForm,
         label: &Label,
         counts: &mut Counts<N, L>,
@@ -36,7 +36,7 @@ pub trait Transformers {
     /// Whether an assignment to a keyword is a use of it.
     fn asks_variable<N: Ledger, L: Ledger>(
         &self,
-        state: &mut Expansion,
+        state: &mut Expansion<L>,
         place: &Span,
         label: &Label,
         counts: &mut Counts<N, L>,
@@ -46,7 +46,7 @@ pub trait Transformers {
     /// Evaluates the expression of a keyword, of which this is the code, and keeps what it gives.
     fn finish_keyword<N: Ledger, L: Ledger>(
         &self,
-        state: &mut Expansion,
+        state: &mut Expansion<L>,
         keyword: &KeywordAt,
         code: Core,
         counts: &mut Counts<N, L>,
@@ -59,7 +59,7 @@ impl<'a> Transformers for Means<'a> {
 
     fn use_keyword<N: Ledger, L: Ledger>(
         &self,
-        state: &mut Expansion,
+        state: &mut Expansion<L>,
         used: UsedForm,
         label: &Label,
         counts: &mut Counts<N, L>,
@@ -69,7 +69,7 @@ impl<'a> Transformers for Means<'a> {
 
     fn asks_variable<N: Ledger, L: Ledger>(
         &self,
-        state: &mut Expansion,
+        state: &mut Expansion<L>,
         place: &Span,
         label: &Label,
         counts: &mut Counts<N, L>,
@@ -79,7 +79,7 @@ impl<'a> Transformers for Means<'a> {
 
     fn finish_keyword<N: Ledger, L: Ledger>(
         &self,
-        state: &mut Expansion,
+        state: &mut Expansion<L>,
         keyword: &KeywordAt,
         code: Core,
         counts: &mut Counts<N, L>,

@@ -10,6 +10,7 @@ use crate::item::Item;
 use crate::kept::KeptHeads;
 use crate::plan::{KeywordUse, is_letrec_syntax};
 use crate::taken::{BodyAt, BodyKind, KeptHead, Taken, Waiting, Waits};
+use std::sync::ledger::Ledger;
 use sx_base::fault::{FaultKind, Stop};
 use sx_base::items::Items;
 use sx_base::memory::Memory;
@@ -65,7 +66,7 @@ fn same_standing(a: &Option<Label>, b: &Option<Label>) -> bool
     }
 }
 
-fn is_keyword_label(state: &Expansion, label: &Option<Label>) -> Result<bool, Memory>
+fn is_keyword_label<L: Ledger>(state: &Expansion<L>, label: &Option<Label>) -> Result<bool, Memory>
     ensures { IfOk result (λ b. b ≡ is_keyword_label state.now label.now) }
 {
     match label {
@@ -80,7 +81,11 @@ fn is_keyword_label(state: &Expansion, label: &Option<Label>) -> Result<bool, Me
 /// Whether a head stands for another label now, where it stood for a keyword or the definition is one of a
 /// keyword.
 #[tactic(auto, unfolding(crate::specs::Items::is_changed))]
-fn is_changed(state: &mut Expansion, keyword: bool, kept: &KeptHead) -> Result<bool, Memory>
+fn is_changed<L: Ledger>(
+    state: &mut Expansion<L>,
+    keyword: bool,
+    kept: &KeptHead,
+) -> Result<bool, Memory>
     ensures changed { IfOk result (λ b. b ≡ is_changed keyword state.old kept.now) }
     ensures unchanged { state.new ≡ state.old }
 {
@@ -91,7 +96,11 @@ fn is_changed(state: &mut Expansion, keyword: bool, kept: &KeptHead) -> Result<b
     Ok(!same_standing(&now, &kept.label))
 }
 
-fn any_changed(state: &mut Expansion, keyword: bool, kept: &[KeptHead]) -> Result<bool, Memory>
+fn any_changed<L: Ledger>(
+    state: &mut Expansion<L>,
+    keyword: bool,
+    kept: &[KeptHead],
+) -> Result<bool, Memory>
     ensures changed { IfOk result (λ b. b ≡ any_changed keyword state.old kept.now) }
     ensures unchanged { state.new ≡ state.old }
 {
@@ -104,8 +113,8 @@ fn any_changed(state: &mut Expansion, keyword: bool, kept: &[KeptHead]) -> Resul
 }
 
 /// Whether a head of this symbol is changed.
-fn is_late(
-    state: &mut Expansion,
+fn is_late<L: Ledger>(
+    state: &mut Expansion<L>,
     keyword: bool,
     symbol: &Symbol,
     kept: &KeptHeads,
@@ -119,8 +128,8 @@ fn is_late(
     }
 }
 
-pub fn wait(
-    state: &mut Expansion,
+pub fn wait<L: Ledger>(
+    state: &mut Expansion<L>,
     at: &BodyAt,
     depth: u16,
     taken: &mut Taken,
@@ -139,7 +148,7 @@ pub fn wait(
 }
 
 #[tactic(auto, unfolding(crate::specs::Items::keep))]
-fn keep(state: &mut Expansion, taken: &mut Taken, id: &Syn) -> Result<(), Stop>
+fn keep<L: Ledger>(state: &mut Expansion<L>, taken: &mut Taken, id: &Syn) -> Result<(), Stop>
     ensures { GivesAfter (λ _. taken.new) result state.new (keep taken.old id.now state.old) }
 {
     let symbol = symbol_in(state.alloc(), id)?;
@@ -155,7 +164,12 @@ fn keep(state: &mut Expansion, taken: &mut Taken, id: &Syn) -> Result<(), Stop>
 
 /// The definition of a variable must not change what a head before it stands for, if that was a keyword.
 #[tactic(auto, unfolding(crate::specs::Items::in_time))]
-fn in_time(state: &mut Expansion, at: &BodyAt, taken: &mut Taken, id: &Syn) -> Result<(), Stop>
+fn in_time<L: Ledger>(
+    state: &mut Expansion<L>,
+    at: &BodyAt,
+    taken: &mut Taken,
+    id: &Syn,
+) -> Result<(), Stop>
     ensures { GivesAfter (λ _. taken.new) result state.new (in_time at.now taken.old id.now state.old) }
 {
     let symbol = symbol_in(state.alloc(), id)?;
@@ -169,7 +183,12 @@ fn in_time(state: &mut Expansion, at: &BodyAt, taken: &mut Taken, id: &Syn) -> R
 
 /// The definition of a keyword must not stand behind any head that stands for another label now.
 #[tactic(auto, unfolding(crate::specs::Items::keyword_in_time))]
-fn keyword_in_time(state: &mut Expansion, at: &BodyAt, taken: &Taken, id: &Syn) -> Result<(), Stop>
+fn keyword_in_time<L: Ledger>(
+    state: &mut Expansion<L>,
+    at: &BodyAt,
+    taken: &Taken,
+    id: &Syn,
+) -> Result<(), Stop>
     ensures { GivesAfter (λ _. tt) result state.new (keyword_in_time at.now taken.now id.now state.old) }
 {
     if taken.moved {
@@ -183,8 +202,8 @@ fn keyword_in_time(state: &mut Expansion, at: &BodyAt, taken: &Taken, id: &Syn) 
 }
 
 #[tactic(auto, unfolding(crate::specs::Items::define))]
-fn define(
-    state: &mut Expansion,
+fn define<L: Ledger>(
+    state: &mut Expansion<L>,
     at: &BodyAt,
     taken: &mut Taken,
     form: &Syn,
@@ -207,8 +226,8 @@ fn define(
 
 /// Binds a keyword that a form of a body defines. It waits for its expression.
 #[tactic(auto, unfolding(crate::specs::Items::define_keyword))]
-pub fn define_keyword(
-    state: &mut Expansion,
+pub fn define_keyword<L: Ledger>(
+    state: &mut Expansion<L>,
     at: &BodyAt,
     taken: &Taken,
     form: &Syn,
@@ -229,8 +248,8 @@ pub fn define_keyword(
     Ok(bound)
 }
 
-fn defined(
-    state: &mut Expansion,
+fn defined<L: Ledger>(
+    state: &mut Expansion<L>,
     at: &BodyAt,
     depth: u16,
     taken: &mut Taken,
@@ -244,8 +263,8 @@ fn defined(
 }
 
 #[tactic(auto, unfolding(crate::specs::Items::define_item))]
-fn define_item(
-    state: &mut Expansion,
+fn define_item<L: Ledger>(
+    state: &mut Expansion<L>,
     context: &ItemContext,
     taken: &mut Taken,
     shape: Shape,
@@ -279,15 +298,19 @@ fn define_item(
 }
 
 /// A form that waits as an expression.
-fn alone(state: &mut Expansion, context: &ItemContext, taken: &mut Taken) -> Result<Item, Stop>
+fn alone<L: Ledger>(
+    state: &mut Expansion<L>,
+    context: &ItemContext,
+    taken: &mut Taken,
+) -> Result<Item, Stop>
     ensures { GivesAfter (λ i. (taken.new, i)) result state.new (alone (wait context.now.at.now context.now.depth taken.old context.now.form.now) state.old) }
 {
     wait(state, context.at, context.depth, taken, context.form)?;
     Ok(Item::Nothing)
 }
 
-fn target_item(
-    state: &mut Expansion,
+fn target_item<L: Ledger>(
+    state: &mut Expansion<L>,
     context: &ItemContext,
     taken: &mut Taken,
     standing: &Standing,
@@ -300,8 +323,8 @@ fn target_item(
     }
 }
 
-fn set_item(
-    state: &mut Expansion,
+fn set_item<L: Ledger>(
+    state: &mut Expansion<L>,
     context: &ItemContext,
     taken: &mut Taken,
     which: CoreForm,
@@ -321,8 +344,8 @@ fn set_item(
 }
 
 #[tactic(auto, unfolding(crate::specs::Items::begin_item))]
-fn begin_item(
-    state: &mut Expansion,
+fn begin_item<L: Ledger>(
+    state: &mut Expansion<L>,
     context: &ItemContext,
     taken: &Taken,
     shape: Shape,
@@ -336,8 +359,8 @@ fn begin_item(
 }
 
 #[tactic(auto, unfolding(crate::specs::Items::keywords_item))]
-fn keywords_item(
-    state: &mut Expansion,
+fn keywords_item<L: Ledger>(
+    state: &mut Expansion<L>,
     context: &ItemContext,
     taken: &Taken,
     which: CoreForm,
@@ -353,8 +376,8 @@ fn keywords_item(
 }
 
 #[tactic(auto, unfolding(crate::specs::Items::core_item))]
-fn core_item(
-    state: &mut Expansion,
+fn core_item<L: Ledger>(
+    state: &mut Expansion<L>,
     context: &ItemContext,
     taken: &mut Taken,
     which: CoreForm,
@@ -383,8 +406,8 @@ fn core_item(
     }
 }
 
-fn headed_item(
-    state: &mut Expansion,
+fn headed_item<L: Ledger>(
+    state: &mut Expansion<L>,
     context: &ItemContext,
     taken: &mut Taken,
     standing: &Standing,
@@ -402,8 +425,8 @@ fn headed_item(
 }
 
 #[tactic(auto, unfolding(crate::specs::Items::list_item))]
-fn list_item(
-    state: &mut Expansion,
+fn list_item<L: Ledger>(
+    state: &mut Expansion<L>,
     context: &ItemContext,
     taken: &mut Taken,
     head: &Syn,
@@ -418,8 +441,8 @@ fn list_item(
     headed_item(state, context, taken, &standing)
 }
 
-fn leaf_by(
-    state: &mut Expansion,
+fn leaf_by<L: Ledger>(
+    state: &mut Expansion<L>,
     context: &ItemContext,
     taken: &mut Taken,
     standing: &Standing,
@@ -437,7 +460,11 @@ fn leaf_by(
 }
 
 #[tactic(auto, unfolding(crate::specs::Items::leaf_item))]
-fn leaf_item(state: &mut Expansion, context: &ItemContext, taken: &mut Taken) -> Result<Item, Stop>
+fn leaf_item<L: Ledger>(
+    state: &mut Expansion<L>,
+    context: &ItemContext,
+    taken: &mut Taken,
+) -> Result<Item, Stop>
     ensures { GivesAfter (λ i. (taken.new, i)) result state.new (leaf_item context.now.at.now context.now.depth taken.old context.now.form.now state.old) }
 {
     keep(state, taken, context.form)?;
@@ -447,8 +474,8 @@ fn leaf_item(state: &mut Expansion, context: &ItemContext, taken: &mut Taken) ->
 
 /// What comes of a form of a body: what else is to be done with it. A use of a keyword isn't made here.
 #[tactic(auto, using(crate::proofs::Levels::item_leaf, crate::proofs::Levels::item_atom, crate::proofs::Levels::item_pair, crate::proofs::Levels::item_vector))]
-pub fn item_plan(
-    state: &mut Expansion,
+pub fn item_plan<L: Ledger>(
+    state: &mut Expansion<L>,
     at: &BodyAt,
     depth: u16,
     taken: &mut Taken,

@@ -13,6 +13,7 @@ ghost use Rattle.sx_heads.specs.declared.plan.Plan.TheVariants as plans;
 ghost use Rattle.sx_heads.specs.Plan.{done, plan_of, list_plan, by_head, keyword_plan, with_shape, shape_plan, application, in_sequence, assign, is_star, is_letrec_syntax, keywords_plan, operand_plan, reference, refer, variable_at, constant, target_by, target_variable};
 
 use crate::context::FormContext;
+use std::sync::ledger::Ledger;
 use sx_base::atom::Atom;
 use sx_base::fault::{FaultKind, Stop};
 use sx_base::items::Items;
@@ -80,20 +81,25 @@ pub(crate) fn is_letrec_syntax(form: CoreForm) -> bool
     matches!(form, CoreForm::LetrecSyntax)
 }
 
-fn done(state: &Expansion, node: CoreNode) -> Result<Plan, Stop>
+fn done<L: Ledger>(state: &Expansion<L>, node: CoreNode) -> Result<Plan, Stop>
     ensures { GivesAfter (λ p. p) result state.now (done (seen node) state.now) }
 {
     Ok(Plan::Done(Core { node }))
 }
 
-fn quotation(state: &Expansion, datum: &Syn) -> Result<Plan, Stop>
+fn quotation<L: Ledger>(state: &Expansion<L>, datum: &Syn) -> Result<Plan, Stop>
     ensures { GivesAfter (λ p. p) result state.now (done (quoted (strip datum.now)) state.now) }
 {
     let datum = datum.strip(state.alloc())?;
     done(state, CoreNode::Quote(datum))
 }
 
-fn constant(state: &Expansion, form: &Syn, atom: &Atom, place: &Span) -> Result<Plan, Stop>
+fn constant<L: Ledger>(
+    state: &Expansion<L>,
+    form: &Syn,
+    atom: &Atom,
+    place: &Span,
+) -> Result<Plan, Stop>
     ensures { GivesAfter (λ p. p) result state.now (constant place.now form.now (is_nil_atom atom.now) state.now) }
 {
     if is_nil_atom(atom) {
@@ -102,7 +108,7 @@ fn constant(state: &Expansion, form: &Syn, atom: &Atom, place: &Span) -> Result<
     quotation(state, form)
 }
 
-fn mention(state: &Expansion, label: &Label) -> Result<Plan, Stop>
+fn mention<L: Ledger>(state: &Expansion<L>, label: &Label) -> Result<Plan, Stop>
     ensures { GivesAfter (λ p. p) result state.now (done (variable label.now) state.now) }
 {
     let label = label.share()?;
@@ -110,8 +116,8 @@ fn mention(state: &Expansion, label: &Label) -> Result<Plan, Stop>
 }
 
 #[tactic(auto, unfolding(crate::specs::Plan::variable_at))]
-fn variable_at(
-    state: &Expansion,
+fn variable_at<L: Ledger>(
+    state: &Expansion<L>,
     id: &Syn,
     variable: &Variable,
     place: &Span,
@@ -137,8 +143,8 @@ fn variable_at(
     Err(state.fault_word(FaultKind::OutOfContext, id, id, place))
 }
 
-fn refer(
-    state: &Expansion,
+fn refer<L: Ledger>(
+    state: &Expansion<L>,
     id: &Syn,
     standing: &Standing,
     place: &Span,
@@ -157,7 +163,12 @@ fn refer(
 }
 
 #[tactic(auto, unfolding(crate::specs::Plan::reference))]
-fn reference(state: &mut Expansion, id: &Syn, place: &Span, level: u32) -> Result<Plan, Stop>
+fn reference<L: Ledger>(
+    state: &mut Expansion<L>,
+    id: &Syn,
+    place: &Span,
+    level: u32,
+) -> Result<Plan, Stop>
     ensures { GivesAfter (λ p. p) result state.new (reference place.now level id.now state.old) }
 {
     let standing = state.standing(id)?;
@@ -165,8 +176,8 @@ fn reference(state: &mut Expansion, id: &Syn, place: &Span, level: u32) -> Resul
 }
 
 #[tactic(auto, unfolding(crate::specs::Plan::target_variable))]
-fn target_variable(
-    state: &mut Expansion,
+fn target_variable<L: Ledger>(
+    state: &mut Expansion<L>,
     context: &FormContext,
     id: &Syn,
     variable: &Variable,
@@ -196,8 +207,8 @@ fn target_variable(
     Err(state.fault_word(FaultKind::AssignedImport, id, form, place))
 }
 
-fn target_by(
-    state: &mut Expansion,
+fn target_by<L: Ledger>(
+    state: &mut Expansion<L>,
     context: &FormContext,
     id: &Syn,
     standing: &Standing,
@@ -217,7 +228,12 @@ fn target_by(
 }
 
 #[tactic(auto, unfolding(crate::specs::Plan::assign))]
-fn assign(state: &mut Expansion, context: &FormContext, id: &Syn, value: Syn) -> Result<Plan, Stop>
+fn assign<L: Ledger>(
+    state: &mut Expansion<L>,
+    context: &FormContext,
+    id: &Syn,
+    value: Syn,
+) -> Result<Plan, Stop>
     ensures { GivesAfter (λ p. p) result state.new (assign context.now.place.now context.now.level context.now.form.now id.now value state.old) }
 {
     let standing = state.standing(id)?;
@@ -229,8 +245,8 @@ fn assign(state: &mut Expansion, context: &FormContext, id: &Syn, value: Syn) ->
 }
 
 #[tactic(auto, unfolding(crate::specs::Plan::application))]
-fn application(
-    state: &Expansion,
+fn application<L: Ledger>(
+    state: &Expansion<L>,
     context: &FormContext,
     head: &Syn,
     rest: &Syn,
@@ -243,7 +259,12 @@ fn application(
     }
 }
 
-fn in_sequence(state: &Expansion, form: &Syn, forms: Items<Syn>, place: &Span) -> Result<Plan, Stop>
+fn in_sequence<L: Ledger>(
+    state: &Expansion<L>,
+    form: &Syn,
+    forms: Items<Syn>,
+    place: &Span,
+) -> Result<Plan, Stop>
     ensures { GivesAfter (λ p. p) result state.now (in_sequence place.now form.now forms state.now) }
 {
     if forms.as_slice().is_empty() {
@@ -252,8 +273,8 @@ fn in_sequence(state: &Expansion, form: &Syn, forms: Items<Syn>, place: &Span) -
     Ok(Plan::Sequence(forms))
 }
 
-fn keywords_plan(
-    state: &Expansion,
+fn keywords_plan<L: Ledger>(
+    state: &Expansion<L>,
     context: &FormContext,
     which: CoreForm,
     specs: Items<BindingSpec>,
@@ -268,7 +289,11 @@ fn keywords_plan(
 }
 
 /// The instance of a template.
-fn syntax_plan(state: &mut Expansion, context: &FormContext, operand: &Syn) -> Result<Plan, Stop>
+fn syntax_plan<L: Ledger>(
+    state: &mut Expansion<L>,
+    context: &FormContext,
+    operand: &Syn,
+) -> Result<Plan, Stop>
     ensures { GivesAfter (λ p. p) result state.new (operand_plan context.now.place.now context.now.level context.now.form.now core_forms.Syntax operand.now state.old) }
 {
     let template = state.template(operand, context.place, context.level)?;
@@ -276,8 +301,8 @@ fn syntax_plan(state: &mut Expansion, context: &FormContext, operand: &Syn) -> R
     done(state, CoreNode::Syntax(template, span))
 }
 
-fn operand_plan(
-    state: &mut Expansion,
+fn operand_plan<L: Ledger>(
+    state: &mut Expansion<L>,
     context: &FormContext,
     which: CoreForm,
     operand: &Syn,
@@ -293,8 +318,8 @@ fn operand_plan(
 }
 
 /// `syntax-case`.
-fn matching(
-    state: &Expansion,
+fn matching<L: Ledger>(
+    state: &Expansion<L>,
     context: &FormContext,
     subject: Syn,
     literals: Items<Syn>,
@@ -307,8 +332,8 @@ fn matching(
 }
 
 #[tactic(auto, unfolding(crate::specs::Plan::shape_plan))]
-fn shape_plan(
-    state: &mut Expansion,
+fn shape_plan<L: Ledger>(
+    state: &mut Expansion<L>,
     context: &FormContext,
     which: CoreForm,
     shape: Shape,
@@ -340,7 +365,11 @@ fn shape_plan(
     }
 }
 
-fn shaped_plan(state: &mut Expansion, context: &FormContext, which: CoreForm) -> Result<Plan, Stop>
+fn shaped_plan<L: Ledger>(
+    state: &mut Expansion<L>,
+    context: &FormContext,
+    which: CoreForm,
+) -> Result<Plan, Stop>
     ensures { GivesAfter (λ p. p) result state.new (with_shape context.now.place.now context.now.level context.now.form.now which (shape which context.now.form.now context.now.place.now) state.old) }
 {
     let shape = shape(state.alloc(), context.form, which, context.place)?;
@@ -348,8 +377,8 @@ fn shaped_plan(state: &mut Expansion, context: &FormContext, which: CoreForm) ->
 }
 
 #[tactic(auto, unfolding(crate::specs::Plan::keyword_plan))]
-fn keyword_plan(
-    state: &mut Expansion,
+fn keyword_plan<L: Ledger>(
+    state: &mut Expansion<L>,
     context: &FormContext,
     head: &Syn,
     which: CoreForm,
@@ -370,8 +399,8 @@ fn keyword_plan(
     }
 }
 
-fn by_head(
-    state: &mut Expansion,
+fn by_head<L: Ledger>(
+    state: &mut Expansion<L>,
     context: &FormContext,
     head: &Syn,
     rest: &Syn,
@@ -390,8 +419,8 @@ fn by_head(
 }
 
 #[tactic(auto, unfolding(crate::specs::Plan::list_plan))]
-fn list_plan(
-    state: &mut Expansion,
+fn list_plan<L: Ledger>(
+    state: &mut Expansion<L>,
     context: &FormContext,
     head: &Syn,
     rest: &Syn,
@@ -407,7 +436,12 @@ fn list_plan(
 
 /// What is to be done with a form.
 #[tactic(auto, using(crate::proofs::Levels::plan_leaf, crate::proofs::Levels::plan_atom, crate::proofs::Levels::plan_pair, crate::proofs::Levels::plan_vector))]
-pub fn plan_of(state: &mut Expansion, form: &Syn, place: &Span, level: u32) -> Result<Plan, Stop>
+pub fn plan_of<L: Ledger>(
+    state: &mut Expansion<L>,
+    form: &Syn,
+    place: &Span,
+    level: u32,
+) -> Result<Plan, Stop>
     ensures { GivesAfter (λ p. p) result state.new (plan_of place.now level form.now state.old) }
 {
     match form.open(state.alloc())? {

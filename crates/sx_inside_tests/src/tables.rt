@@ -1,8 +1,12 @@
+ghost use Rattle.std.specs.Prelude.{◌≡◌, ◌<◌};
+
 use indexmap::IndexMap;
 use std::alloc::Global;
+use std::marker::Brand;
 use std::mem::forget;
 use std::process::Abort;
 use std::rc::Rc;
+use std::sync::ledger::{Blank, Ledger};
 use std::test::Fail;
 use sx_base::items::Items;
 use sx_base::library::LibName;
@@ -13,10 +17,11 @@ use sx_base::op::names::CAR;
 use sx_base::symbol::Symbol;
 use sx_core::binding::Binding;
 use sx_core::record::LibRecord;
+use sx_fuel::fuel::{Counted, Fuel};
 use sx_standing::expansion::Expansion;
 use sx_standing::ready::ReadyRecords;
 use sx_standing::standing::Standing;
-use sx_standing::start::Environment;
+use sx_standing::start::{Environment, Supplies};
 use sx_syntax::syn::Syn;
 use sx_tree::frame_row::FrameRow;
 use sx_tree::marks::Marks;
@@ -96,14 +101,29 @@ fn put(alloc: Global, records: &mut ReadyRecords, word: &str) -> Result<(), Memo
     }
 }
 
+// At most so many expansions are begun.
+const MOST: u64 = 3;
+
+// The records so far, and the fuel of expansions.
+struct Run<L: Ledger> {
+    alloc: Global,
+    records: ReadyRecords,
+    fuel: Fuel<L>,
+}
+
 // An expansion behind those of the records that are marked.
-fn begun(alloc: Global, records: &ReadyRecords, needs: &[bool]) -> Result<Expansion, Memory> {
+fn begun<L: Ledger>(run: &mut Run<L>, needs: &[bool]) -> Result<Expansion<L>, Memory> {
+    let Some(unspent) = run.fuel.begin() else {
+        return Err(Memory);
+    };
     let environment = Environment {
-        earlier: records,
+        earlier: &run.records,
         needs,
         imports: &[],
     };
-    Expansion::start(alloc, LibName::Program, &environment, IndexMap::new(alloc))
+    let codes = IndexMap::new(run.alloc);
+    let supplies = Supplies { codes, unspent };
+    Expansion::start(run.alloc, LibName::Program, &environment, supplies)
 }
 
 // The word in the frame of its library.
@@ -126,7 +146,7 @@ fn is_car(standing: &Standing) -> bool {
 }
 
 // Whether the leaf stands for `car` there.
-fn stands(expansion: &mut Expansion, leaf: &Syn) -> Result<bool, Memory> {
+fn stands<L: Ledger>(expansion: &mut Expansion<L>, leaf: &Syn) -> Result<bool, Memory> {
     match expansion.standing(leaf) {
         Ok(standing) => {
             let is_car = is_car(&standing);
@@ -138,7 +158,11 @@ fn stands(expansion: &mut Expansion, leaf: &Syn) -> Result<bool, Memory> {
 }
 
 // Whether the word stands for `car` there.
-fn finds(alloc: Global, expansion: &mut Expansion, word: &str) -> Result<bool, Memory> {
+fn finds<L: Ledger>(
+    alloc: Global,
+    expansion: &mut Expansion<L>,
+    word: &str,
+) -> Result<bool, Memory> {
     match leaf(alloc, word) {
         Ok(leaf) => {
             let found = stands(expansion, &leaf);
@@ -150,7 +174,11 @@ fn finds(alloc: Global, expansion: &mut Expansion, word: &str) -> Result<bool, M
 }
 
 // The words of `a b c` that an expansion finds, behind those that stand there.
-fn put_found(alloc: Global, expansion: &mut Expansion, words: &mut String) -> Result<(), Memory> {
+fn put_found<L: Ledger>(
+    alloc: Global,
+    expansion: &mut Expansion<L>,
+    words: &mut String,
+) -> Result<(), Memory> {
     for word in "a b c".split(" ") {
         if finds(alloc, expansion, word)? {
             words.push_str(word)?;
@@ -160,10 +188,10 @@ fn put_found(alloc: Global, expansion: &mut Expansion, words: &mut String) -> Re
     Ok(())
 }
 
-fn put_last(alloc: Global, records: &ReadyRecords, words: &mut String) -> Result<(), Memory> {
-    match begun(alloc, records, &[true, false, true]) {
+fn put_last<L: Ledger>(run: &mut Run<L>, words: &mut String) -> Result<(), Memory> {
+    match begun(run, &[true, false, true]) {
         Ok(mut third) => {
-            let put = put_found(alloc, &mut third, words);
+            let put = put_found(run.alloc, &mut third, words);
             forget(third);
             put
         }
@@ -171,29 +199,27 @@ fn put_last(alloc: Global, records: &ReadyRecords, words: &mut String) -> Result
     }
 }
 
-fn while_two_are_held(
-    alloc: Global,
-    records: &mut ReadyRecords,
-    first: &mut Expansion,
-    second: &mut Expansion,
+fn while_two_are_held<L: Ledger>(
+    run: &mut Run<L>,
+    first: &mut Expansion<L>,
+    second: &mut Expansion<L>,
     words: &mut String,
 ) -> Result<(), Memory> {
-    put(alloc, records, "c")?;
-    put_found(alloc, first, words)?;
-    put_found(alloc, second, words)?;
-    put_last(alloc, records, words)
+    put(run.alloc, &mut run.records, "c")?;
+    put_found(run.alloc, first, words)?;
+    put_found(run.alloc, second, words)?;
+    put_last(run, words)
 }
 
-fn while_one_is_held(
-    alloc: Global,
-    records: &mut ReadyRecords,
-    first: &mut Expansion,
+fn while_one_is_held<L: Ledger>(
+    run: &mut Run<L>,
+    first: &mut Expansion<L>,
     words: &mut String,
 ) -> Result<(), Memory> {
-    put(alloc, records, "b")?;
-    match begun(alloc, records, &[true, true]) {
+    put(run.alloc, &mut run.records, "b")?;
+    match begun(run, &[true, true]) {
         Ok(mut second) => {
-            let put = while_two_are_held(alloc, records, first, &mut second, words);
+            let put = while_two_are_held(run, first, &mut second, words);
             forget(second);
             put
         }
@@ -202,11 +228,11 @@ fn while_one_is_held(
 }
 
 // What expansions find that are begun between records and held while others come.
-fn put_all(alloc: Global, records: &mut ReadyRecords, words: &mut String) -> Result<(), Memory> {
-    put(alloc, records, "a")?;
-    match begun(alloc, records, &[true]) {
+fn put_all<L: Ledger>(run: &mut Run<L>, words: &mut String) -> Result<(), Memory> {
+    put(run.alloc, &mut run.records, "a")?;
+    match begun(run, &[true]) {
         Ok(mut first) => {
-            let put = while_one_is_held(alloc, records, &mut first, words);
+            let put = while_one_is_held(run, &mut first, words);
             forget(first);
             put
         }
@@ -214,15 +240,28 @@ fn put_all(alloc: Global, records: &mut ReadyRecords, words: &mut String) -> Res
     }
 }
 
-fn shared(alloc: Global, words: &mut String) -> Result<(), Memory> {
+fn shared_by<L: Ledger>(alloc: Global, blank: Blank, words: &mut String) -> Result<(), Memory>
+    requires name { blank.name ≡ L.name }
+    requires parts { (blank.parts ≡ L.parts) × (4 < L.parts) }
+{
     match ReadyRecords::new(alloc) {
-        Ok(mut records) => {
-            let put = put_all(alloc, &mut records, words);
-            forget(records);
+        Ok(records) => {
+            let Counted { book: _, fuel } = Fuel::<L>::open(blank, MOST);
+            let mut run = Run {
+                alloc,
+                records,
+                fuel,
+            };
+            let put = put_all(&mut run, words);
+            forget(run);
             put
         }
         Err(memory) => Err(memory),
     }
+}
+
+fn shared(alloc: Global, words: &mut String) -> Result<(), Memory> {
+    shared_by::<Brand>(alloc, Blank::new(5), words)
 }
 
 #[test]

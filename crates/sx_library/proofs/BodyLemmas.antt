@@ -12,7 +12,8 @@ use Rattle.sx_forms.specs.declared.form.LibraryForm.{LibraryForm}
 use Rattle.sx_import.specs.Names.{Labelled}
 use Rattle.sx_tree.specs.Tree.{Tree}
 use Rattle.sx_library.specs.Imports.{form_names}
-use Rattle.sx_library.specs.Library.{trees_at, export_tree, expander_of, body_of, expand_body, link_library}
+use Rattle.sx_prelude.specs.Spent.{spent_behind}
+use Rattle.sx_library.specs.Library.{trees_at, export_tree, expander_of, body_of, expand_body, link_library, body_spent, form_spent}
 use Rattle.sx_library.specs.Records.{needed_records}
 use Rattle.sx_library.specs.declared.library.Body.{Body}
 
@@ -56,3 +57,12 @@ module _ (prelude : Result Codes Fault) (records : List LibRecord) (path : List 
   read_stops marks stop is e h =
       library_stops prelude (needed_records records (true ∷ needs)) path form body stop
       (subst (λ b. Stops stop (body_of (needed_records records (true ∷ needs)) form b)) e (subst (λ m. Stops stop (body_of (needed_records records m) form other)) is h))
+
+  -- and so is the fuel that is spent
+  pub read_spent : (marks again : List Bool) (read : Body) → marks ≡ true ∷ needs → again ≡ true ∷ needs → other ≡ body → body_of (needed_records records marks) form other ≡ Ok read
+      → body_spent prelude (needed_records records again) path form read ≡ form_spent prelude (needed_records records (true ∷ needs)) path form body
+  unfolding form_spent
+  read_spent marks again read is same e h =
+      ap (λ m. body_spent prelude (needed_records records m) path form read) same
+      ∙ sym (ap (λ r. spent_behind r (body_spent prelude (needed_records records (true ∷ needs)) path form))
+      (ap (λ m. body_of (needed_records records m) form body) (sym is) ∙ ap (λ b. body_of (needed_records records marks) form b) (sym e) ∙ h))

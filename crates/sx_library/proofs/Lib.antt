@@ -6,3 +6,4 @@ pub mod LinkLemmas
 pub mod LoadedLemmas
 pub mod SourceLemmas
 pub mod BodyLemmas
+pub mod SpentLemmas

@@ -15,8 +15,9 @@ use Rattle.sx_import.specs.declared.set.NameAt.{NameAt}
 use Rattle.sx_forms.specs.declared.form.LibraryForm.{LibraryForm}
 use Rattle.sx_eval.specs.Codes.{Codes}
 use Rattle.sx_base.specs.declared.library.LibName.{LibName}
-use Rattle.sx_expand.specs.Expanding.{Expanding, ready, library_record, library_linked}
+use Rattle.sx_expand.specs.Expanding.{Expanding, ready, library_record, library_linked, library_spent}
 use Rattle.sx_expand.specs.declared.top.Linked.{Linked}
+use Rattle.sx_prelude.specs.Spent.{spent_behind}
 use Rattle.sx_library.specs.Imports.{form_names}
 use Rattle.sx_library.specs.declared.library.Body.{Body}
 
@@ -78,6 +79,19 @@ link_library prelude records path form body =
     trees_at form.name_span [] body >>= (λ forms.
     expander_of prelude form.name path records names >>= (λ e.
     library_linked e records form.version form.name_span (map export_tree form.exports) forms)))
+
+-- ---- the fuel
+
+-- what the expansion of the body spends
+unfoldable pub body_spent : Result Codes Fault → List LibRecord → List ℕ → LibraryForm → Body → ℕ
+body_spent prelude records path form body =
+    spent_behind (expander_of prelude form.name path records body.names) (λ e. library_spent e records form.version form.name_span (map export_tree form.exports) body.forms)
+
+-- what that of a library or a program spends, after these records
+unfoldable pub form_spent : Result Codes Fault → List LibRecord → List ℕ → LibraryForm → List PlainDatum → ℕ
+form_spent prelude records path form body = spent_behind (body_of records form body) (body_spent prelude records path form)
+
+-- ---- a record alone
 
 abbrev pub unlinked : Result Linked Fault → Result LibRecord Fault
 unlinked (Ok l) = Ok l.library

@@ -1,5 +1,5 @@
 -- The records of loaded libraries, and the core text of a program.
-use Rattle.std.specs.Prelude.{ℕ, List, [], ◌∷◌, ◌++◌, true, Result, Ok, Err}
+use Rattle.std.specs.Prelude.{ℕ, ◌+◌, List, [], ◌∷◌, ◌++◌, map, true, Result, Ok, Err}
 use Rattle.sx_base.specs.Datum.{PlainDatum}
 use Rattle.sx_base.specs.Gives.{◌>>=◌}
 use Rattle.sx_base.specs.declared.fault.Fault.{Fault}
@@ -10,12 +10,13 @@ use Rattle.sx_eval.specs.Codes.{Codes}
 use Rattle.sx_expand.specs.declared.top.Linked.{Linked}
 use Rattle.sx_forms.specs.Form.{library_body, program_body}
 use Rattle.sx_import.specs.Turns.{turns}
-use Rattle.sx_derived.specs.Derived.{derived_record}
+use Rattle.sx_derived.specs.Derived.{derived_record, derived_spent}
 use Rattle.sx_library.specs.Records.{needed_records}
 use Rattle.sx_load.specs.declared.found.Found.{Found}
-use Rattle.sx_library.specs.Library.{expand_library, link_library}
+use Rattle.sx_library.specs.Library.{expand_library, link_library, form_spent}
 use Rattle.sx_library.specs.declared.loaded.Gathered.{Gathered}
 use Rattle.sx_plan.specs.Planned.{plan_of}
+use Rattle.sx_prelude.specs.Spent.{spent_behind}
 
 -- the record of a library or program behind the derived library and those that it needs
 abbrev pub expand_found : Result Codes Fault → List LibRecord → Found → List PlainDatum → Result LibRecord Fault
@@ -64,3 +65,23 @@ unfoldable pub links_behind : Result Codes Fault → List (List ℕ × Found) �
 links_behind prelude rows found =
     all_linked prelude rows >>= (λ all.
     link_found prelude all.records found (program_body found.opened.«data») >>= (λ l. Ok (all.links ++ l.links)))
+
+-- ---- the fuel
+
+-- what the expansion of a library or program spends behind the derived library and those that it needs
+abbrev pub found_spent : Result Codes Fault → List LibRecord → Found → List PlainDatum → ℕ
+found_spent prelude records found body = form_spent prelude (needed_records records (true ∷ found.needs)) found.opened.path found.opened.form body
+
+-- what those of libraries spend, each behind these records and those of the libraries before it
+unfoldable pub each_spent : Result Codes Fault → List LibRecord → List Found → ℕ
+each_spent prelude records [] = 0
+each_spent prelude records (f ∷ fs) = found_spent prelude records f (library_body f.opened.«data») + spent_behind (expand_next prelude records ([], f)) (λ rs. each_spent prelude rs fs)
+
+-- the derived library's, and those of the libraries behind it
+abbrev pub all_spent : Result Codes Fault → List Found → ℕ
+all_spent prelude fs = derived_spent prelude + spent_behind (derived_record prelude) (λ d. each_spent prelude (d ∷ []) fs)
+
+-- the program's too, behind the libraries that were loaded before it
+unfoldable pub program_spent : Result Codes Fault → List (List ℕ × Found) → Found → ℕ
+program_spent prelude rows found =
+    all_spent prelude (map (λ (row : List ℕ × Found). row.1) rows) + spent_behind (all_records prelude rows) (λ records. found_spent prelude records found (program_body found.opened.«data»))

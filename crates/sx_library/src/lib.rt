@@ -13,9 +13,9 @@
 //! directly or not; then the program, and what it needs when it runs is written before it. A table of names gives the
 //! record of a library, so that many libraries make no import slower.
 //!
-//! The promise: each call gives exactly what its definition gives, or its first fault with its place; only
-//! want of memory is free. First each library that a form imports must be there in a version that fits,
-//! then each name, and then the body is expanded.
+//! The promise: each call gives exactly what its definition gives and spends exactly its fuel, or gives its first
+//! fault with its place; only want of memory is free. First each library that a form imports must be there in a
+//! version that fits, then each name, and then the body is expanded.
 #![tactic(auto)]
 
 pub mod imports;

@@ -1,41 +1,40 @@
 //! The record of a library or a program.
 
-ghost use Rattle.std.specs.Prelude.{◌≡◌, [], false, IfOk, Ok, map};
+ghost use Rattle.std.specs.Prelude.{◌≡◌, ◌+◌, [], false, IfOk, OnOk, Ok, map};
 ghost use Rattle.sx_base.specs.Gives.{Gives, StopsWith};
 ghost use Rattle.sx_eval.specs.Codes as table;
-ghost use Rattle.sx_expand.specs.Expanding.{ready, library_linked};
+ghost use Rattle.sx_expand.specs.Expanding.{ready, library_linked, library_spent};
 ghost use Rattle.sx_prelude.specs.Prelude.{kept};
 ghost use Rattle.sx_library.specs.Records.{needed_records};
-ghost use Rattle.sx_library.specs.Library.{at_datum, tree_at, trees_at, export_tree, expander_of, body_of, expand_body};
+ghost use Rattle.sx_library.specs.Library.{at_datum, tree_at, trees_at, export_tree, expander_of, body_of, expand_body, body_spent};
 
 use crate::imports::form_names;
 use crate::records::Needed;
-use indexmap::IndexMap;
 use std::alloc::Global;
-use std::rc::Rc;
 use std::sync::ledger::Ledger;
 use sx_base::datum::Datum;
 use sx_base::fault::{Bare, BareStop, Fault, Stop};
 use sx_base::items::Items;
 use sx_base::library::LibName;
 use sx_base::memory::Memory;
-use sx_base::name::{CodeNo, Label};
+use sx_base::name::Label;
 use sx_base::span::Span;
 use sx_base::symbol::Symbol;
-use sx_core::code::Code;
 use sx_derived::implementation::Implementation;
 use sx_expand::expander::{Expander, LibraryBody};
+use sx_expand::tally::Tally;
 use sx_expand::top::Linked;
 use sx_forms::form::LibraryForm;
+use sx_fuel::fuel::Unspent;
 use sx_import::names::rows;
 use sx_import::set::NameAt;
 use sx_import::table::Table;
 use sx_prelude::prelude::Prelude;
 use sx_prims::table::PrimTable;
 use sx_stage::earlier::Earlier;
-use sx_standing::means::{Counts, Means};
+use sx_standing::means::Means;
 use sx_standing::share::share_library;
-use sx_standing::start::Environment;
+use sx_standing::start::{Environment, Supplies};
 use sx_syntax::syn::Syn;
 use sx_tree::marks::Marks;
 
@@ -81,19 +80,23 @@ pub fn body_of(
 
 /// The record and the links of a library or a program, from its form and its body, which goes on the way, behind the
 /// records that it needs.
-#[tactic(auto, unfolding(crate::specs::Library::expand_body))]
+#[tactic(auto, unfolding(crate::specs::Library::expand_body, crate::specs::Library::body_spent))]
 pub fn expand_body<N: Ledger, L: Ledger>(
     alloc: Global,
     implementation: &Implementation,
     needed: &Needed,
     unexpanded: Unexpanded,
-    counts: &mut Counts<N, L>,
+    tally: &mut Tally<N, L>,
 ) -> Result<Linked, Stop>
-    ensures { Gives (λ l. l) result (expand_body (kept implementation.now.prelude) (needed_records needed.now.records.now needed.now.marks.now) unexpanded.path unexpanded.form unexpanded.body) }
+    ensures linked { Gives (λ l. l) result (expand_body (kept implementation.now.prelude) (needed_records needed.now.records.now needed.now.marks.now) unexpanded.path unexpanded.form unexpanded.body) }
+    ensures fuel { OnOk result (tally.new.fuel ≡ tally.old.fuel + body_spent (kept implementation.now.prelude) (needed_records needed.now.records.now needed.now.marks.now) unexpanded.path unexpanded.form unexpanded.body) }
 {
+    let Some(unspent) = tally.fuel.begin() else {
+        return Err(Stop::Memory);
+    };
     let exports = export_trees(alloc, &unexpanded.form.exports)?;
     let version = share_version(alloc, unexpanded.form.version.as_slice())?;
-    let begun = expander_of(alloc, &implementation.prelude, needed, &unexpanded)?;
+    let begun = expander_of(alloc, &implementation.prelude, needed, &unexpanded, unspent)?;
     let Unexpanded { form, body, .. } = unexpanded;
     let Body { forms, .. } = body;
     let body = LibraryBody {
@@ -102,16 +105,17 @@ pub fn expand_body<N: Ledger, L: Ledger>(
         exports: exports.as_slice(),
         version,
     };
-    linked_behind(begun, needed, body, implementation.primitives, counts)
+    linked_behind(begun, needed, body, implementation.primitives, tally)
 }
 
 // An expander behind the records that are marked, which knows what the procedures mean that are texts.
-fn expander_of(
+fn expander_of<L: Ledger>(
     alloc: Global,
     prelude: &Prelude,
     needed: &Needed,
     unexpanded: &Unexpanded,
-) -> Result<Expander, Stop>
+    unspent: Unspent<L>,
+) -> Result<Expander<L>, Stop>
     ensures given { Gives (λ e. e) result (expander_of (kept prelude.now) unexpanded.now.form.name unexpanded.now.path (needed_records needed.now.records.now needed.now.marks.now) unexpanded.now.body.names) }
     ensures ok { IfOk result (λ e. e.failed ≡ false) }
 {
@@ -119,43 +123,45 @@ fn expander_of(
     let path = unexpanded.path.share()?;
     let codes = prelude.codes(alloc)?;
     let origin = Origin { name, path };
+    let supplies = Supplies { codes, unspent };
     expander_behind(
         alloc,
         origin,
         needed,
         unexpanded.body.names.as_slice(),
-        codes,
+        supplies,
     )
 }
 
 // The record and the links of a library behind the records that it needs.
 fn linked_behind<N: Ledger, L: Ledger>(
-    begun: Expander,
+    begun: Expander<L>,
     needed: &Needed,
     body: LibraryBody,
     prims: &PrimTable,
-    counts: &mut Counts<N, L>,
+    tally: &mut Tally<N, L>,
 ) -> Result<Linked, Stop>
     requires { begun.failed ≡ false }
-    ensures { Gives (λ l. l) result (library_linked begun (needed_records needed.now.records.now needed.now.marks.now) body.entry.version body.entry.place.now body.entry.exports.now body.entry.forms) }
+    ensures linked { Gives (λ l. l) result (library_linked begun (needed_records needed.now.records.now needed.now.marks.now) body.entry.version body.entry.place.now body.entry.exports.now body.entry.forms) }
+    ensures fuel { OnOk result (tally.new.fuel ≡ tally.old.fuel + library_spent begun (needed_records needed.now.records.now needed.now.marks.now) body.entry.version body.entry.place.now body.entry.exports.now body.entry.forms) }
 {
     let earlier = Earlier {
         records: needed.records.ready().as_slice(),
         needs: needed.marks,
     };
     let means = Means { earlier, prims };
-    begun.top_linked(body, &means, counts)
+    begun.top_linked(body, &means, tally)
 }
 
 // An expander behind the records that are marked.
-fn expander_behind(
+fn expander_behind<L: Ledger>(
     alloc: Global,
     origin: Origin,
     needed: &Needed,
     names: &[(Symbol, Label)],
-    codes: IndexMap<CodeNo, Rc<Code>>,
-) -> Result<Expander, Stop>
-    ensures { Gives (λ e. e) result (Ok (ready origin.name origin.path (needed_records needed.now.records.now needed.now.marks.now) names.now (table.seen codes.entries))) }
+    supplies: Supplies<L>,
+) -> Result<Expander<L>, Stop>
+    ensures { Gives (λ e. e) result (Ok (ready origin.name origin.path (needed_records needed.now.records.now needed.now.marks.now) names.now (table.seen supplies.codes.entries))) }
 {
     let Origin { name, path } = origin;
     let ready = needed.records.ready();
@@ -164,7 +170,7 @@ fn expander_behind(
         needs: needed.marks,
         imports: names,
     };
-    Expander::new(alloc, name, path, &environment, codes)
+    Expander::new(alloc, name, path, &environment, supplies)
 }
 
 fn share_version(alloc: Global, version: &[u64]) -> Result<Items<u64>, Memory>

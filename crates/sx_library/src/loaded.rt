@@ -1,12 +1,13 @@
 //! The records of loaded libraries, the core text of a program, and the links of all.
 
-ghost use Rattle.std.specs.Prelude.{◌≡◌, ◌∷◌, ◌++◌, [], true, IfOk, OnOk, Ok, Err};
+ghost use Rattle.std.specs.Prelude.{◌≡◌, ◌+◌, ◌∷◌, ◌++◌, [], true, map, IfOk, OnOk, Ok, Err};
 ghost use Rattle.std.specs.String.{string_bytes};
 ghost use Rattle.sx_base.specs.Gives.{Gives, Stops};
+ghost use Rattle.sx_derived.specs.Derived.{derived_spent};
 ghost use Rattle.sx_prelude.specs.Prelude.{kept};
 ghost use Rattle.sx_import.specs.Turns.{turns};
 ghost use Rattle.sx_forms.specs.Form.{library_body, program_body};
-ghost use Rattle.sx_library.specs.Loaded.{expand_found, expand_next, all_records, planned_text, text_behind, fault_behind, link_found, link_next, with_linked, derived_linked, all_linked, links_behind};
+ghost use Rattle.sx_library.specs.Loaded.{expand_found, expand_next, all_records, planned_text, text_behind, fault_behind, link_found, link_next, with_linked, derived_linked, all_linked, links_behind, found_spent, each_spent, all_spent, program_spent};
 
 use crate::library::{Unexpanded, body_of, expand_body};
 use crate::records::{Needed, Records};
@@ -21,12 +22,12 @@ use sx_core::record::LibRecord;
 use sx_core_text::whole::core_text;
 use sx_derived::derived::derived_record;
 use sx_derived::implementation::Implementation;
+use sx_expand::tally::Tally;
 use sx_expand::top::Linked;
 use sx_forms::form::{LibraryForm, library_body, program_body};
 use sx_import::table::Table;
 use sx_load::found::{Found, Opened};
 use sx_plan::planned::planned;
-use sx_standing::means::Counts;
 
 // The marks of the libraries that are needed, behind that of the derived library, which all need.
 fn with_derived(alloc: Global, needs: &[bool]) -> Result<Items<bool>, Memory>
@@ -55,11 +56,12 @@ fn expand_next<N: Ledger, L: Ledger>(
     implementation: &Implementation,
     records: &mut Records,
     found: Found,
-    counts: &mut Counts<N, L>,
+    tally: &mut Tally<N, L>,
 ) -> Result<(), Stop>
-    ensures { Gives (λ _. records.new) result (expand_next (kept implementation.now.prelude) records.old ([], found)) }
+    ensures records { Gives (λ _. records.new) result (expand_next (kept implementation.now.prelude) records.old ([], found)) }
+    ensures fuel { OnOk result (tally.new.fuel ≡ tally.old.fuel + found_spent (kept implementation.now.prelude) records.old found (library_body found.opened.«data»)) }
 {
-    let record = record_of_one(alloc, implementation, records, found, counts)?;
+    let record = record_of_one(alloc, implementation, records, found, tally)?;
     records.push(alloc, record)?;
     Ok(())
 }
@@ -86,11 +88,12 @@ fn record_of_one<N: Ledger, L: Ledger>(
     implementation: &Implementation,
     records: &Records,
     found: Found,
-    counts: &mut Counts<N, L>,
+    tally: &mut Tally<N, L>,
 ) -> Result<LibRecord, Stop>
-    ensures { Gives (λ r. r) result (expand_found (kept implementation.now.prelude) records.now found (library_body found.opened.«data»)) }
+    ensures record { Gives (λ r. r) result (expand_found (kept implementation.now.prelude) records.now found (library_body found.opened.«data»)) }
+    ensures fuel { OnOk result (tally.new.fuel ≡ tally.old.fuel + found_spent (kept implementation.now.prelude) records.now found (library_body found.opened.«data»)) }
 {
-    let linked = expand_one(alloc, implementation, records, found, counts)?;
+    let linked = expand_one(alloc, implementation, records, found, tally)?;
     Ok(without_links(linked))
 }
 
@@ -100,9 +103,10 @@ fn expand_one<N: Ledger, L: Ledger>(
     implementation: &Implementation,
     records: &Records,
     found: Found,
-    counts: &mut Counts<N, L>,
+    tally: &mut Tally<N, L>,
 ) -> Result<Linked, Stop>
-    ensures { Gives (λ l. l) result (link_found (kept implementation.now.prelude) records.now found (library_body found.opened.«data»)) }
+    ensures linked { Gives (λ l. l) result (link_found (kept implementation.now.prelude) records.now found (library_body found.opened.«data»)) }
+    ensures fuel { OnOk result (tally.new.fuel ≡ tally.old.fuel + found_spent (kept implementation.now.prelude) records.now found (library_body found.opened.«data»)) }
 {
     let marks = with_derived(alloc, found.needs.as_slice())?;
     let needed = Needed {
@@ -113,7 +117,7 @@ fn expand_one<N: Ledger, L: Ledger>(
     let body = body_of(alloc, &needed, &found.opened.form, data)?;
     let (path, form) = without_data(found);
     let unexpanded = Unexpanded { path, form, body };
-    expand_body(alloc, implementation, &needed, unexpanded, counts)
+    expand_body(alloc, implementation, &needed, unexpanded, tally)
 }
 
 // The record and the links of a program behind the records that it needs. Its data go once they are syntax objects.
@@ -122,9 +126,10 @@ fn expand_program<N: Ledger, L: Ledger>(
     implementation: &Implementation,
     records: &Records,
     found: Found,
-    counts: &mut Counts<N, L>,
+    tally: &mut Tally<N, L>,
 ) -> Result<Linked, Stop>
-    ensures { Gives (λ l. l) result (link_found (kept implementation.now.prelude) records.now found (program_body found.opened.«data»)) }
+    ensures linked { Gives (λ l. l) result (link_found (kept implementation.now.prelude) records.now found (program_body found.opened.«data»)) }
+    ensures fuel { OnOk result (tally.new.fuel ≡ tally.old.fuel + found_spent (kept implementation.now.prelude) records.now found (program_body found.opened.«data»)) }
 {
     let marks = with_derived(alloc, found.needs.as_slice())?;
     let needed = Needed {
@@ -135,7 +140,7 @@ fn expand_program<N: Ledger, L: Ledger>(
     let body = body_of(alloc, &needed, &found.opened.form, data)?;
     let (path, form) = without_data(found);
     let unexpanded = Unexpanded { path, form, body };
-    expand_body(alloc, implementation, &needed, unexpanded, counts)
+    expand_body(alloc, implementation, &needed, unexpanded, tally)
 }
 
 // The record of a program alone.
@@ -144,11 +149,12 @@ fn record_of_program<N: Ledger, L: Ledger>(
     implementation: &Implementation,
     records: &Records,
     found: Found,
-    counts: &mut Counts<N, L>,
+    tally: &mut Tally<N, L>,
 ) -> Result<LibRecord, Stop>
-    ensures { Gives (λ r. r) result (expand_found (kept implementation.now.prelude) records.now found (program_body found.opened.«data»)) }
+    ensures record { Gives (λ r. r) result (expand_found (kept implementation.now.prelude) records.now found (program_body found.opened.«data»)) }
+    ensures fuel { OnOk result (tally.new.fuel ≡ tally.old.fuel + found_spent (kept implementation.now.prelude) records.now found (program_body found.opened.«data»)) }
 {
-    let linked = expand_program(alloc, implementation, records, found, counts)?;
+    let linked = expand_program(alloc, implementation, records, found, tally)?;
     Ok(without_links(linked))
 }
 
@@ -159,13 +165,14 @@ fn records_behind<N: Ledger, L: Ledger>(
     implementation: &Implementation,
     records: Records,
     libraries: Table<Found>,
-    counts: &mut Counts<N, L>,
+    tally: &mut Tally<N, L>,
 ) -> Result<Records, Stop>
-    ensures { Gives (λ rs. rs) result (turns (expand_next (kept implementation.now.prelude)) records libraries) }
+    ensures records { Gives (λ rs. rs) result (turns (expand_next (kept implementation.now.prelude)) records libraries) }
+    ensures fuel { OnOk result (tally.new.fuel ≡ tally.old.fuel + each_spent (kept implementation.now.prelude) records (map (λ row. row.1) libraries)) }
 {
     let mut records = records;
     for found in libraries.into_values() {
-        expand_next(alloc, implementation, &mut records, found, counts)?;
+        expand_next(alloc, implementation, &mut records, found, tally)?;
     }
     Ok(records)
 }
@@ -175,13 +182,14 @@ fn all_records<N: Ledger, L: Ledger>(
     alloc: Global,
     implementation: &Implementation,
     libraries: Table<Found>,
-    counts: &mut Counts<N, L>,
+    tally: &mut Tally<N, L>,
 ) -> Result<Records, Stop>
-    ensures { Gives (λ rs. rs) result (all_records (kept implementation.now.prelude) libraries) }
+    ensures records { Gives (λ rs. rs) result (all_records (kept implementation.now.prelude) libraries) }
+    ensures fuel { OnOk result (tally.new.fuel ≡ tally.old.fuel + all_spent (kept implementation.now.prelude) (map (λ row. row.1) libraries)) }
 {
-    let derived = derived_record(alloc, implementation, counts)?;
+    let derived = derived_record(alloc, implementation, tally)?;
     let records = Records::of_one(alloc, derived)?;
-    records_behind(alloc, implementation, records, libraries, counts)
+    records_behind(alloc, implementation, records, libraries, tally)
 }
 
 // A program, with the libraries that it needs when it runs before it.
@@ -194,18 +202,19 @@ fn planned_text(alloc: Global, records: &[LibRecord], program: &LibRecord) -> Re
 
 /// The core text of a program behind the libraries that were loaded before it, or the first fault of a library or of the
 /// program. The data of each file go once they are syntax objects.
-#[tactic(auto, unfolding(crate::specs::Loaded::text_behind))]
+#[tactic(auto, unfolding(crate::specs::Loaded::text_behind, crate::specs::Loaded::program_spent))]
 pub fn program_text<N: Ledger, L: Ledger>(
     alloc: Global,
     implementation: &Implementation,
     found: Found,
     libraries: Table<Found>,
-    counts: &mut Counts<N, L>,
+    tally: &mut Tally<N, L>,
 ) -> Result<String, Stop>
-    ensures { Gives string_bytes result (text_behind (kept implementation.now.prelude) libraries found) }
+    ensures text { Gives string_bytes result (text_behind (kept implementation.now.prelude) libraries found) }
+    ensures fuel { OnOk result (tally.new.fuel ≡ tally.old.fuel + program_spent (kept implementation.now.prelude) libraries found) }
 {
-    let records = all_records(alloc, implementation, libraries, counts)?;
-    let program = record_of_program(alloc, implementation, &records, found, counts)?;
+    let records = all_records(alloc, implementation, libraries, tally)?;
+    let program = record_of_program(alloc, implementation, &records, found, tally)?;
     let records = records.into_records();
     planned_text(alloc, &records, &program)
 }
@@ -217,11 +226,11 @@ pub fn first_fault<N: Ledger, L: Ledger>(
     implementation: &Implementation,
     libraries: Table<Found>,
     fault: Fault,
-    counts: &mut Counts<N, L>,
+    tally: &mut Tally<N, L>,
 ) -> Stop
     ensures { Stops result (fault_behind (kept implementation.now.prelude) libraries fault) }
 {
-    match all_records(alloc, implementation, libraries, counts) {
+    match all_records(alloc, implementation, libraries, tally) {
         Ok(_) => Stop::Fault(fault),
         Err(stop) => stop,
     }
@@ -265,11 +274,12 @@ fn link_next<N: Ledger, L: Ledger>(
     implementation: &Implementation,
     all: &mut Gathered,
     found: Found,
-    counts: &mut Counts<N, L>,
+    tally: &mut Tally<N, L>,
 ) -> Result<(), Stop>
-    ensures { Gives (λ _. all.new) result (link_next (kept implementation.now.prelude) all.old ([], found)) }
+    ensures linked { Gives (λ _. all.new) result (link_next (kept implementation.now.prelude) all.old ([], found)) }
+    ensures fuel { OnOk result (tally.new.fuel ≡ tally.old.fuel + found_spent (kept implementation.now.prelude) all.old.records found (library_body found.opened.«data»)) }
 {
-    let linked = expand_one(alloc, implementation, &all.records, found, counts)?;
+    let linked = expand_one(alloc, implementation, &all.records, found, tally)?;
     gather(alloc, all, linked)?;
     Ok(())
 }
@@ -278,11 +288,12 @@ fn link_next<N: Ledger, L: Ledger>(
 fn derived_alone<N: Ledger, L: Ledger>(
     alloc: Global,
     implementation: &Implementation,
-    counts: &mut Counts<N, L>,
+    tally: &mut Tally<N, L>,
 ) -> Result<Gathered, Stop>
-    ensures { Gives (λ all. all) result (derived_linked (kept implementation.now.prelude)) }
+    ensures linked { Gives (λ all. all) result (derived_linked (kept implementation.now.prelude)) }
+    ensures fuel { OnOk result (tally.new.fuel ≡ tally.old.fuel + derived_spent (kept implementation.now.prelude)) }
 {
-    let derived = derived_record(alloc, implementation, counts)?;
+    let derived = derived_record(alloc, implementation, tally)?;
     let records = Records::of_one(alloc, derived)?;
     let links = Items::new(alloc);
     Ok(Gathered { records, links })
@@ -295,13 +306,14 @@ fn linked_behind<N: Ledger, L: Ledger>(
     implementation: &Implementation,
     all: Gathered,
     libraries: Table<Found>,
-    counts: &mut Counts<N, L>,
+    tally: &mut Tally<N, L>,
 ) -> Result<Gathered, Stop>
-    ensures { Gives (λ all. all) result (turns (link_next (kept implementation.now.prelude)) all libraries) }
+    ensures linked { Gives (λ all. all) result (turns (link_next (kept implementation.now.prelude)) all libraries) }
+    ensures fuel { OnOk result (tally.new.fuel ≡ tally.old.fuel + each_spent (kept implementation.now.prelude) all.records (map (λ row. row.1) libraries)) }
 {
     let mut all = all;
     for found in libraries.into_values() {
-        link_next(alloc, implementation, &mut all, found, counts)?;
+        link_next(alloc, implementation, &mut all, found, tally)?;
     }
     Ok(all)
 }
@@ -310,28 +322,30 @@ fn all_linked<N: Ledger, L: Ledger>(
     alloc: Global,
     implementation: &Implementation,
     libraries: Table<Found>,
-    counts: &mut Counts<N, L>,
+    tally: &mut Tally<N, L>,
 ) -> Result<Gathered, Stop>
-    ensures { Gives (λ all. all) result (all_linked (kept implementation.now.prelude) libraries) }
+    ensures linked { Gives (λ all. all) result (all_linked (kept implementation.now.prelude) libraries) }
+    ensures fuel { OnOk result (tally.new.fuel ≡ tally.old.fuel + all_spent (kept implementation.now.prelude) (map (λ row. row.1) libraries)) }
 {
-    let derived = derived_alone(alloc, implementation, counts)?;
-    linked_behind(alloc, implementation, derived, libraries, counts)
+    let derived = derived_alone(alloc, implementation, tally)?;
+    linked_behind(alloc, implementation, derived, libraries, tally)
 }
 
 /// The links of the libraries that were loaded before a program, in the order of loading, and then those of the program;
 /// or the first fault of a library or of the program. Of the derived library and the prelude there are none.
-#[tactic(auto, unfolding(crate::specs::Loaded::links_behind))]
+#[tactic(auto, unfolding(crate::specs::Loaded::links_behind, crate::specs::Loaded::program_spent))]
 pub fn program_links<N: Ledger, L: Ledger>(
     alloc: Global,
     implementation: &Implementation,
     found: Found,
     libraries: Table<Found>,
-    counts: &mut Counts<N, L>,
+    tally: &mut Tally<N, L>,
 ) -> Result<Items<Link>, Stop>
-    ensures { Gives (λ ls. ls) result (links_behind (kept implementation.now.prelude) libraries found) }
+    ensures links { Gives (λ ls. ls) result (links_behind (kept implementation.now.prelude) libraries found) }
+    ensures fuel { OnOk result (tally.new.fuel ≡ tally.old.fuel + program_spent (kept implementation.now.prelude) libraries found) }
 {
-    let mut all = all_linked(alloc, implementation, libraries, counts)?;
-    let linked = expand_program(alloc, implementation, &all.records, found, counts)?;
+    let mut all = all_linked(alloc, implementation, libraries, tally)?;
+    let linked = expand_program(alloc, implementation, &all.records, found, tally)?;
     append(&mut all.links, links_of(linked))?;
     Ok(gathered_links(all))
 }

@@ -22,6 +22,7 @@ use Rattle.sx_eval.specs.Codes.{Codes, with_procedure}
 use Rattle.sx_expand.specs.Expanding.{expression, ready}
 use Rattle.sx_prelude.specs.declared.prelude.Prelude.{Prelude}
 use Rattle.sx_prelude.specs.declared.prelude.Prelude.TheVariants as preludes
+use Rattle.sx_prelude.specs.Spent.{spent_behind}
 use Rattle.sx_reader.specs.Read.{data_of, file_nesting}
 use Rattle.sx_standing.specs.Start.{first_frame}
 use Rattle.sx_standing.specs.State.{State, Does}
@@ -91,6 +92,10 @@ without_state (Err f) = Err f
 -- all of them, expanded one after the other in a library of their own
 unfoldable pub prelude_codes : Result (List PlainCode) Fault
 prelude_codes = without_state (each text_code [] procedures (ready library.Prelude (codes "(prelude)") [] names []).state)
+
+-- the fuel that their expansion spends
+unfoldable pub prelude_spent : ℕ
+prelude_spent = spent_behind (each text_code [] procedures (ready library.Prelude (codes "(prelude)") [] names []).state) (λ p. p.1.spent)
 
 -- The table that they make, with the codes inside them.
 abbrev pub filled : Codes → List PlainCode → Codes

@@ -1,6 +1,6 @@
 //! The codes of the texts.
 
-ghost use Rattle.std.specs.Prelude.{◌≡◌, [], false, filter, map, codes, IfOk, OnOk, Ok};
+ghost use Rattle.std.specs.Prelude.{◌≡◌, ◌+◌, [], false, filter, map, codes, IfOk, OnOk, Ok};
 ghost use Rattle.sx_base.specs.Act.{GivesAfter, each};
 ghost use Rattle.sx_base.specs.Gives.{Gives};
 ghost use Rattle.sx_base.specs.Op.{op_text};
@@ -8,7 +8,8 @@ ghost use Rattle.sx_base.specs.declared.library.LibName.TheVariants as library;
 ghost use Rattle.sx_expand.specs.Expanding.{ready};
 ghost use Rattle.sx_stage.specs.Libraries.{earlier_in};
 ghost use Rattle.sx_standing.specs.Start.{first_frame};
-ghost use Rattle.sx_prelude.specs.Prelude.{is_core, core_names, names, names_of, path_of, place_of, first_tree, tree_in, procedure_of, text_code, prelude_codes};
+ghost use Rattle.sx_prelude.specs.Prelude.{is_core, core_names, names, names_of, path_of, place_of, first_tree, tree_in, procedure_of, text_code, prelude_codes, prelude_spent};
+ghost use Rattle.sx_prelude.specs.Spent.{UnlessMemory};
 
 use indexmap::IndexMap;
 use std::alloc::Global;
@@ -32,10 +33,12 @@ use sx_core::code::{Code, Core, Lambda};
 use sx_core::formals::Formals;
 use sx_expand::at::OuterAt;
 use sx_expand::expander::Expander;
+use sx_expand::tally::Tally;
+use sx_fuel::fuel::Unspent;
 use sx_reader::read::read_all;
 use sx_standing::means::{Counts, Means};
 use sx_standing::ready::ReadyRecords;
-use sx_standing::start::Environment;
+use sx_standing::start::{Environment, Supplies};
 use sx_syntax::syn::Syn;
 
 // The procedures that have a text, in the order of their codes.
@@ -192,7 +195,7 @@ fn frame(alloc: Global) -> Result<FrameNo, Memory>
 #[tactic(auto, unfolding(crate::specs::Prelude::text_code))]
 fn text_code<N: Ledger, L: Ledger>(
     alloc: Global,
-    expander: &mut Expander,
+    expander: &mut Expander<L>,
     op: &Op,
     means: &Means,
     counts: &mut Counts<N, L>,
@@ -214,7 +217,7 @@ fn text_code<N: Ledger, L: Ledger>(
 }
 
 // An expander that is ready for the first text.
-fn start(alloc: Global) -> Result<Expander, Stop>
+fn start<L: Ledger>(alloc: Global, unspent: Unspent<L>) -> Result<Expander<L>, Stop>
     ensures { Gives (λ e. e) result (Ok (ready library.Prelude (codes "(prelude)") [] names [])) }
 {
     let records = ReadyRecords::new(alloc)?;
@@ -226,25 +229,32 @@ fn start(alloc: Global) -> Result<Expander, Stop>
         imports: names.as_slice(),
     };
     let codes = IndexMap::new(alloc);
-    Expander::new(alloc, LibName::Prelude, path, &environment, codes)
+    let supplies = Supplies { codes, unspent };
+    Expander::new(alloc, LibName::Prelude, path, &environment, supplies)
 }
 
 /// The codes of all texts, in the order of `PROCEDURES`. `means` has no records; its primitives are asked for nothing.
 pub fn prelude_codes<N: Ledger, L: Ledger>(
     alloc: Global,
     means: &Means,
-    counts: &mut Counts<N, L>,
+    tally: &mut Tally<N, L>,
 ) -> Result<Items<Rc<Code>>, Stop>
     requires { earlier_in means.now.earlier ≡ [] }
-    ensures { Gives (λ cs. map (λ c. c.value) cs) result prelude_codes }
+    ensures codes { Gives (λ cs. map (λ c. c.value) cs) result prelude_codes }
+    ensures fuel { UnlessMemory result (tally.new.fuel ≡ tally.old.fuel + prelude_spent) }
 {
-    let mut expander = start(alloc)?;
-    all_texts(alloc, &mut expander, &PROCEDURES, means, counts)
+    let Some(unspent) = tally.fuel.begin() else {
+        return Err(Stop::Memory);
+    };
+    let mut expander = start(alloc, unspent)?;
+    let codes = all_texts(alloc, &mut expander, &PROCEDURES, means, &mut tally.counts)?;
+    expander.end(&mut tally.fuel);
+    Ok(codes)
 }
 
 fn all_texts<N: Ledger, L: Ledger>(
     alloc: Global,
-    expander: &mut Expander,
+    expander: &mut Expander<L>,
     ops: &[Op],
     means: &Means,
     counts: &mut Counts<N, L>,

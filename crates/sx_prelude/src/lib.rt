@@ -5,7 +5,8 @@
 //! expanded once a run, one after the other, in a library of their own in which the names of `(rnrs)` stand for
 //! what they are.
 //!
-//! The promise: `prelude_codes` gives exactly the codes of its definition; only want of memory is free.
+//! The promise: `prelude_codes` gives exactly the codes of its definition and spends exactly its fuel; only want of memory
+//! is free.
 #![tactic(auto)]
 
 pub mod codes;

@@ -1,10 +1,10 @@
 //! What a run keeps of the texts.
 
-ghost use Rattle.std.specs.Prelude.{◌≡◌, [], map, IfOk, OnOk};
+ghost use Rattle.std.specs.Prelude.{◌≡◌, ◌+◌, [], map, IfOk, OnOk};
 ghost use Rattle.sx_base.specs.Gives.{Gives};
 ghost use Rattle.sx_eval.specs.Codes as table;
 ghost use Rattle.sx_stage.specs.Libraries.{earlier_in};
-ghost use Rattle.sx_prelude.specs.Prelude.{filled, kept, prelude_table};
+ghost use Rattle.sx_prelude.specs.Prelude.{filled, kept, prelude_table, prelude_spent};
 
 use crate::codes::prelude_codes;
 use indexmap::IndexMap;
@@ -17,7 +17,8 @@ use sx_base::memory::Memory;
 use sx_base::name::CodeNo;
 use sx_core::code::Code;
 use sx_eval::codes::add_procedure;
-use sx_standing::means::{Counts, Means};
+use sx_expand::tally::Tally;
+use sx_standing::means::Means;
 
 /// The codes of the texts, or the first fault in one. No text has a fault.
 #[derive(Drop)]
@@ -57,12 +58,13 @@ impl Prelude {
     pub fn new<N: Ledger, L: Ledger>(
         alloc: Global,
         means: &Means,
-        counts: &mut Counts<N, L>,
+        tally: &mut Tally<N, L>,
     ) -> Result<Prelude, Memory>
         requires { earlier_in means.now.earlier ≡ [] }
-        ensures { IfOk result (λ p. kept p ≡ prelude_table) }
+        ensures table { IfOk result (λ p. kept p ≡ prelude_table) }
+        ensures fuel { OnOk result (tally.new.fuel ≡ tally.old.fuel + prelude_spent) }
     {
-        match prelude_codes(alloc, means, counts) {
+        match prelude_codes(alloc, means, tally) {
             Ok(codes) => Ok(Prelude::Codes(codes)),
             Err(Stop::Fault(fault)) => Ok(Prelude::Fault(fault)),
             Err(Stop::Memory) => Err(Memory),

@@ -1,7 +1,7 @@
 -- What the texts of the prelude come to.
 use Rattle.std.specs.Prelude.{◌≡◌, Ok}
 use Rattle.sx_given_laws.specs.Texts.{written, written_table}
-use Rattle.sx_prelude.specs.Prelude.{prelude_codes, prelude_table}
+use Rattle.sx_prelude.specs.Prelude.{prelude_codes, prelude_spent, prelude_table}
 
 -- Each text is read, and expanded to the code that is written out.
 abbrev pub TextsExpand : Type 0
@@ -10,3 +10,7 @@ TextsExpand = prelude_codes ≡ Ok written
 -- so the table of a run is that of these codes
 abbrev pub TableIsWritten : Type 0
 TableIsWritten = prelude_table ≡ Ok written_table
+
+-- No text uses a keyword that is a macro: their expansion spends no fuel.
+abbrev pub TextsSpendNothing : Type 0
+TextsSpendNothing = prelude_spent ≡ 0

@@ -16,11 +16,12 @@
 //! Nothing is computed when the program runs: the function stands for the laws that it ensures.
 #![tactic(auto)]
 
-ghost use Rattle.sx_prelude_code_laws.specs.Texts.{TextsExpand, TableIsWritten};
+ghost use Rattle.sx_prelude_code_laws.specs.Texts.{TextsExpand, TableIsWritten, TextsSpendNothing};
 
 /// The ten texts of procedures given in Scheme expand to the codes that `sx_given_laws` writes out, and
-/// these are the table of every run.
+/// these are the table of every run. Their expansion spends no fuel.
 pub fn texts_expand_to_what_is_written()
     ensures codes { TextsExpand }
     ensures table { TableIsWritten }
+    ensures fuel { TextsSpendNothing }
 {}

@@ -34,8 +34,8 @@ pub enum QuasiForm {
     Syntax(QuasiSyntax),
 }
 
-fn quote_form(
-    state: &Expansion,
+fn quote_form<L: Ledger>(
+    state: &Expansion<L>,
     form: &Syn,
     template: &Syn,
     place: &Span,
@@ -46,8 +46,8 @@ fn quote_form(
     Ok(QuasiForm::Quote(plan))
 }
 
-fn syntax_form(
-    state: &Expansion,
+fn syntax_form<L: Ledger>(
+    state: &Expansion<L>,
     form: &Syn,
     template: &Syn,
     place: &Span,
@@ -66,8 +66,8 @@ fn syntax_form(
 
 /// What a form with this template comes to. It is `BadForm` at the form where R6RS has no meaning for the template,
 /// and `TooDeep` at the form where a template of `syntax` would pass a limit of trees.
-pub fn form_of(
-    state: &Expansion,
+pub fn form_of<L: Ledger>(
+    state: &Expansion<L>,
     form: &Syn,
     which: Family,
     template: &Syn,
@@ -100,8 +100,8 @@ pub fn parts_of(
     }
 }
 
-fn syntax_code<N: Ledger>(
-    state: &mut Expansion,
+fn syntax_code<N: Ledger, L: Ledger>(
+    state: &mut Expansion<L>,
     context: &FormContext,
     quasi: &QuasiSyntax,
     codes: Vec<Core>,
@@ -116,8 +116,8 @@ fn syntax_code<N: Ledger>(
 }
 
 /// The code of a form, whose parts have these codes. A fault of the template of a `quasisyntax` form is at its part.
-pub fn code_of<N: Ledger>(
-    state: &mut Expansion,
+pub fn code_of<N: Ledger, L: Ledger>(
+    state: &mut Expansion<L>,
     context: &FormContext,
     quasi: &QuasiForm,
     codes: Vec<Core>,

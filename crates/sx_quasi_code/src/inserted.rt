@@ -48,7 +48,10 @@ fn ellipsis(alloc: Global) -> Result<Label, Memory>
 }
 
 /// An insert as a pattern variable, whose label is the next name of the library.
-fn insert_variable(state: &mut Expansion, insert: &Insert) -> Result<PatternVariable, Stop>
+fn insert_variable<L: Ledger>(
+    state: &mut Expansion<L>,
+    insert: &Insert,
+) -> Result<PatternVariable, Stop>
     ensures { GivesAfter (λ v. v) result state.new (insert_variable insert.now state.old) }
 {
     let label = Label(state.fresh()?);
@@ -60,8 +63,8 @@ fn insert_variable(state: &mut Expansion, insert: &Insert) -> Result<PatternVari
     })
 }
 
-fn insert_variables(
-    state: &mut Expansion,
+fn insert_variables<L: Ledger>(
+    state: &mut Expansion<L>,
     inserts: &[Insert],
 ) -> Result<Items<PatternVariable>, Stop>
     ensures { GivesAfter (λ vs. vs) result state.new (insert_variables inserts.now state.old) }
@@ -172,8 +175,8 @@ fn match_of(
 }
 
 /// The inserts in a frame, and the ellipsis behind them.
-fn bind_inserts(
-    state: &mut Expansion,
+fn bind_inserts<L: Ledger>(
+    state: &mut Expansion<L>,
     frame: &FrameNo,
     variables: &[PatternVariable],
     place: &Span,
@@ -199,8 +202,8 @@ struct Inserts<'a> {
     codes: Vec<Core>,
 }
 
-fn inserted_in<N: Ledger>(
-    state: &mut Expansion,
+fn inserted_in<N: Ledger, L: Ledger>(
+    state: &mut Expansion<L>,
     context: &FormContext,
     inserts: Inserts,
     frame: FrameNo,
@@ -225,8 +228,8 @@ fn inserted_in<N: Ledger>(
 
 /// The code of a form with inserts, whose expressions have these codes.
 #[tactic(auto, unfolding(crate::specs::Inserted::inserted))]
-pub(crate) fn inserted<N: Ledger>(
-    state: &mut Expansion,
+pub(crate) fn inserted<N: Ledger, L: Ledger>(
+    state: &mut Expansion<L>,
     context: &FormContext,
     quasi: &QuasiSyntax,
     codes: Vec<Core>,
@@ -243,8 +246,8 @@ pub(crate) fn inserted<N: Ledger>(
 }
 
 /// The code of a form without inserts.
-pub(crate) fn plain_instance(
-    state: &mut Expansion,
+pub(crate) fn plain_instance<L: Ledger>(
+    state: &mut Expansion<L>,
     context: &FormContext,
     quasi: &QuasiSyntax,
 ) -> Result<Core, Stop>

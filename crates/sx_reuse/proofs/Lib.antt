@@ -5,3 +5,5 @@ pub mod Sealed
 mod Grouped
 pub mod TurnLemmas
 pub mod TextLemmas
+pub mod FuelLemmas
+pub mod SpendLemmas

@@ -4,3 +4,4 @@ pub mod Progress
 pub mod Expansion
 pub mod Turns
 pub mod Texts
+pub mod Fuel

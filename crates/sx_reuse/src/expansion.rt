@@ -1,9 +1,10 @@
 //! The record of a library or a program, and the core text of a program, behind the records so far.
 
-ghost use Rattle.std.specs.Prelude.{◌≡◌, ◌∷◌, true, IfOk};
+ghost use Rattle.std.specs.Prelude.{◌≡◌, ◌+◌, ◌∷◌, true, IfOk, OnOk};
 ghost use Rattle.std.specs.String.{string_bytes};
 ghost use Rattle.sx_base.specs.Gives.{Gives};
-ghost use Rattle.sx_library.specs.Loaded.{expand_found, link_found, planned_text};
+ghost use Rattle.sx_forms.specs.Form.{program_body};
+ghost use Rattle.sx_library.specs.Loaded.{expand_found, link_found, planned_text, found_spent};
 ghost use Rattle.sx_prelude.specs.Prelude.{kept};
 ghost use Rattle.sx_reuse.specs.Expansion.{body_in, text_after};
 
@@ -17,13 +18,13 @@ use sx_base::symbol::Symbol;
 use sx_core::record::LibRecord;
 use sx_core_text::whole::core_text;
 use sx_derived::implementation::Implementation;
+use sx_expand::tally::Tally;
 use sx_expand::top::Linked;
 use sx_forms::form::{LibraryForm, library_body, program_body};
 use sx_library::library::{Unexpanded, body_of, expand_body};
 use sx_library::records::{Needed, Records};
 use sx_load::found::{Found, Opened};
 use sx_plan::planned::planned;
-use sx_standing::means::Counts;
 
 /// What a file holds.
 #[derive(Clone, Copy)]
@@ -78,9 +79,11 @@ fn linked<N: Ledger, L: Ledger>(
     behind: &Behind,
     file: File,
     found: Found,
-    counts: &mut Counts<N, L>,
+    tally: &mut Tally<N, L>,
 ) -> Result<Linked, Stop>
-    ensures { Gives (λ l. l) result (link_found (kept behind.now.implementation.now.prelude) behind.now.records.now found
+    ensures linked { Gives (λ l. l) result (link_found (kept behind.now.implementation.now.prelude) behind.now.records.now found
+        (body_in file found.opened.«data»)) }
+    ensures fuel { OnOk result (tally.new.fuel ≡ tally.old.fuel + found_spent (kept behind.now.implementation.now.prelude) behind.now.records.now found
         (body_in file found.opened.«data»)) }
 {
     let alloc = behind.alloc;
@@ -93,7 +96,7 @@ fn linked<N: Ledger, L: Ledger>(
     let body = body_of(alloc, &needed, &found.opened.form, data)?;
     let (path, form) = without_data(found);
     let unexpanded = Unexpanded { path, form, body };
-    expand_body(alloc, behind.implementation, &needed, unexpanded, counts)
+    expand_body(alloc, behind.implementation, &needed, unexpanded, tally)
 }
 
 // The record of an expansion, without its links.
@@ -109,12 +112,14 @@ pub fn record_of<N: Ledger, L: Ledger>(
     behind: &Behind,
     file: File,
     found: Found,
-    counts: &mut Counts<N, L>,
+    tally: &mut Tally<N, L>,
 ) -> Result<LibRecord, Stop>
-    ensures { Gives (λ r. r) result (expand_found (kept behind.now.implementation.now.prelude) behind.now.records.now found
+    ensures record { Gives (λ r. r) result (expand_found (kept behind.now.implementation.now.prelude) behind.now.records.now found
+        (body_in file found.opened.«data»)) }
+    ensures fuel { OnOk result (tally.new.fuel ≡ tally.old.fuel + found_spent (kept behind.now.implementation.now.prelude) behind.now.records.now found
         (body_in file found.opened.«data»)) }
 {
-    let linked = linked(behind, file, found, counts)?;
+    let linked = linked(behind, file, found, tally)?;
     Ok(without_links(linked))
 }
 
@@ -133,16 +138,18 @@ pub fn text_after<N: Ledger, L: Ledger>(
     implementation: &Implementation,
     records: Records,
     found: Found,
-    counts: &mut Counts<N, L>,
+    tally: &mut Tally<N, L>,
 ) -> Result<String, Stop>
-    ensures { Gives string_bytes result (text_after (kept implementation.now.prelude) records found) }
+    ensures text { Gives string_bytes result (text_after (kept implementation.now.prelude) records found) }
+    ensures fuel { OnOk result (tally.new.fuel ≡ tally.old.fuel + found_spent (kept implementation.now.prelude) records found
+        (program_body found.opened.«data»)) }
 {
     let behind = Behind {
         alloc,
         implementation,
         records: &records,
     };
-    let program = record_of(&behind, File::Program, found, counts)?;
+    let program = record_of(&behind, File::Program, found, tally)?;
     let records = records.into_records();
     planned_text(alloc, &records, &program)
 }

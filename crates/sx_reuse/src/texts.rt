@@ -1,8 +1,10 @@
 //! The core text of a program behind the turns of its libraries.
 
-ghost use Rattle.std.specs.Prelude.{◌≡◌, ◌≤◌};
+ghost use Rattle.std.specs.Prelude.{◌≡◌, ◌≤◌, ◌+◌, IfOk, OnOk, Ok};
+ghost use Rattle.std.specs.String.{string_bytes};
 ghost use Rattle.sx_outside.specs.Store.{WhereTold};
 ghost use Rattle.sx_prelude.specs.Prelude.{kept};
+ghost use Rattle.sx_reuse.specs.Fuel.{WritesSpending, came_spent};
 ghost use Rattle.sx_reuse.specs.Texts.{Answers, TextGives, found_in};
 ghost use Rattle.sx_reuse.specs.declared.texts.Came.TheVariants as came;
 
@@ -12,10 +14,10 @@ use crate::turns::{Turning, take_turns};
 use std::sync::ledger::Ledger;
 use sx_base::fault::{Fault, Stop};
 use sx_base::items::Items;
+use sx_expand::tally::Tally;
 use sx_import::table::Table;
 use sx_load::found::Found;
 use sx_outside::Store;
-use sx_standing::means::Counts;
 
 /// What loading came to: a program, or the fault that ended it.
 #[derive(Drop)]
@@ -43,18 +45,13 @@ fn program_text<N: Ledger, L: Ledger>(
     turning: &Turning,
     turned: Turned,
     found: Found,
-    counts: &mut Counts<N, L>,
+    tally: &mut Tally<N, L>,
 ) -> Result<Written, Stop>
-    ensures { TextGives (kept turning.now.implementation.now.prelude) result (came.Program found) turned }
+    ensures text { TextGives (kept turning.now.implementation.now.prelude) result (came.Program found) turned }
+    ensures fuel { OnOk result (tally.new.fuel ≡ tally.old.fuel + came_spent (kept turning.now.implementation.now.prelude) (came.Program found) turned) }
 {
     let (records, reused) = turned.into_parts();
-    let text = text_after(
-        turning.alloc,
-        turning.implementation,
-        records,
-        found,
-        counts,
-    )?;
+    let text = text_after(turning.alloc, turning.implementation, records, found, tally)?;
     Ok(Written { text, reused })
 }
 
@@ -63,12 +60,13 @@ fn text_behind<N: Ledger, L: Ledger>(
     turning: &Turning,
     turned: Turned,
     came: Came,
-    counts: &mut Counts<N, L>,
+    tally: &mut Tally<N, L>,
 ) -> Result<Written, Stop>
-    ensures { TextGives (kept turning.now.implementation.now.prelude) result came turned }
+    ensures text { TextGives (kept turning.now.implementation.now.prelude) result came turned }
+    ensures fuel { OnOk result (tally.new.fuel ≡ tally.old.fuel + came_spent (kept turning.now.implementation.now.prelude) came turned) }
 {
     match came {
-        Came::Program(found) => program_text(turning, turned, found, counts),
+        Came::Program(found) => program_text(turning, turned, found, tally),
         Came::Fault(fault) => Err(Stop::Fault(fault)),
     }
 }
@@ -78,16 +76,19 @@ pub fn write_program<S: Store, N: Ledger, L: Ledger>(
     turning: &Turning,
     loaded: Loaded,
     store: &mut S,
-    counts: &mut Counts<N, L>,
+    tally: &mut Tally<N, L>,
 ) -> Result<Written, Stop>
     ensures later { S.faults store.old ≤ S.faults store.new }
     ensures answers { WhereTold (S.told store.old) (S.told store.new) (λ before after.
         Answers turning.now.cache.now (kept turning.now.implementation.now.prelude) result loaded.came (found_in loaded.libraries)
         before (S.faults store.old) after (S.faults store.new)) }
+    ensures fuel { IfOk result (λ w. WhereTold (S.told store.old) (S.told store.new) (λ before after.
+        WritesSpending turning.now.cache.now (kept turning.now.implementation.now.prelude) loaded.came (found_in loaded.libraries)
+        before (S.faults store.old) after (S.faults store.new) (Ok (string_bytes w.text, w.reused)) tally.old.fuel tally.new.fuel)) }
 {
     let Loaded { libraries, came } = loaded;
-    match take_turns(turning, libraries, store, counts) {
-        Ok(turned) => text_behind(turning, turned, came, counts),
+    match take_turns(turning, libraries, store, tally) {
+        Ok(turned) => text_behind(turning, turned, came, tally),
         Err(stop) => Err(stop),
     }
 }

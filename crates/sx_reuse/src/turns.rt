@@ -1,15 +1,16 @@
 //! The turns of libraries.
 
-ghost use Rattle.std.specs.Prelude.{◌≡◌, ◌≤◌, IfOk, IfSome, Some, false, map};
+ghost use Rattle.std.specs.Prelude.{◌≡◌, ◌≤◌, ◌+◌, IfOk, IfSome, OnOk, Some, false, map};
 ghost use Rattle.std.specs.String.{string_bytes};
 ghost use Rattle.sx_base.specs.Gives.{Gives};
 ghost use Rattle.sx_derived.specs.Derived.{derived_record};
 ghost use Rattle.sx_forms.specs.Form.{library_body};
-ghost use Rattle.sx_library.specs.Loaded.{expand_found};
+ghost use Rattle.sx_library.specs.Loaded.{expand_found, found_spent};
 ghost use Rattle.sx_outside.specs.Contents.{at_path};
 ghost use Rattle.sx_outside.specs.Store.{WhereTold};
 ghost use Rattle.sx_prelude.specs.Prelude.{kept};
 ghost use Rattle.sx_reuse.specs.Entries.{entry_in, if_fits, if_short, if_suits, spelled, suits};
+ghost use Rattle.sx_reuse.specs.Fuel.{TurnSpends, TurnsSpend, progress_spent, turn_spent};
 ghost use Rattle.sx_reuse.specs.Progress.{with_record};
 ghost use Rattle.sx_reuse.specs.Turns.{Asked, Keeps, PutsEntry, Records, TakesTurn, TakeTurns, TakeFrom, state};
 
@@ -24,11 +25,11 @@ use sx_cache::entry::Entry;
 use sx_core::record::LibRecord;
 use sx_derived::derived::derived_record;
 use sx_derived::implementation::Implementation;
+use sx_expand::tally::Tally;
 use sx_follows::follows::follows;
 use sx_import::table::Table;
 use sx_load::found::Found;
 use sx_outside::{OutsideError, Store, StoreAnswer};
-use sx_standing::means::Counts;
 
 /// What each turn of a run is given.
 #[derive(Drop)]
@@ -148,9 +149,11 @@ fn expanded<N: Ledger, L: Ledger>(
     turning: &Turning,
     turned: &Turned,
     found: Found,
-    counts: &mut Counts<N, L>,
+    tally: &mut Tally<N, L>,
 ) -> Result<LibRecord, Stop>
-    ensures { Gives (λ r. r) result (expand_found (kept turning.now.implementation.now.prelude) turned.now.records found
+    ensures record { Gives (λ r. r) result (expand_found (kept turning.now.implementation.now.prelude) turned.now.records found
+        (library_body found.opened.«data»)) }
+    ensures fuel { OnOk result (tally.new.fuel ≡ tally.old.fuel + found_spent (kept turning.now.implementation.now.prelude) turned.now.records found
         (library_body found.opened.«data»)) }
 {
     let behind = Behind {
@@ -158,7 +161,7 @@ fn expanded<N: Ledger, L: Ledger>(
         implementation: turning.implementation,
         records: turned.records(),
     };
-    record_of(&behind, File::Library, found, counts)
+    record_of(&behind, File::Library, found, tally)
 }
 
 // The record of a library, which is expanded, and whose entry is put.
@@ -167,16 +170,17 @@ fn expand_and_keep<S: Store, N: Ledger, L: Ledger>(
     turned: &Turned,
     due: Due,
     store: &mut S,
-    counts: &mut Counts<N, L>,
+    tally: &mut Tally<N, L>,
 ) -> Result<Recorded, Stop>
     ensures later { S.faults store.old ≤ S.faults store.new }
     ensures kept { WhereTold (S.told store.old) (S.told store.new) (λ before after.
         Keeps turning.now.cache.now (kept turning.now.implementation.now.prelude) turned.now.records due.found (string_bytes due.place) result
         before after (S.faults store.old) (S.faults store.new)) }
+    ensures fuel { IfOk result (λ r. tally.new.fuel ≡ tally.old.fuel + turn_spent (kept turning.now.implementation.now.prelude) turned.now.records due.found r.reused) }
 {
     let Due { found, place } = due;
     let unmade = turning.cache.unmade(turning.alloc, &found)?;
-    let stored = expanded(turning, turned, found, counts)?;
+    let stored = expanded(turning, turned, found, tally)?;
     let entry = unmade.with(stored);
     keep(turning.alloc, place.as_str(), &entry, store)?;
     Ok(of_expansion(entry))
@@ -188,12 +192,13 @@ fn ask_or_expand<S: Store, N: Ledger, L: Ledger>(
     turned: &Turned,
     found: Found,
     store: &mut S,
-    counts: &mut Counts<N, L>,
+    tally: &mut Tally<N, L>,
 ) -> Result<Recorded, Stop>
     ensures later { S.faults store.old ≤ S.faults store.new }
     ensures turn { WhereTold (S.told store.old) (S.told store.new) (λ before after.
         Records turning.now.cache.now (kept turning.now.implementation.now.prelude) result (state turned.now before (S.faults store.old))
         found after (S.faults store.new)) }
+    ensures fuel { IfOk result (λ r. tally.new.fuel ≡ tally.old.fuel + turn_spent (kept turning.now.implementation.now.prelude) turned.now.records found r.reused) }
 {
     let due = turning.cache.due(turning.alloc, found)?;
     let stored = ask(turning, turned, &due, store)?;
@@ -202,7 +207,7 @@ fn ask_or_expand<S: Store, N: Ledger, L: Ledger>(
             library,
             reused: true,
         }),
-        None => expand_and_keep(turning, turned, due, store, counts),
+        None => expand_and_keep(turning, turned, due, store, tally),
     }
 }
 
@@ -220,14 +225,15 @@ fn take_turn<S: Store, N: Ledger, L: Ledger>(
     turned: Turned,
     found: Found,
     store: &mut S,
-    counts: &mut Counts<N, L>,
+    tally: &mut Tally<N, L>,
 ) -> Result<Turned, Stop>
     ensures later { S.faults store.old ≤ S.faults store.new }
     ensures turn { WhereTold (S.told store.old) (S.told store.new) (λ before after.
         TakesTurn turning.now.cache.now (kept turning.now.implementation.now.prelude) result (state turned before (S.faults store.old))
         found after (S.faults store.new)) }
+    ensures fuel { IfOk result (λ t. TurnSpends (kept turning.now.implementation.now.prelude) turned found t tally.old.fuel tally.new.fuel) }
 {
-    let recorded = ask_or_expand(turning, &turned, found, store, counts)?;
+    let recorded = ask_or_expand(turning, &turned, found, store, tally)?;
     let turned = with_recorded(turning.alloc, turned, recorded)?;
     Ok(turned)
 }
@@ -238,16 +244,17 @@ fn take_each<S: Store, N: Ledger, L: Ledger>(
     turned: Turned,
     libraries: Table<Found>,
     store: &mut S,
-    counts: &mut Counts<N, L>,
+    tally: &mut Tally<N, L>,
 ) -> Result<Turned, Stop>
     ensures later { S.faults store.old ≤ S.faults store.new }
     ensures turns { WhereTold (S.told store.old) (S.told store.new) (λ before after.
         TakeTurns turning.now.cache.now (kept turning.now.implementation.now.prelude) result (state turned before (S.faults store.old))
         (map (λ row. row.1) libraries) after (S.faults store.new)) }
+    ensures fuel { IfOk result (λ t. TurnsSpend (kept turning.now.implementation.now.prelude) turned (map (λ row. row.1) libraries) t tally.old.fuel tally.new.fuel) }
 {
     let mut turned = turned;
     for found in libraries.into_values() {
-        turned = take_turn(turning, turned, found, store, counts)?;
+        turned = take_turn(turning, turned, found, store, tally)?;
     }
     Ok(turned)
 }
@@ -257,14 +264,15 @@ pub fn take_turns<S: Store, N: Ledger, L: Ledger>(
     turning: &Turning,
     libraries: Table<Found>,
     store: &mut S,
-    counts: &mut Counts<N, L>,
+    tally: &mut Tally<N, L>,
 ) -> Result<Turned, Stop>
     ensures later { S.faults store.old ≤ S.faults store.new }
     ensures turns { WhereTold (S.told store.old) (S.told store.new) (λ before after.
         TakeFrom turning.now.cache.now (kept turning.now.implementation.now.prelude) (derived_record (kept turning.now.implementation.now.prelude))
         result (map (λ row. row.1) libraries) before after (S.faults store.old) (S.faults store.new)) }
+    ensures fuel { IfOk result (λ t. tally.new.fuel ≡ tally.old.fuel + progress_spent (kept turning.now.implementation.now.prelude) (map (λ row. row.1) libraries) t) }
 {
-    let derived = derived_record(turning.alloc, turning.implementation, counts)?;
+    let derived = derived_record(turning.alloc, turning.implementation, tally)?;
     let turned = Turned::new(turning.alloc, derived)?;
-    take_each(turning, turned, libraries, store, counts)
+    take_each(turning, turned, libraries, store, tally)
 }

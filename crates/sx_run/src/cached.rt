@@ -6,6 +6,7 @@ ghost use Rattle.sx_outside.specs.Causes.{Rose};
 ghost use Rattle.sx_outside.specs.Store.{WhereTold};
 ghost use Rattle.sx_prelude.specs.Prelude.{kept, prelude_table};
 ghost use Rattle.sx_run.specs.Cached.{fate_at, told_from, report_by, PreparesText, PreparesFrom, PreparesCached};
+ghost use Rattle.sx_run.specs.Fuel.{ComesSpending, SpendsCached, SpendsFrom};
 
 use crate::inputs::Inputs;
 use crate::prepare::{Prepared, Unfinished, libraries, line_of, prelude};
@@ -16,6 +17,7 @@ use sx_base::items::Items;
 use sx_base::memory::Memory;
 use sx_base::symbol::Symbol;
 use sx_derived::implementation::Implementation;
+use sx_expand::tally::Tally;
 use sx_load::found::{Loading, Source};
 use sx_load::halt::Halt;
 use sx_load::load::load;
@@ -26,7 +28,6 @@ use sx_reuse::entry::Cache;
 use sx_reuse::groups::groups_of;
 use sx_reuse::texts::{Came, Loaded, Written, write_program};
 use sx_reuse::turns::Turning;
-use sx_standing::means::Counts;
 use sx_standing::share::share_library;
 use sx_words::job::Job;
 
@@ -119,13 +120,16 @@ fn of_loaded<S: Store, N: Ledger, L: Ledger>(
     implementation: &Implementation,
     loaded: (Came, Loading),
     store: &mut S,
-    counts: &mut Counts<N, L>,
+    tally: &mut Tally<N, L>,
 ) -> Result<Prepared, Unfinished>
     requires { kept implementation.now.prelude ≡ prelude_table }
     ensures later { S.faults store.old ≤ S.faults store.new }
     ensures gives { WhereTold (S.told store.old) (S.told store.new) (λ before after.
         PreparesFrom result cached.now.job.now cached.now.dir.now loaded.0 loaded.1 before (S.faults store.old) after (S.faults store.new)) }
     ensures unread { result ≢ Err Unfinished.Read }
+    ensures fuel { IfOk result (λ made. WhereTold (S.told store.old) (S.told store.new) (λ before after.
+        ComesSpending cached.now.job.now cached.now.dir.now loaded.0 loaded.1 before (S.faults store.old) after (S.faults store.new)
+        (string_bytes made.text) (string_bytes made.report) tally.old.fuel tally.new.fuel)) }
 {
     let alloc = cached.alloc;
     let (came, loading) = loaded;
@@ -152,7 +156,7 @@ fn of_loaded<S: Store, N: Ledger, L: Ledger>(
         libraries: done,
         came,
     };
-    let written = write_program(&turning, loaded, store, counts);
+    let written = write_program(&turning, loaded, store, tally);
     let tellable = Tellable {
         report: cached.job.report,
         libraries: libraries.as_slice(),
@@ -166,13 +170,16 @@ fn of_job<F: Files, S: Store, N: Ledger, L: Ledger>(
     cached: &CachedJob,
     implementation: &Implementation,
     inputs: &mut Inputs<F, S>,
-    counts: &mut Counts<N, L>,
+    tally: &mut Tally<N, L>,
 ) -> Result<Prepared, Unfinished>
     requires { kept implementation.now.prelude ≡ prelude_table }
     ensures later { S.faults inputs.old.store ≤ S.faults inputs.new.store }
     ensures gives { IfSome (F.told inputs.old.files) (λ fs. WhereTold (S.told inputs.old.store) (S.told inputs.new.store) (λ before after.
         PreparesCached result fs cached.now.job.now cached.now.dir.now before (S.faults inputs.old.store) after (S.faults inputs.new.store))) }
     ensures read { result ≡ Err Unfinished.Read → (inputs.new.store ≡ inputs.old.store) × Rose (F.faults inputs.old.files) (F.faults inputs.new.files) }
+    ensures fuel { IfSome (F.told inputs.old.files) (λ fs. IfOk result (λ made. WhereTold (S.told inputs.old.store) (S.told inputs.new.store) (λ before after.
+        SpendsFrom fs cached.now.job.now cached.now.dir.now before (S.faults inputs.old.store) after (S.faults inputs.new.store)
+        (string_bytes made.text) (string_bytes made.report) tally.old.fuel tally.new.fuel))) }
 {
     let mut loading = Loading::new(cached.alloc);
     let came = load(
@@ -193,7 +200,7 @@ fn of_job<F: Files, S: Store, N: Ledger, L: Ledger>(
         implementation,
         (came, loading),
         &mut inputs.store,
-        counts,
+        tally,
     )
 }
 
@@ -203,17 +210,20 @@ pub fn prepare_cached<F: Files, S: Store, N: Ledger, L: Ledger>(
     cached: &CachedJob,
     inputs: &mut Inputs<F, S>,
     primitives: &PrimTable,
-    counts: &mut Counts<N, L>,
+    tally: &mut Tally<N, L>,
 ) -> Result<Prepared, Unfinished>
     ensures later { S.faults inputs.old.store ≤ S.faults inputs.new.store }
     ensures gives { IfSome (F.told inputs.old.files) (λ fs. WhereTold (S.told inputs.old.store) (S.told inputs.new.store) (λ before after.
         PreparesCached result fs cached.now.job.now cached.now.dir.now before (S.faults inputs.old.store) after (S.faults inputs.new.store))) }
     ensures read { result ≡ Err Unfinished.Read → (inputs.new.store ≡ inputs.old.store) × Rose (F.faults inputs.old.files) (F.faults inputs.new.files) }
+    ensures fuel { IfSome (F.told inputs.old.files) (λ fs. IfOk result (λ made. WhereTold (S.told inputs.old.store) (S.told inputs.new.store) (λ before after.
+        SpendsCached fs cached.now.job.now cached.now.dir.now before (S.faults inputs.old.store) after (S.faults inputs.new.store)
+        (string_bytes made.text) (string_bytes made.report) tally.old.fuel tally.new.fuel))) }
 {
-    let prelude = prelude(cached.alloc, primitives, counts)?;
+    let prelude = prelude(cached.alloc, primitives, tally)?;
     let implementation = Implementation {
         prelude,
         primitives,
     };
-    of_job(cached, &implementation, inputs, counts)
+    of_job(cached, &implementation, inputs, tally)
 }

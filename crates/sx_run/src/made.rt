@@ -1,10 +1,11 @@
 //! The expansion of libraries that are made in memory.
 
-ghost use Rattle.std.specs.Prelude.{◌≡◌, ◌≢◌, ◌≤◌, [], Some, Ok, Err, IfOk, ℕ};
+ghost use Rattle.std.specs.Prelude.{◌≡◌, ◌≢◌, ◌≤◌, ◌+◌, [], Some, Ok, Err, IfOk, OnOk, ℕ};
 ghost use Rattle.sx_make.specs.Made.{made_files};
 ghost use Rattle.sx_outside.specs.Causes.{Rose};
 ghost use Rattle.sx_outside.specs.Contents.{Paths, at_path, read_of};
 ghost use Rattle.sx_outside.specs.Files.{file_reading};
+ghost use Rattle.sx_run.specs.Fuel.{job_spent};
 ghost use Rattle.sx_run.specs.Prepared.{Prepares};
 ghost use Rattle.sx_run.specs.Whole.{made_job, of_job, of_made};
 ghost use Rattle.sx_run.specs.declared.prepare.Unfinished.TheVariants as unfinished;
@@ -16,11 +17,11 @@ use std::sync::ledger::Ledger;
 use sx_base::items::Items;
 use sx_base::memory::Memory;
 use sx_base::symbol::Symbol;
+use sx_expand::tally::Tally;
 use sx_make::made::{PROGRAM, made_files};
 use sx_make::summary::summary;
 use sx_outside::{FileAnswer, Files, MemFiles, OutsideError};
 use sx_prims::table::PrimTable;
-use sx_standing::means::Counts;
 use sx_words::job::{Job, Kind};
 
 // Files in memory, of which no read fails.
@@ -86,14 +87,15 @@ fn expanded<N: Ledger, L: Ledger>(
     alloc: Global,
     count: u32,
     primitives: &PrimTable,
-    counts: &mut Counts<N, L>,
+    tally: &mut Tally<N, L>,
 ) -> Result<Prepared, Unfinished>
     ensures gives { Prepares result (of_job (made_files count) made_job) }
     ensures unread { result ≢ Err Unfinished.Read }
+    ensures fuel { OnOk result (tally.new.fuel ≡ tally.old.fuel + job_spent (made_files count) made_job) }
 {
     let job = made_job(alloc)?;
     let mut files = MadeFiles::new(alloc, count)?;
-    prepare(alloc, &job, &mut files, primitives, counts)
+    prepare(alloc, &job, &mut files, primitives, tally)
 }
 
 /// The line on the core text of so many libraries and a program that are made in memory, or why there is none.
@@ -102,12 +104,13 @@ pub fn prepare_made<N: Ledger, L: Ledger>(
     alloc: Global,
     count: u32,
     primitives: &PrimTable,
-    counts: &mut Counts<N, L>,
+    tally: &mut Tally<N, L>,
 ) -> Result<Prepared, Unfinished>
     ensures gives { Prepares result (of_made count) }
     ensures unread { result ≢ Err Unfinished.Read }
+    ensures fuel { OnOk result (tally.new.fuel ≡ tally.old.fuel + job_spent (made_files count) made_job) }
 {
-    match expanded(alloc, count, primitives, counts) {
+    match expanded(alloc, count, primitives, tally) {
         Ok(made) => {
             let text = summary(alloc, count, made.text.as_str())?;
             let report = String::new(alloc);

@@ -1,13 +1,16 @@
 //! All that is to be written, before anything is.
 
 ghost use Rattle.std.specs.Option.{option_copied};
-ghost use Rattle.std.specs.Prelude.{◌≡◌, ◌≢◌, Some, Ok, IfOk, IfSome, Err, map};
+ghost use Rattle.std.specs.Prelude.{◌≡◌, ◌≢◌, ◌+◌, Some, Ok, IfOk, IfSome, OnOk, Err, map};
 ghost use Rattle.std.specs.String.{string_bytes};
 ghost use Rattle.sx_base.specs.FaultLine.{fault_line};
 ghost use Rattle.sx_base.specs.Gives.{Gives};
+ghost use Rattle.sx_load.specs.Load.{load};
 ghost use Rattle.sx_outside.specs.Causes.{Rose};
 ghost use Rattle.sx_outside.specs.Contents.{Paths};
-ghost use Rattle.sx_prelude.specs.Prelude.{kept, prelude_table};
+ghost use Rattle.sx_library.specs.Loaded.{program_spent};
+ghost use Rattle.sx_prelude.specs.Prelude.{kept, prelude_spent, prelude_table};
+ghost use Rattle.sx_run.specs.Fuel.{job_spent, loads_spent};
 ghost use Rattle.sx_run.specs.Whole.{libraries, report_if, held_at, source_of, map_behind, text_behind_by, of_loaded, of_job};
 ghost use Rattle.sx_run.specs.Prepared.{Prepares};
 ghost use Rattle.sx_run.specs.declared.prepare.Unfinished.TheVariants as unfinished;
@@ -20,6 +23,7 @@ use sx_base::items::Items;
 use sx_base::memory::Memory;
 use sx_base::symbol::Symbol;
 use sx_derived::implementation::Implementation;
+use sx_expand::tally::Tally;
 use sx_import::table::Table;
 use sx_library::loaded::{first_fault, program_links, program_text};
 use sx_load::found::{Found, Loading, Source};
@@ -30,7 +34,7 @@ use sx_prelude::prelude::Prelude;
 use sx_prims::table::PrimTable;
 use sx_report::report::{Fate, Told, report_text};
 use sx_stage::earlier::Earlier;
-use sx_standing::means::{Counts, Means};
+use sx_standing::means::Means;
 use sx_standing::share::share_library;
 use sx_words::job::{Job, Kind};
 use sx_xref::map::binding_map;
@@ -125,9 +129,10 @@ pub(crate) fn line_of(alloc: Global, sources: &[Source], fault: &Fault) -> Resul
 pub(crate) fn prelude<N: Ledger, L: Ledger>(
     alloc: Global,
     primitives: &PrimTable,
-    counts: &mut Counts<N, L>,
+    tally: &mut Tally<N, L>,
 ) -> Result<Prelude, Memory>
-    ensures { IfOk result (λ p. kept p ≡ prelude_table) }
+    ensures table { IfOk result (λ p. kept p ≡ prelude_table) }
+    ensures fuel { OnOk result (tally.new.fuel ≡ tally.old.fuel + prelude_spent) }
 {
     let earlier = Earlier {
         records: &[],
@@ -137,7 +142,7 @@ pub(crate) fn prelude<N: Ledger, L: Ledger>(
         earlier,
         prims: primitives,
     };
-    Prelude::new(alloc, &means, counts)
+    Prelude::new(alloc, &means, tally)
 }
 
 // What was loaded, what is to be written of it, and whether a report on it is asked for.
@@ -161,12 +166,13 @@ fn map_text<N: Ledger, L: Ledger>(
     implementation: &Implementation,
     unwritten: Unwritten,
     sources: &[Source],
-    counts: &mut Counts<N, L>,
+    tally: &mut Tally<N, L>,
 ) -> Result<String, Stop>
-    ensures { Gives string_bytes result (map_behind (kept implementation.now.prelude) unwritten.done unwritten.found sources.now) }
+    ensures text { Gives string_bytes result (map_behind (kept implementation.now.prelude) unwritten.done unwritten.found sources.now) }
+    ensures fuel { OnOk result (tally.new.fuel ≡ tally.old.fuel + program_spent (kept implementation.now.prelude) unwritten.done unwritten.found) }
 {
     let Unwritten { found, done } = unwritten;
-    let links = program_links(alloc, implementation, found, done, counts)?;
+    let links = program_links(alloc, implementation, found, done, tally)?;
     let map = binding_map(alloc, links.as_slice())?;
     Ok(xref_text(alloc, map.as_slice(), sources)?)
 }
@@ -178,16 +184,17 @@ fn text_by<N: Ledger, L: Ledger>(
     kind: Kind,
     unwritten: Unwritten,
     sources: &[Source],
-    counts: &mut Counts<N, L>,
+    tally: &mut Tally<N, L>,
 ) -> Result<String, Stop>
-    ensures { Gives string_bytes result (text_behind_by kind (kept implementation.now.prelude) unwritten.done unwritten.found sources.now) }
+    ensures text { Gives string_bytes result (text_behind_by kind (kept implementation.now.prelude) unwritten.done unwritten.found sources.now) }
+    ensures fuel { OnOk result (tally.new.fuel ≡ tally.old.fuel + program_spent (kept implementation.now.prelude) unwritten.done unwritten.found) }
 {
     match kind {
         Kind::Core => {
             let Unwritten { found, done } = unwritten;
-            program_text(alloc, implementation, found, done, counts)
+            program_text(alloc, implementation, found, done, tally)
         }
-        Kind::Xref => map_text(alloc, implementation, unwritten, sources, counts),
+        Kind::Xref => map_text(alloc, implementation, unwritten, sources, tally),
     }
 }
 
@@ -197,11 +204,12 @@ fn of_found<N: Ledger, L: Ledger>(
     implementation: &Implementation,
     loaded: Loaded,
     found: Found,
-    counts: &mut Counts<N, L>,
+    tally: &mut Tally<N, L>,
 ) -> Result<Prepared, Unfinished>
     requires { kept implementation.now.prelude ≡ prelude_table }
     ensures gives { Prepares result (of_loaded loaded.kind loaded.report (Ok (found, loaded.loading))) }
     ensures unread { result ≢ Err Unfinished.Read }
+    ensures fuel { OnOk result (tally.new.fuel ≡ tally.old.fuel + loads_spent prelude_table (Ok (found, loaded.loading))) }
 {
     let Loaded {
         loading,
@@ -217,7 +225,7 @@ fn of_found<N: Ledger, L: Ledger>(
         kind,
         unwritten,
         sources.as_slice(),
-        counts,
+        tally,
     ) {
         Ok(text) => Ok(Prepared { text, report }),
         Err(Stop::Fault(fault)) => Err(Unfinished::Line(line_of(
@@ -235,15 +243,16 @@ fn of_fault<N: Ledger, L: Ledger>(
     implementation: &Implementation,
     loaded: Loaded,
     fault: Fault,
-    counts: &mut Counts<N, L>,
+    tally: &mut Tally<N, L>,
 ) -> Result<Prepared, Unfinished>
     requires { kept implementation.now.prelude ≡ prelude_table }
     ensures gives { Prepares result (of_loaded loaded.kind loaded.report (Err (loaded.loading, fault))) }
     ensures unread { result ≢ Err Unfinished.Read }
+    ensures fuel { OnOk result (tally.new.fuel ≡ tally.old.fuel + loads_spent prelude_table (Err (loaded.loading, fault))) }
 {
     let Loaded { loading, .. } = loaded;
     let Loading { done, sources, .. } = loading;
-    match first_fault(alloc, implementation, done, fault, counts) {
+    match first_fault(alloc, implementation, done, fault, tally) {
         Stop::Fault(fault) => Err(Unfinished::Line(line_of(alloc, sources.as_slice(), &fault)?)),
         Stop::Memory => Err(Unfinished::Memory),
     }
@@ -256,11 +265,12 @@ fn of_job<F: Files, N: Ledger, L: Ledger>(
     implementation: &Implementation,
     job: &Job,
     files: &mut F,
-    counts: &mut Counts<N, L>,
+    tally: &mut Tally<N, L>,
 ) -> Result<Prepared, Unfinished>
     requires { kept implementation.now.prelude ≡ prelude_table }
     ensures gives { IfSome (F.told files.old) (λ fs. Prepares result (of_job fs job.now)) }
     ensures read { result ≡ Err Unfinished.Read → Rose (F.faults files.old) (F.faults files.new) }
+    ensures fuel { IfSome (F.told files.old) (λ fs. OnOk result (tally.new.fuel ≡ tally.old.fuel + loads_spent prelude_table (load fs job.now.roots job.now.program))) }
 {
     let mut loading = Loading::new(alloc);
     let came = load(
@@ -276,8 +286,8 @@ fn of_job<F: Files, N: Ledger, L: Ledger>(
         report: job.report,
     };
     match came {
-        Ok(found) => of_found(alloc, implementation, loaded, found, counts),
-        Err(Halt::Fault(fault)) => of_fault(alloc, implementation, loaded, fault, counts),
+        Ok(found) => of_found(alloc, implementation, loaded, found, tally),
+        Err(Halt::Fault(fault)) => of_fault(alloc, implementation, loaded, fault, tally),
         Err(Halt::Read) => Err(Unfinished::Read),
         Err(Halt::Memory) => Err(Unfinished::Memory),
     }
@@ -289,15 +299,16 @@ pub fn prepare<F: Files, N: Ledger, L: Ledger>(
     job: &Job,
     files: &mut F,
     primitives: &PrimTable,
-    counts: &mut Counts<N, L>,
+    tally: &mut Tally<N, L>,
 ) -> Result<Prepared, Unfinished>
     ensures gives { IfSome (F.told files.old) (λ fs. Prepares result (of_job fs job.now)) }
     ensures read { result ≡ Err Unfinished.Read → Rose (F.faults files.old) (F.faults files.new) }
+    ensures fuel { IfSome (F.told files.old) (λ fs. OnOk result (tally.new.fuel ≡ tally.old.fuel + job_spent fs job.now)) }
 {
-    let prelude = prelude(alloc, primitives, counts)?;
+    let prelude = prelude(alloc, primitives, tally)?;
     let implementation = Implementation {
         prelude,
         primitives,
     };
-    of_job(alloc, &implementation, job, files, counts)
+    of_job(alloc, &implementation, job, files, tally)
 }

@@ -1,9 +1,11 @@
 //! The top call.
 
-ghost use Rattle.std.specs.Prelude.{◌≡◌, [], Err};
+ghost use Rattle.std.specs.Prelude.{◌≡◌, [], Err, IfOk};
+ghost use Rattle.std.specs.String.{string_bytes};
 ghost use Rattle.sx_outside.specs.Causes.{Rose};
 ghost use Rattle.sx_run.specs.Words.{texts};
 ghost use Rattle.sx_run.specs.Headline.{Sunk, Wrote, Reports, Finishes, Complains, Headline, Complete, LeavesFiles, IsCoreIfCached, SaysJob, KeepsJob, KeepsStore};
+ghost use Rattle.sx_run.specs.Fuel.{SpendsIfDone, SpendsJob};
 ghost use Rattle.sx_run.specs.Prepared.{PreparesBy, Writes};
 
 use crate::cached::{CachedJob, prepare_cached};
@@ -14,9 +16,9 @@ use crate::status::Status;
 use crate::words::words_asked;
 use std::alloc::Global;
 use std::sync::ledger::Ledger;
+use sx_expand::tally::Tally;
 use sx_outside::{Files, Sink, Store};
 use sx_prims::table::PrimTable;
-use sx_standing::means::Counts;
 use sx_words::job::Job;
 use sx_words::words::Words;
 
@@ -90,7 +92,7 @@ fn prepared<F: Files, S: Store, N: Ledger, L: Ledger>(
     job: &Job,
     inputs: &mut Inputs<F, S>,
     primitives: &PrimTable,
-    counts: &mut Counts<N, L>,
+    tally: &mut Tally<N, L>,
 ) -> Result<Prepared, Unfinished>
     requires { IsCoreIfCached job.now }
     ensures gives { PreparesBy (SaysJob (F.told inputs.old.files)
@@ -100,13 +102,16 @@ fn prepared<F: Files, S: Store, N: Ledger, L: Ledger>(
         (record { before = S.told inputs.old.store; after = S.told inputs.new.store; faults_before = S.faults inputs.old.store; faults_after = S.faults inputs.new.store })
         job.now job.now.cache inputs.old.store inputs.new.store }
     ensures read { result ≡ Err Unfinished.Read → Rose (F.faults inputs.old.files) (F.faults inputs.new.files) }
+    ensures fuel { IfOk result (λ made. SpendsJob (F.told inputs.old.files)
+        (record { before = S.told inputs.old.store; after = S.told inputs.new.store; faults_before = S.faults inputs.old.store; faults_after = S.faults inputs.new.store })
+        job.now job.now.cache (string_bytes made.text) (string_bytes made.report) tally.old.fuel tally.new.fuel) }
 {
     match &job.cache {
         Some(dir) => {
             let cached = CachedJob { alloc, job, dir };
-            prepare_cached(&cached, inputs, primitives, counts)
+            prepare_cached(&cached, inputs, primitives, tally)
         }
-        None => prepare(alloc, job, &mut inputs.files, primitives, counts),
+        None => prepare(alloc, job, &mut inputs.files, primitives, tally),
     }
 }
 
@@ -115,7 +120,7 @@ fn run_words<F: Files, S: Store, O: Sink, E: Sink, N: Ledger, L: Ledger>(
     words: &[String],
     outside: &mut Outside<F, S, O, E>,
     primitives: &PrimTable,
-    counts: &mut Counts<N, L>,
+    tally: &mut Tally<N, L>,
 ) -> Status
     ensures headline { Headline (F.told outside.old.inputs.files)
         (record { before = S.told outside.old.inputs.store; after = S.told outside.new.inputs.store; faults_before = S.faults outside.old.inputs.store; faults_after = S.faults outside.new.inputs.store })
@@ -126,15 +131,21 @@ fn run_words<F: Files, S: Store, O: Sink, E: Sink, N: Ledger, L: Ledger>(
     ensures store { KeepsStore (F.told outside.old.inputs.files)
         (record { before = S.told outside.old.inputs.store; after = S.told outside.new.inputs.store; faults_before = S.faults outside.old.inputs.store; faults_after = S.faults outside.new.inputs.store })
         (texts words.now) outside.old.inputs.store outside.new.inputs.store }
+    ensures fuel { SpendsIfDone (F.told outside.old.inputs.files)
+        (record { before = S.told outside.old.inputs.store; after = S.told outside.new.inputs.store; faults_before = S.faults outside.old.inputs.store; faults_after = S.faults outside.new.inputs.store })
+        (texts words.now)
+        (record { before = O.told outside.old.out; after = O.told outside.new.out; faults_before = O.faults outside.old.out; faults_after = O.faults outside.new.out; puts_before = O.puts outside.old.out; puts_after = O.puts outside.new.out })
+        (record { before = E.told outside.old.err; after = E.told outside.new.err; faults_before = E.faults outside.old.err; faults_after = E.faults outside.new.err; puts_before = E.puts outside.old.err; puts_after = E.puts outside.new.err })
+        tally.old.fuel tally.new.fuel result }
 {
     let Outside { inputs, out, err } = outside;
     match words_asked(alloc, words) {
         Ok(Words::Expand(job)) => {
-            let prepared = prepared(alloc, &job, inputs, primitives, counts);
+            let prepared = prepared(alloc, &job, inputs, primitives, tally);
             write(out, err, &prepared)
         }
         Ok(Words::Make(count)) => {
-            let prepared = prepare_made(alloc, count, primitives, counts);
+            let prepared = prepare_made(alloc, count, primitives, tally);
             write(out, err, &prepared)
         }
         Ok(Words::Usage) => complain(out, err, USAGE, Status::Usage),
@@ -148,14 +159,15 @@ fn run_words<F: Files, S: Store, O: Sink, E: Sink, N: Ledger, L: Ledger>(
 /// before the first write: `out` gets at most one put, and `err` at most one behind it.
 /// With `--cache` it takes the records of libraries from the store, where they were made of the sources that it reads, and
 /// puts there those that it makes; without it the store is left as it was.
-/// `primitives` computes those that transformers call. What is counted: the nodes that changes of syntax trees
-/// make, and the fuel that evaluations spend.
+/// `primitives` computes those that transformers call. `tally` counts the nodes that changes of syntax trees make, and the
+/// fuel that evaluations spend: with status 0 it has risen by just that of the expansions of the derived library, of
+/// each library that isn't reused, and of the program, behind that of the texts of procedures.
 pub fn run<F: Files, S: Store, O: Sink, E: Sink, N: Ledger, L: Ledger>(
     alloc: Global,
     words: &[String],
     outside: &mut Outside<F, S, O, E>,
     primitives: &PrimTable,
-    counts: &mut Counts<N, L>,
+    tally: &mut Tally<N, L>,
 ) -> Status
     ensures headline { Headline (F.told outside.old.inputs.files)
         (record { before = S.told outside.old.inputs.store; after = S.told outside.new.inputs.store; faults_before = S.faults outside.old.inputs.store; faults_after = S.faults outside.new.inputs.store })
@@ -167,6 +179,12 @@ pub fn run<F: Files, S: Store, O: Sink, E: Sink, N: Ledger, L: Ledger>(
     ensures store { KeepsStore (F.told outside.old.inputs.files)
         (record { before = S.told outside.old.inputs.store; after = S.told outside.new.inputs.store; faults_before = S.faults outside.old.inputs.store; faults_after = S.faults outside.new.inputs.store })
         (texts words.now) outside.old.inputs.store outside.new.inputs.store }
+    ensures fuel { SpendsIfDone (F.told outside.old.inputs.files)
+        (record { before = S.told outside.old.inputs.store; after = S.told outside.new.inputs.store; faults_before = S.faults outside.old.inputs.store; faults_after = S.faults outside.new.inputs.store })
+        (texts words.now)
+        (record { before = O.told outside.old.out; after = O.told outside.new.out; faults_before = O.faults outside.old.out; faults_after = O.faults outside.new.out; puts_before = O.puts outside.old.out; puts_after = O.puts outside.new.out })
+        (record { before = E.told outside.old.err; after = E.told outside.new.err; faults_before = E.faults outside.old.err; faults_after = E.faults outside.new.err; puts_before = E.puts outside.old.err; puts_after = E.puts outside.new.err })
+        tally.old.fuel tally.new.fuel result }
 {
-    run_words(alloc, words, outside, primitives, counts)
+    run_words(alloc, words, outside, primitives, tally)
 }

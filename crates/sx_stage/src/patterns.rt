@@ -4,13 +4,14 @@ ghost use Rattle.sx_base.specs.Act.{GivesAfter};
 ghost use Rattle.sx_stage.specs.Patterns.{pattern_of, check_literals};
 
 use crate::stage::Stage;
+use std::sync::ledger::Ledger;
 use sx_base::fault::Stop;
 use sx_base::span::Span;
 use sx_pattern::compile as patterns;
 use sx_pattern::compile::{Compiled, PatternContext, compile_pattern};
 use sx_syntax::syn::Syn;
 
-impl Stage {
+impl<L: Ledger> Stage<L> {
     /// The pattern of a form. The next names are the labels of its variables. Faults are those of sx_pattern.
     #[tactic(auto, unfolding(crate::specs::Patterns::pattern_of), using(crate::proofs::OnParts::named_gives))]
     pub fn pattern(&mut self, form: &Syn, literals: &[Syn], place: &Span) -> Result<Compiled, Stop>

@@ -5,6 +5,7 @@ ghost use Rattle.sx_base.specs.Act.{GivesAfter};
 ghost use Rattle.sx_standing.specs.Binders.{bind_variable, bind_as, put_row, put_variable, StopsAt, bind_all, bind_rest, bind_spec, bind_specs, bind_formals, variable_for, index_at, next_index};
 
 use crate::expansion::{Expansion, symbol_in};
+use std::sync::ledger::Ledger;
 use sx_base::fault::{Bare, BareStop, Fault, FaultKind, Stop};
 use sx_base::items::Items;
 use sx_base::memory::Memory;
@@ -54,7 +55,7 @@ fn next_index(level: u32, index: u64) -> Result<u64, Memory>
     }
 }
 
-impl Expansion {
+impl<L: Ledger> Expansion<L> {
     fn variable_for(&self, id: &Syn, level: u32, top: bool) -> Result<VarInfo, Memory>
         ensures { IfOk result (λ v. v ≡ variable_for id.now level top self.now.index) }
     {

@@ -9,6 +9,7 @@ use crate::standing::Variable;
 use indexmap::IndexSet;
 use std::alloc::Global;
 use std::marker::Model;
+use std::sync::ledger::Ledger;
 use sx_base::memory::Memory;
 use sx_base::name::Label;
 
@@ -70,7 +71,7 @@ impl InScope {
     }
 }
 
-impl Expansion {
+impl<L: Ledger> Expansion<L> {
     /// How many labels are in scope, but for those of the top. It takes no memory.
     pub fn in_scope(&self) -> usize
         ensures { result ≡ length self.now.scope }

@@ -6,13 +6,14 @@ ghost use Rattle.sx_standing.specs.State.{noted};
 
 use crate::expansion::Expansion;
 use std::mem::replace;
+use std::sync::ledger::Ledger;
 use sx_base::items::Items;
 use sx_base::memory::Memory;
 use sx_base::name::Label;
 use sx_core::link::{Link, LinkKind};
 use sx_syntax::syn::Syn;
 
-impl Expansion {
+impl<L: Ledger> Expansion<L> {
     /// Links an identifier that has a span to what it stands for. What templates add has none.
     pub fn note(&mut self, id: &Syn, label: &Label, kind: LinkKind) -> Result<(), Memory>
         ensures { OnOk result (self.new ≡ noted (span_of id.now) label.now kind self.old) }

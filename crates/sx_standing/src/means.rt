@@ -1,6 +1,6 @@
 //! What evaluations during an expansion need.
 
-use std::sync::ledger::Ledger;
+use std::sync::ledger::{Book, Ledger};
 use sx_base::steps::Steps;
 use sx_prims::table::PrimTable;
 use sx_stage::earlier::Earlier;
@@ -12,9 +12,9 @@ pub struct Means<'a> {
     pub prims: &'a PrimTable,
 }
 
-/// What is counted: the nodes of syntax objects that are made, and the fuel that evaluations spend.
+/// What is counted: the nodes of syntax objects that are made, and, in a book, the fuel that evaluations spend.
 #[derive(Drop)]
 pub struct Counts<'a, N: Ledger, L: Ledger> {
     pub nodes: &'a mut Steps<N>,
-    pub steps: &'a mut Steps<L>,
+    pub book: &'a mut Book<L>,
 }

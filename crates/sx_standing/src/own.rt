@@ -8,6 +8,7 @@ ghost use Rattle.sx_standing.specs.Own.{export_labels, mark_assigned, labels_wit
 
 use crate::expansion::Expansion;
 use std::rc::Rc;
+use std::sync::ledger::Ledger;
 use sx_base::fault::Stop;
 use sx_base::items::Items;
 use sx_base::library::LibName;
@@ -60,7 +61,7 @@ fn with_expression(expression: Option<Expression>, binding: Binding) -> Binding
     }
 }
 
-impl Expansion {
+impl<L: Ledger> Expansion<L> {
     /// What a label of the library is bound to in its record.
     fn completed(&self, label: &Label, binding: &Binding) -> Result<Binding, Memory>
         ensures { IfOk result (λ b. b ≡ completed self.now label.now binding.now) }
@@ -130,6 +131,7 @@ impl Expansion {
     pub fn own_bindings(&mut self) -> Result<Items<(Label, Binding)>, Memory>
         ensures rows { IfOk result (λ rows. rows ≡ own_bindings self.old) }
         ensures links { self.new.links ≡ self.old.links }
+        ensures spent { OnOk result (self.new.spent ≡ self.old.spent) }
     {
         let Ok(next) = self.stage.fresh() else {
             return Err(Memory);

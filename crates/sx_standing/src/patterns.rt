@@ -12,6 +12,7 @@ ghost use Rattle.sx_template.specs.Compile.{compiled};
 use crate::binders::BinderContext;
 use crate::expansion::Expansion;
 use crate::in_scope::InScope;
+use std::sync::ledger::Ledger;
 use sx_base::fault::{FaultKind, Stop};
 use sx_base::memory::Memory;
 use sx_base::name::Label;
@@ -54,7 +55,7 @@ fn has_item_variables(scope: &InScope, list: &[Item]) -> bool
     true
 }
 
-impl Expansion {
+impl<L: Ledger> Expansion<L> {
     /// The pattern of a form. The library's next names are the labels of its variables.
     #[tactic(auto, using(crate::proofs::Staged::staged_gives))]
     pub fn pattern(&mut self, form: &Syn, literals: &[Syn], place: &Span) -> Result<Compiled, Stop>

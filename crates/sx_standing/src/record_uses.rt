@@ -24,7 +24,7 @@ fn defines_type(form: CoreForm) -> bool
     matches!(form, CoreForm::DefineRecordType)
 }
 
-impl Expansion {
+impl<L: Ledger> Expansion<L> {
     /// How many uses of `define-record-type` there were before this use. The other forms aren't counted.
     #[tactic(auto, unfolding(crate::specs::RecordUses::count_record_type))]
     fn count_record_type(&mut self, which: CoreForm) -> Result<u64, Stop>

@@ -13,6 +13,7 @@ use crate::ready::ReadyRecords;
 use indexmap::IndexMap;
 use std::alloc::Global;
 use std::rc::Rc;
+use std::sync::ledger::Ledger;
 use sx_base::items::Items;
 use sx_base::library::LibName;
 use sx_base::memory::Memory;
@@ -20,6 +21,7 @@ use sx_base::name::{CodeNo, FrameNo, Label, Name, Names};
 use sx_base::symbol::Symbol;
 use sx_core::code::Code;
 use sx_core::labels::Labels;
+use sx_fuel::fuel::Unspent;
 use sx_known::known::KnownBindings;
 use sx_records::frame::record_frame;
 use sx_scope::scope::Frames;
@@ -208,12 +210,19 @@ fn begin(alloc: Global, library: LibName, environment: &Environment) -> Result<B
     begin_over(alloc, library, environment, records.as_slice())
 }
 
+/// What the evaluations of an expansion begin with: the codes of procedures that are texts, and what they spend.
+#[derive(Drop)]
+pub struct Supplies<L: Ledger> {
+    pub codes: IndexMap<CodeNo, Rc<Code>>,
+    pub unspent: Unspent<L>,
+}
+
 /// The state before the first form. It takes no memory.
-fn expansion_with(
+fn expansion_with<L: Ledger>(
     alloc: Global,
     beginning: Beginning,
-    codes: IndexMap<CodeNo, Rc<Code>>,
-) -> Expansion
+    supplies: Supplies<L>,
+) -> Expansion<L>
     ensures { result ≡ record {
       library = beginning.library.value;
       names = beginning.names;
@@ -226,7 +235,7 @@ fn expansion_with(
       index = 0;
       scope = [];
       cells = [];
-      codes = table.seen codes.entries;
+      codes = table.seen supplies.codes.entries;
       globals = [];
       evaluated = [];
       keywords = [];
@@ -240,10 +249,11 @@ fn expansion_with(
         frames,
         bindings,
     } = beginning;
+    let Supplies { codes, unspent } = supplies;
     Expansion {
         alloc,
         library,
-        stage: Stage::new(alloc, names, frames, codes),
+        stage: Stage::new(alloc, names, frames, codes, unspent),
         bindings,
         exports: Labels::new(alloc),
         assigned: Labels::new(alloc),
@@ -255,20 +265,20 @@ fn expansion_with(
     }
 }
 
-impl Expansion {
-    /// The state that the expansion of a library begins with. The codes are those of procedures that are texts. Two
+impl<L: Ledger> Expansion<L> {
+    /// The state that the expansion of a library begins with. Two
     /// imports of one name are refused as want of memory is.
     #[tactic(auto, unfolding(crate::specs::Start::started))]
     pub fn start(
         alloc: Global,
         library: LibName,
         environment: &Environment,
-        codes: IndexMap<CodeNo, Rc<Code>>,
-    ) -> Result<Expansion, Memory>
-        ensures { IfOk result (λ e. e ≡ started library (needed_records environment.now.needs.now environment.now.earlier.now) environment.now.imports.now (table.seen codes.entries)) }
+        supplies: Supplies<L>,
+    ) -> Result<Expansion<L>, Memory>
+        ensures { IfOk result (λ e. e ≡ started library (needed_records environment.now.needs.now environment.now.earlier.now) environment.now.imports.now (table.seen supplies.codes.entries)) }
     {
         match begin(alloc, library, environment) {
-            Ok(beginning) => Ok(expansion_with(alloc, beginning, codes)),
+            Ok(beginning) => Ok(expansion_with(alloc, beginning, supplies)),
             Err(memory) => Err(memory),
         }
     }

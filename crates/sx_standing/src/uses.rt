@@ -44,7 +44,7 @@ pub struct KeywordAt<'a> {
     pub place: &'a Span,
 }
 
-impl Expansion {
+impl<L: Ledger> Expansion<L> {
     /// How many uses of keywords are left.
     pub fn uses_left(&self) -> u32
         ensures { result ≡ self.now.uses_left }
@@ -76,7 +76,7 @@ impl Expansion {
 
     /// What comes of a use of a keyword.
     #[tactic(auto, unfolding(crate::specs::Uses::use_keyword), using(crate::proofs::Staged::staged_gives))]
-    pub fn use_keyword<N: Ledger, L: Ledger>(
+    pub fn use_keyword<N: Ledger>(
         &mut self,
         used: UsedForm,
         label: &Label,
@@ -102,12 +102,12 @@ impl Expansion {
             expression: &expression,
             frame,
         };
-        self.stage.used(&context, one, counts.nodes, counts.steps)
+        self.stage.used(&context, one, counts.nodes, counts.book)
     }
 
     /// Whether an assignment to a keyword is a use of it.
     #[tactic(auto, unfolding(crate::specs::Uses::asks_variable), using(crate::proofs::Staged::staged_gives))]
-    pub fn asks_variable<N: Ledger, L: Ledger>(
+    pub fn asks_variable<N: Ledger>(
         &mut self,
         place: &Span,
         label: &Label,
@@ -127,7 +127,7 @@ impl Expansion {
             place,
         };
         self.stage
-            .is_variable_transformer(&context, label, &expression, counts.steps)
+            .is_variable_transformer(&context, label, &expression, counts.book)
     }
 
     fn put_keyword(&mut self, label: &Label, level: u32) -> Result<(), Stop>
@@ -202,7 +202,7 @@ impl Expansion {
 
     /// Evaluates the expression of a keyword, and keeps what it gives.
     #[tactic(auto, unfolding(crate::specs::Uses::finish_keyword), using(crate::proofs::Staged::staged_gives))]
-    pub fn finish_keyword<N: Ledger, L: Ledger>(
+    pub fn finish_keyword<N: Ledger>(
         &mut self,
         keyword: &KeywordAt,
         code: Core,
@@ -221,6 +221,6 @@ impl Expansion {
             place: keyword.place,
         };
         self.stage
-            .finish_keyword(&context, keyword.label, code, counts.steps)
+            .finish_keyword(&context, keyword.label, code, counts.book)
     }
 }

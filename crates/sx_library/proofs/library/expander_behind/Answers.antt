@@ -8,6 +8,6 @@ use Rattle.sx_library.proofs.PlaceLemmas.{at_marks}
 use Rattle.sx_library.proofs.library.expander_behind.Goals as goal
 
 pub returns : goal.returns
-returns c =
-    subst (λ (rs : List LibRecord). Gives (λ (e : Expanding). e) c.new.result (Ok (ready c.args.origin.name c.args.origin.path rs c.args.names.now (seen c.args.codes.entries))))
+returns g c =
+    subst (λ (rs : List LibRecord). Gives (λ (e : Expanding). e) c.new.result (Ok (ready c.args.origin.name c.args.origin.path rs c.args.names.now (seen c.args.supplies.codes.entries))))
     (ap (needed_records c.args.needed.now.marks.now) c.ready-ready.ensures ∙ sym (at_marks c.args.needed.now.marks.now c.args.needed.now.records.now)) c.new.ensures

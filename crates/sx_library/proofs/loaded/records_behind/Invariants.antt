@@ -1,9 +1,13 @@
-use Rattle.std.proofs.Common.{◌≡◌}
+use Rattle.std.proofs.Common.{◌≡◌, ℕ, ◌+◌, List, map}
+use Rattle.sx_load.specs.declared.found.Found.{Found}
 use Rattle.sx_import.specs.Turns.{turns}
 use Rattle.sx_prelude.specs.Prelude.{kept}
-use Rattle.sx_library.specs.Loaded.{expand_next}
+use Rattle.sx_library.specs.Loaded.{expand_next, each_spent}
 use Rattle.sx_library.proofs.LoadedLemmas.{next_found}
 use Rattle.sx_library.proofs.loaded.records_behind.Given as goal
 
 abbrev pub invariant-loop-found : goal.invariant-loop-found
-invariant-loop-found g l = turns (next_found (kept l.implementation.prelude)) l.records l.found-iterator ≡ turns (expand_next (kept l.implementation.prelude)) l.fn.records l.fn.libraries
+invariant-loop-found g l = record {
+  given : turns (next_found (kept l.implementation.prelude)) l.records l.found-iterator ≡ turns (expand_next (kept l.implementation.prelude)) l.fn.records l.fn.libraries;
+  fuel : l.tally.fuel + each_spent (kept l.implementation.prelude) l.records l.found-iterator ≡ l.fn.tally.fuel + each_spent (kept l.implementation.prelude) l.fn.records (map (λ (row : List ℕ × Found). row.1) l.fn.libraries);
+}

@@ -4,4 +4,4 @@ use Rattle.sx_quasi_code.specs.Inserted.{insert_variable, insert_variables}
 use Rattle.sx_quasi_code.proofs.inserted.insert_variables.Given as goal
 
 abbrev pub invariant-loop-insert : goal.invariant-loop-insert
-invariant-loop-insert l = each insert_variable l.done (map (λ i. i) (drop l.insert-index l.inserts)) l.state ≡ insert_variables l.inserts l.fn.state
+invariant-loop-insert g l = each insert_variable l.done (map (λ i. i) (drop l.insert-index l.inserts)) l.state ≡ insert_variables l.inserts l.fn.state

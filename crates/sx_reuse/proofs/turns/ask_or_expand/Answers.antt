@@ -32,3 +32,6 @@ returns-in-None-clause-turn g c =
     (string_bytes c.in_ok-due.due.place) is (g.S.Store.faults c.ask.new.store) c.ask.ensures.later (g.S.Store.faults c.expand_and_keep.new.store) c.expand_and_keep.ensures.later
     (g.S.Store.told c.args.store.now) (g.S.Store.told c.ask.new.store) (g.S.Store.told c.expand_and_keep.new.store) c.expand_and_keep.result c.ask.ensures.same
     (rw c.in-None.is at c.in_ok-stored.ensures.answer) c.expand_and_keep.ensures.kept)
+
+pub returns-in-None-clause-fuel : goal.returns-in-None-clause-fuel
+returns-in-None-clause-fuel g c = rw (sym c.in_ok-due.ensures.0) c.expand_and_keep.ensures.fuel

@@ -15,7 +15,7 @@ pub returns-in_err-stored-clause-kept : goal.returns-in_err-stored-clause-kept
 returns-in_err-stored-clause-kept g c =
     let p = err_from_is_err_and c.from_residual-in_err-stored.result c.from_residual-in_err-stored.ensures.1 in
     rw (p.1, p.2) (keeps_nothing c.args.turning.now.cache.now (kept c.args.turning.now.implementation.now.prelude) c.args.turned.now.records c.args.due.found (string_bytes c.args.due.place)
-    (g.S.Store.faults c.args.store.now) (g.S.Store.told c.args.store.now) (g.S.Store.faults c.args.store.now) c.in_err-stored.field-0.0 c.in_err-stored.ensures)
+    (g.S.Store.faults c.args.store.now) (g.S.Store.told c.args.store.now) (g.S.Store.faults c.args.store.now) c.in_err-stored.field-0.0 c.in_err-stored.ensures.record)
 
 pub returns-in_err-keep-clause-kept : goal.returns-in_err-keep-clause-kept
 returns-in_err-keep-clause-kept g c =
@@ -27,4 +27,4 @@ pub returns-clause-kept : goal.returns-clause-kept
 returns-clause-kept g c =
     keep_done c.args.turning.now.cache.now (kept c.args.turning.now.implementation.now.prelude) c.args.turned.now.records c.args.due.found (string_bytes c.args.due.place)
     (g.S.Store.faults c.args.store.now) (g.S.Store.told c.args.store.now) (g.S.Store.told c.keep.new.store) (g.S.Store.faults c.keep.new.store) c.with-entry.result
-    c.of_expansion.result c.in_ok-stored.stored tt c.of_expansion.ensures (rw c.in_ok-unmade.ensures at c.with-entry.ensures) c.in_ok-stored.ensures (rw c.as_str.ensures.value at c.in_ok-keep.ensures.put)
+    c.of_expansion.result c.in_ok-stored.stored tt c.of_expansion.ensures (rw c.in_ok-unmade.ensures at c.with-entry.ensures) c.in_ok-stored.ensures.record (rw c.as_str.ensures.value at c.in_ok-keep.ensures.put)

@@ -2,6 +2,7 @@ use Rattle.std.proofs.Common.{◌≤◌, map}
 use Rattle.sx_outside.specs.Store.{WhereTold}
 use Rattle.sx_prelude.specs.Prelude.{kept}
 use Rattle.sx_reuse.specs.Turns.{state}
+use Rattle.sx_reuse.proofs.FuelLemmas.{FuelGoesOn}
 use Rattle.sx_reuse.proofs.Goes.{GoesOn}
 use Rattle.sx_reuse.proofs.turns.take_each.Given as goal
 
@@ -11,4 +12,5 @@ invariant-loop-found g l = record {
   told : WhereTold (g.S.Store.told l.fn.store) (g.S.Store.told l.store) (λ before now.
       GoesOn l.turning.cache.now (kept l.turning.implementation.now.prelude) (state l.fn.turned before (g.S.Store.faults l.fn.store)) (map (λ row. row.1) l.fn.libraries)
       (state l.turned now (g.S.Store.faults l.store)) l.found-iterator);
+  fuel : FuelGoesOn (kept l.turning.implementation.now.prelude) l.fn.turned (map (λ row. row.1) l.fn.libraries) l.fn.tally.fuel l.turned l.found-iterator l.tally.fuel;
 }

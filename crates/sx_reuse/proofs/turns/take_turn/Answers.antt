@@ -18,3 +18,6 @@ returns-in_err-turned-clause-turn g c =
 pub returns-clause-turn : goal.returns-clause-turn
 returns-clause-turn g c = turn_taken c.args.turning.now.cache.now (kept c.args.turning.now.implementation.now.prelude) c.args.turned c.args.found (g.S.Store.faults c.args.store.now)
     (g.S.Store.told c.args.store.now) (g.S.Store.told c.ask_or_expand.new.store) (g.S.Store.faults c.ask_or_expand.new.store) c.in_ok-recorded.recorded c.in_ok-turned.turned c.in_ok-turned.ensures c.in_ok-recorded.ensures.turn
+
+pub returns-clause-fuel : goal.returns-clause-fuel
+returns-clause-fuel g c = record { library = c.in_ok-recorded.recorded.library; reused = c.in_ok-recorded.recorded.reused; is = c.in_ok-turned.ensures; rose = c.in_ok-recorded.ensures.fuel }

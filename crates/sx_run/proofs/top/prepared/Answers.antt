@@ -1,3 +1,4 @@
+use Rattle.sx_run.proofs.FuelLemmas.{cached_spends, plain_spends}
 use Rattle.sx_run.proofs.CachedLemmas.{prepared_keeps, prepared_says}
 use Rattle.sx_run.proofs.top.prepared.Goals as goal
 
@@ -11,3 +12,9 @@ returns-in-Some-clause-store g c =
     prepared_keeps (g.F.Files.told c.args.inputs.now.files)
     (record { before = g.S.Store.told was; after = g.S.Store.told is; faults_before = g.S.Store.faults was; faults_after = g.S.Store.faults is })
     c.args.job.now _ c.in-Some.is c.requires _ was is c.prepare_cached.result c.prepare_cached.ensures.gives
+
+pub returns-in-Some-clause-fuel : goal.returns-in-Some-clause-fuel
+returns-in-Some-clause-fuel g c = cached_spends _ _ c.args.job.now _ _ _ c.in-Some.is c.prepare_cached.result c.prepare_cached.ensures.fuel
+
+pub returns-in-None-clause-fuel : goal.returns-in-None-clause-fuel
+returns-in-None-clause-fuel g c = plain_spends _ _ c.args.job.now _ _ c.in-None.is c.prepare.result c.prepare.ensures.fuel

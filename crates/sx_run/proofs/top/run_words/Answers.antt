@@ -1,4 +1,5 @@
 use Rattle.std.proofs.Common.{sym, ◌∙◌}
+use Rattle.sx_run.proofs.FuelLemmas.{made_spends, usage_spends, written_spends}
 use Rattle.sx_run.specs.Words.{texts}
 use Rattle.sx_run.proofs.CachedLemmas.{kept_by_words, still_kept}
 use Rattle.sx_run.proofs.Sinks.{asked_of, by_made, ended}
@@ -34,3 +35,15 @@ returns-in-Ok-Expand-clause-store g c =
 pub returns-in-Err-clause-store : goal.returns-in-Err-clause-store
 returns-in-Err-clause-store g c =
     still_kept (g.F.Files.told c.args.outside.now.inputs.files) (g.S.Store.told c.args.outside.now.inputs.store) (g.S.Store.faults c.args.outside.now.inputs.store) _ c.args.outside.now.inputs.store (texts c.args.words.now)
+
+pub returns-in-Ok-Expand-clause-fuel : goal.returns-in-Ok-Expand-clause-fuel
+returns-in-Ok-Expand-clause-fuel g c =
+    written_spends _ _ (texts c.args.words.now) _ _ _ _ (Expand c.in-Ok-Expand.job) c.prepared-prepared.result c.write.result (sym c.in-Ok-Expand.ensures ∙ c.in-Ok-Expand.field-0-is) c.prepared-prepared.ensures.fuel c.write.ensures
+
+pub returns-in-Ok-Make-clause-fuel : goal.returns-in-Ok-Make-clause-fuel
+returns-in-Ok-Make-clause-fuel g c =
+    written_spends _ _ (texts c.args.words.now) _ _ _ _ (Make c.in-Ok-Make.count) c.prepare_made-prepared.result c.write-in-Ok-Make.result (sym c.in-Ok-Make.ensures ∙ c.in-Ok-Make.field-0-is)
+    (made_spends _ _ c.in-Ok-Make.count _ _ c.prepare_made-prepared.result c.prepare_made-prepared.ensures.fuel) c.write-in-Ok-Make.ensures
+
+pub returns-in-Ok-Usage-clause-fuel : goal.returns-in-Ok-Usage-clause-fuel
+returns-in-Ok-Usage-clause-fuel g c = usage_spends _ _ (texts c.args.words.now) _ _ _ _ c.complain.result c.complain.ensures

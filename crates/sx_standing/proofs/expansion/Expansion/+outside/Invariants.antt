@@ -5,16 +5,16 @@ use Rattle.sx_standing.specs.Patterns.{all_outside}
 use Rattle.sx_standing.proofs.expansion.Expansion.+outside.Given as goal
 
 abbrev pub invariant-all_outside-loop-form : goal.invariant-all_outside-loop-form
-invariant-all_outside-loop-form l = record {
+invariant-all_outside-loop-form g l = record {
   first : all_outside l.initial.self (drop l.form-index l.forms) ≡ all_outside l.initial.self l.forms;
   unchanged : l.self ≡ l.initial.self;
 }
 
 abbrev pub decreases-first_outside : goal.decreases-first_outside
-decreases-first_outside l = 4 * size l.form.now + 3
+decreases-first_outside g l = 4 * size l.form.now + 3
 
 abbrev pub decreases-list_outside : goal.decreases-list_outside
-decreases-list_outside l = 4 * size l.form.now + 2
+decreases-list_outside g l = 4 * size l.form.now + 2
 
 abbrev pub decreases-all_outside : goal.decreases-all_outside
-decreases-all_outside l = 4 * size (chain l.forms.now nil) + 1
+decreases-all_outside g l = 4 * size (chain l.forms.now nil) + 1

@@ -1,0 +1,3 @@
+//! The fuel that evaluation spends, counted at no cost.
+
+pub mod fuel;
