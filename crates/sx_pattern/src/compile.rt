@@ -1,12 +1,12 @@
 //! Patterns of forms.
 
-ghost use Rattle.std.specs.Prelude.{◌≡◌, ◌++◌, ◌∷◌, [], true, option_map, IfOk, OnOk};
+ghost use Rattle.std.specs.Prelude.{◌≡◌, ◌++◌, ◌∷◌, [], true, false, map, option_map, IfOk, OnOk};
 ghost use Rattle.sx_base.specs.Act.{GivesAfter};
 ghost use Rattle.sx_base.specs.Gives.{Gives, StopsWith};
 ghost use Rattle.sx_tree.specs.Tree.{is_pair};
 ghost use Rattle.sx_core.specs.Pattern.{list, vector};
 ghost use Rattle.sx_core.specs.PatternView.{repeated_on, elements_of};
-ghost use Rattle.sx_pattern.specs.Compile.{seen, bad, is_no_keyword, may_be_literal, literals_checked, is_literal, is_known, new_variable, leaf_pattern, with_part, dots_of, parts_of, with_repeated, inner_depth, behind_ellipsis, added, pattern, forms_walked, list_pattern, vector_pattern, compiled};
+ghost use Rattle.sx_pattern.specs.Compile.{seen, bad, is_no_keyword, may_be_literal, literals_checked, is_literal, is_known, new_variable, leaf_pattern, with_part, dots_of, parts_of, with_repeated, inner_depth, behind_ellipsis, added, pattern, with_pattern, walked, forms_walked, list_pattern, vector_pattern, compiled};
 
 use crate::keywords::{first_ellipsis, is_form};
 use std::alloc::Global;
@@ -47,6 +47,13 @@ pub struct PatternVariable {
 pub struct Compiled {
     pub pattern: Pattern,
     pub variables: Items<PatternVariable>,
+}
+
+/// Forms that are elements of a list or vector, round which so many ellipses stand.
+#[derive(Drop)]
+struct ElementForms<'a> {
+    forms: &'a [Syn],
+    depth: u32,
 }
 
 /// The patterns of elements so far: those before the ellipsis, the one that it stands behind, and those
@@ -214,10 +221,13 @@ fn repeat_part(
 {
     match parts.repeated {
         None => {
-            parts.repeated = Some(pattern);
+            drop(parts.repeated.replace(pattern));
             Ok(())
         }
-        Some(_) => Err(bad_pattern(context, ellipsis)),
+        Some(_) => {
+            drop(pattern);
+            Err(bad_pattern(context, ellipsis))
+        }
     }
 }
 
@@ -298,7 +308,18 @@ fn elements_from(alloc: Global, parts: PatternParts) -> Result<Elements, Memory>
 fn list_from(alloc: Global, parts: PatternParts, tail: Pattern) -> Result<Pattern, Memory>
     ensures { IfOk result (λ p. p ≡ list (parts_of parts) tail) }
 {
-    let elements = elements_from(alloc, parts)?;
+    match elements_from(alloc, parts) {
+        Ok(elements) => list_with(alloc, elements, tail),
+        Err(memory) => {
+            drop(tail);
+            Err(memory)
+        }
+    }
+}
+
+fn list_with(alloc: Global, elements: Elements, tail: Pattern) -> Result<Pattern, Memory>
+    ensures { IfOk result (λ p. p ≡ list (elements_of elements) tail) }
+{
     let tail = Box::new(alloc, tail)?;
     Ok(Pattern {
         node: PatternNode::List(elements, tail),
@@ -348,9 +369,13 @@ fn list_pattern(
 {
     let parts = parts_of(context.alloc, form)?;
     let elements = elements(context, parts.elements.as_slice(), depth, variables, names)?;
-    let tail = pattern(context, &parts.tail, depth, variables, names)?;
-    let list = list_from(context.alloc, elements, tail)?;
-    Ok(list)
+    match pattern(context, &parts.tail, depth, variables, names) {
+        Ok(tail) => Ok(list_from(context.alloc, elements, tail)?),
+        Err(stop) => {
+            drop(elements);
+            Err(stop)
+        }
+    }
 }
 
 #[cycle(pattern)]
@@ -368,7 +393,7 @@ fn vector_pattern(
     Ok(vector)
 }
 
-/// The patterns of the elements of a list or vector. An ellipsis is taken with the element before it.
+/// The patterns of the elements of a list or vector.
 #[cycle(pattern)]
 fn elements(
     context: &PatternContext,
@@ -384,13 +409,34 @@ fn elements(
         repeated: None,
         after: Items::new(context.alloc),
     };
-    let mut left = forms;
+    let elements = ElementForms { forms, depth };
+    match add_elements(context, &elements, &mut parts, variables, names) {
+        Ok(()) => Ok(parts),
+        Err(stop) => {
+            drop(parts);
+            Err(stop)
+        }
+    }
+}
+
+/// Adds the patterns of elements. An ellipsis is taken with the element before it.
+#[cycle(pattern)]
+fn add_elements(
+    context: &PatternContext,
+    elements: &ElementForms,
+    parts: &mut PatternParts,
+    variables: &mut Items<PatternVariable>,
+    names: &mut Names,
+) -> Result<(), Stop>
+    ensures { GivesAfter (λ _. parts.new) result (variables.new, names.new) (walked (seen context.now) elements.now.depth false parts.old (map (with_pattern (seen context.now)) elements.now.forms.now) (variables.old, names.old)) }
+{
+    let mut left = elements.forms;
     while let Some((form, behind)) = left.split_first() {
         let ellipsis = first_ellipsis(behind, context.frames)?;
-        let inner = inner_depth(depth, ellipsis)?;
+        let inner = inner_depth(elements.depth, ellipsis)?;
         let pattern = pattern(context, form, inner, variables, names)?;
-        add_part(context, &mut parts, pattern, ellipsis)?;
+        add_part(context, parts, pattern, ellipsis)?;
         left = behind_ellipsis(ellipsis, behind);
     }
-    Ok(parts)
+    Ok(())
 }
