@@ -138,6 +138,6 @@ fn run_boxed(rt: &HostRuntime, alloc: Global, words: &[String]) -> Result<Status
 }
 
 /// Runs the program over the system's files and streams.
-pub fn run_over_system(rt: &HostRuntime, words: &[String]) -> Result<Status, Memory> {
+pub(crate) fn run_over_system(rt: &HostRuntime, words: &[String]) -> Result<Status, Memory> {
     run_boxed(rt, rt.alloc(), words)
 }

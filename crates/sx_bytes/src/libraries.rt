@@ -79,7 +79,7 @@ impl Libraries {
     }
 
     /// The name of a library that the bytes begin with, and the bytes behind it.
-    pub fn library_at<'a>(
+    pub(crate) fn library_at<'a>(
         &mut self,
         bytes: &'a [u8],
     ) -> Result<Option<(Rc<LibName>, &'a [u8])>, Memory>

@@ -8,7 +8,7 @@ use sx_base::memory::Memory;
 
 /// Adds two bytes.
 #[tactic(auto, unfolding(crate::specs::Codec::u16), using(crate::specs::Puts::below))]
-pub fn put_u16(out: &mut Vec<u8>, n: u16) -> Result<(), Memory>
+pub(crate) fn put_u16(out: &mut Vec<u8>, n: u16) -> Result<(), Memory>
     ensures { OnOk result (Puts spec.u16 n out.old.items out.new.items) }
 {
     out.extend_from_slice(&n.to_be_bytes())?;
@@ -16,7 +16,7 @@ pub fn put_u16(out: &mut Vec<u8>, n: u16) -> Result<(), Memory>
 }
 
 #[tactic(auto, unfolding(crate::specs::Codec::u16))]
-pub fn u16_at(bytes: &[u8]) -> Option<(u16, &[u8])>
+pub(crate) fn u16_at(bytes: &[u8]) -> Option<(u16, &[u8])>
     ensures { option_map (λ x. (x.0, x.1.now)) result ≡ spec.u16.get bytes.now }
 {
     if bytes.len() < 2 {
@@ -71,7 +71,7 @@ pub fn u64_at(bytes: &[u8]) -> Option<(u64, &[u8])>
 }
 
 #[tactic(auto, unfolding(crate::specs::Codec::int, crate::specs::Codec::halves), using(crate::specs::Puts::is_whole))]
-pub fn put_int(out: &mut Vec<u8>, n: i128) -> Result<(), Memory>
+pub(crate) fn put_int(out: &mut Vec<u8>, n: i128) -> Result<(), Memory>
     ensures { OnOk result (Puts spec.int n out.old.items out.new.items) }
 {
     let bits = n.cast_unsigned();
@@ -82,7 +82,7 @@ pub fn put_int(out: &mut Vec<u8>, n: i128) -> Result<(), Memory>
 }
 
 #[tactic(auto, unfolding(crate::specs::Codec::int, crate::specs::Codec::joined))]
-pub fn int_at(bytes: &[u8]) -> Option<(i128, &[u8])>
+pub(crate) fn int_at(bytes: &[u8]) -> Option<(i128, &[u8])>
     ensures { option_map (λ x. (x.0, x.1.now)) result ≡ spec.int.get bytes.now }
 {
     let (high, rest) = u64_at(bytes)?;

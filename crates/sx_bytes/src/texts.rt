@@ -30,7 +30,7 @@ pub fn blob_at(bytes: &[u8]) -> Option<(&[u8], &[u8])>
 }
 
 #[tactic(auto, unfolding(crate::specs::Codec::text), using(crate::proofs::Utf8::is))]
-pub fn put_text(out: &mut Vec<u8>, text: &str) -> Result<(), Memory>
+pub(crate) fn put_text(out: &mut Vec<u8>, text: &str) -> Result<(), Memory>
     ensures { OnOk result (Puts spec.text text.now out.old.items out.new.items) }
 {
     put_blob(out, text.as_bytes())
@@ -56,14 +56,14 @@ pub fn text_at(bytes: &[u8]) -> Option<(&str, &[u8])>
 }
 
 #[tactic(auto, unfolding(crate::specs::Codec::char))]
-pub fn put_char(out: &mut Vec<u8>, c: char) -> Result<(), Memory>
+pub(crate) fn put_char(out: &mut Vec<u8>, c: char) -> Result<(), Memory>
     ensures { OnOk result (Puts spec.char c out.old.items out.new.items) }
 {
     put_u32(out, c as u32)
 }
 
 #[tactic(auto, unfolding(crate::specs::Codec::char))]
-pub fn char_at(bytes: &[u8]) -> Option<(char, &[u8])>
+pub(crate) fn char_at(bytes: &[u8]) -> Option<(char, &[u8])>
     ensures { option_map (λ x. (x.0, x.1.now)) result ≡ spec.char.get bytes.now }
 {
     let (code, rest) = u32_at(bytes)?;

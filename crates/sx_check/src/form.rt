@@ -23,7 +23,7 @@ pub enum Form {
 }
 
 /// The form that a list with this head is.
-pub fn form_of(head: &Datum) -> Form
+pub(crate) fn form_of(head: &Datum) -> Form
     ensures { result ≡ form_of head.now }
 {
     match head.as_symbol() {
@@ -57,7 +57,7 @@ fn form_named(keyword: &str) -> Form
 }
 
 /// The name that a datum is, where it is one.
-pub fn name_in(datum: &Datum) -> Option<&Symbol>
+pub(crate) fn name_in(datum: &Datum) -> Option<&Symbol>
     ensures { option_map (λ x. x.now) result ≡ name_in datum.now }
 {
     let symbol = datum.as_symbol()?;
@@ -69,7 +69,7 @@ pub fn name_in(datum: &Datum) -> Option<&Symbol>
 }
 
 /// Whether an atom evaluates to itself.
-pub fn is_itself(atom: &Atom) -> bool
+pub(crate) fn is_itself(atom: &Atom) -> bool
     ensures { result ≡ is_itself atom.now }
 {
     match atom {
@@ -84,7 +84,7 @@ pub fn is_itself(atom: &Atom) -> bool
 }
 
 /// Whether a datum stands in a `quote`: the empty list, a symbol, a list or a vector.
-pub fn is_quoted(datum: &Datum) -> bool
+pub(crate) fn is_quoted(datum: &Datum) -> bool
     ensures { result ≡ is_quoted datum.now }
 {
     match datum.as_atom() {

@@ -189,7 +189,7 @@ pub fn verdicts_are_by_cases()
 
 /// Whether the bytes are a core text, and why not: the answer is the definition's, and exactly the one that the cases of
 /// `specs/Judged` relate to the bytes.
-pub fn check_core(alloc: Global, bytes: &[u8]) -> Result<Verdict, Memory>
+pub(crate) fn check_core(alloc: Global, bytes: &[u8]) -> Result<Verdict, Memory>
     requires { length bytes.now < 2 ^ 32 }
     ensures gives { IfOk result (λ v. v ≡ verdict_of bytes.now) }
     ensures sound { IfOk result (Judged bytes.now) }

@@ -42,7 +42,7 @@ impl NameSet {
     }
 
     /// Puts the name at the end, where it isn't there.
-    pub fn add(&mut self, name: &Symbol) -> Result<(), Memory>
+    pub(crate) fn add(&mut self, name: &Symbol) -> Result<(), Memory>
         ensures { OnOk result (self.new ≡ with_name self.old name.now) }
     {
         self.put(name)?;
@@ -62,21 +62,21 @@ impl NameSet {
     }
 
     /// How many names there are.
-    pub fn size(&self) -> usize
+    pub(crate) fn size(&self) -> usize
         ensures { result ≡ length self.now }
     {
         self.set.len()
     }
 
     /// Takes all names away but the first, of which so many stay.
-    pub fn keep(&mut self, size: usize)
+    pub(crate) fn keep(&mut self, size: usize)
         ensures { self.new ≡ take size self.old }
     {
         self.set.truncate(size)
     }
 
     /// The names in their order.
-    pub fn as_slice(&self) -> &[Symbol]
+    pub(crate) fn as_slice(&self) -> &[Symbol]
         ensures { result.now ≡ self.now }
     {
         self.set.as_slice()

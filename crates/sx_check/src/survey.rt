@@ -68,14 +68,14 @@ impl Survey {
     }
 
     /// The name is in scope from here.
-    pub fn enter(&mut self, name: &Symbol) -> Result<(), Memory>
+    pub(crate) fn enter(&mut self, name: &Symbol) -> Result<(), Memory>
         ensures { OnOk result (self.new ≡ entered self.old name.now) }
     {
         self.scope.add(name)
     }
 
     /// The name has a binder here.
-    pub fn bind(&mut self, name: &Symbol) -> Result<(), Memory>
+    pub(crate) fn bind(&mut self, name: &Symbol) -> Result<(), Memory>
         ensures { OnOk result (self.new ≡ bound_by self.old name.now) }
     {
         if self.bound.put(name)? {
@@ -85,7 +85,7 @@ impl Survey {
     }
 
     /// The variable is mentioned here.
-    pub fn mention(&mut self, name: &Symbol) -> Result<(), Memory>
+    pub(crate) fn mention(&mut self, name: &Symbol) -> Result<(), Memory>
         ensures { OnOk result (self.new ≡ mentioned self.old name.now) }
     {
         if self.scope.has(name) {
@@ -103,7 +103,7 @@ impl Survey {
     }
 
     /// A formal is bound, and in scope from here.
-    pub fn take_formal(&mut self, name: &Symbol) -> Result<(), Memory>
+    pub(crate) fn take_formal(&mut self, name: &Symbol) -> Result<(), Memory>
         ensures { OnOk result (self.new ≡ formal self.old name.now) }
     {
         self.enter(name)?;
@@ -111,7 +111,7 @@ impl Survey {
     }
 
     /// An identifier that is an expression.
-    pub fn identifier(&mut self, primitives: &Primitives, identifier: &Symbol) -> Result<(), Halt>
+    pub(crate) fn identifier(&mut self, primitives: &Primitives, identifier: &Symbol) -> Result<(), Halt>
         ensures { Takes result self.new (variable identifier.now self.old) }
     {
         if is_name(identifier.as_str()) {

@@ -28,7 +28,7 @@ pub enum Verdict {
 }
 
 /// The line that tells a verdict.
-pub fn answer_text(alloc: Global, verdict: &Verdict) -> Result<String, Memory>
+pub(crate) fn answer_text(alloc: Global, verdict: &Verdict) -> Result<String, Memory>
     ensures { IfOk result (λ text. string_bytes text ≡ answer_text verdict.now) }
 {
     let mut text = String::new(alloc);

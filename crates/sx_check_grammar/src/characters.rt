@@ -9,7 +9,7 @@ use std::alloc::AllocError;
 use sx_base::hex::put_hex;
 
 /// Adds `\xHEX;`, which stands for a character in strings and symbols.
-pub fn write_escape(out: &mut String, c: char) -> Result<(), AllocError>
+pub(crate) fn write_escape(out: &mut String, c: char) -> Result<(), AllocError>
     ensures { OnOk result (string_bytes out.new ≡ string_bytes out.old ++ escape_text c) }
 {
     out.push_str("\\x")?;
@@ -18,7 +18,7 @@ pub fn write_escape(out: &mut String, c: char) -> Result<(), AllocError>
 }
 
 /// Adds a character: `#\` and itself from U+0021 to U+007E, else by its name, else `#\xHEX`.
-pub fn write_character(out: &mut String, c: char) -> Result<(), AllocError>
+pub(crate) fn write_character(out: &mut String, c: char) -> Result<(), AllocError>
     ensures { OnOk result (string_bytes out.new ≡ string_bytes out.old ++ character_text c) }
 {
     out.push_str("#\\")?;

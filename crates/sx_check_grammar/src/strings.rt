@@ -8,7 +8,7 @@ use crate::characters::write_escape;
 use std::alloc::AllocError;
 
 /// Adds a string between its quotes: U+0020 to U+007E as they are but `"` and `\`, the rest by escapes.
-pub fn write_string(out: &mut String, text: &str) -> Result<(), AllocError>
+pub(crate) fn write_string(out: &mut String, text: &str) -> Result<(), AllocError>
     ensures { OnOk result (string_bytes out.new ≡ string_bytes out.old ++ string_text text.now) }
 {
     out.push_str("\"")?;

@@ -10,7 +10,7 @@ use crate::characters::write_escape;
 use std::alloc::AllocError;
 
 /// Adds a symbol as an identifier of ASCII: a character that may not stand in its place is `\xHEX;`.
-pub fn write_symbol(out: &mut String, text: &str) -> Result<(), AllocError>
+pub(crate) fn write_symbol(out: &mut String, text: &str) -> Result<(), AllocError>
     ensures { OnOk result (string_bytes out.new ≡ string_bytes out.old ++ symbol_text text.now) }
 {
     if is_peculiar(text) {

@@ -11,7 +11,7 @@ use sx_core::formals::Formals;
 
 /// Adds the required parameters, and the one that takes the rest.
 #[tactic(auto, unfolding(sx_codec::specs::Code::formals))]
-pub fn put_formals(out: &mut Vec<u8>, parameters: &Formals) -> Result<(), Memory>
+pub(crate) fn put_formals(out: &mut Vec<u8>, parameters: &Formals) -> Result<(), Memory>
     ensures { OnOk result (Puts formals parameters.now out.old.items out.new.items) }
 {
     parameters.required.put(out)?;
@@ -20,7 +20,7 @@ pub fn put_formals(out: &mut Vec<u8>, parameters: &Formals) -> Result<(), Memory
 
 /// The formals that the bytes begin with, and the bytes behind them.
 #[tactic(auto, unfolding(sx_codec::specs::Code::formals))]
-pub fn formals_at<'a>(
+pub(crate) fn formals_at<'a>(
     libraries: &mut Libraries,
     bytes: &'a [u8],
 ) -> Result<Option<(Formals, &'a [u8])>, Memory>

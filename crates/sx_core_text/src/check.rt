@@ -104,7 +104,7 @@ fn check_line(alloc: Global, line: &Line) -> Result<(), Stop>
 }
 
 /// Stops at the first form without a text in these lines.
-pub fn check_lines(alloc: Global, lines: &[Line]) -> Result<(), Stop>
+pub(crate) fn check_lines(alloc: Global, lines: &[Line]) -> Result<(), Stop>
     ensures { Gives (λ _. tt) result (lines_checked lines.now) }
 {
     for line in lines {

@@ -70,7 +70,7 @@ impl Names {
     }
 
     /// Adds the name of a label that is bound to a variable with an index.
-    pub fn add(&mut self, label: &Label, binding: &Binding) -> Result<(), Memory>
+    fn add(&mut self, label: &Label, binding: &Binding) -> Result<(), Memory>
         ensures { OnOk result (self.new ≡ with_name self.old label.now binding.now) }
     {
         match binding {
@@ -80,7 +80,7 @@ impl Names {
     }
 
     /// Adds the names of the variables among these bindings.
-    pub fn add_all(&mut self, bindings: &[(Label, Binding)]) -> Result<(), Memory>
+    pub(crate) fn add_all(&mut self, bindings: &[(Label, Binding)]) -> Result<(), Memory>
         ensures { OnOk result (self.new ≡ with_names self.old bindings.now) }
     {
         for row in bindings {

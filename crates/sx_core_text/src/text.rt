@@ -289,7 +289,7 @@ fn put_line(out: &mut String, names: &Names, line: &Line) -> Result<(), AllocErr
 }
 
 /// Adds the text of lines.
-pub fn put_lines(out: &mut String, names: &Names, lines: &[Line]) -> Result<(), AllocError>
+pub(crate) fn put_lines(out: &mut String, names: &Names, lines: &[Line]) -> Result<(), AllocError>
     ensures { OnOk result (string_bytes out.new ≡ string_bytes out.old ++ lines_text names.now lines.now) }
 {
     for line in lines {

@@ -428,7 +428,7 @@ fn all_cases<M: Transformers, N: Ledger, L: Ledger>(
 /// A case of a procedure: its formals have a frame, and so has its body.
 #[cycle(form)]
 #[tactic(auto, unfolding(crate::specs::Expression::lambda_case))]
-pub fn lambda_case<M: Transformers, N: Ledger, L: Ledger>(
+fn lambda_case<M: Transformers, N: Ledger, L: Ledger>(
     state: &mut Expansion<L>,
     parts: &ProcedureForm,
     at: &FormAt<M>,

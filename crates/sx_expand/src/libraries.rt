@@ -51,7 +51,7 @@ impl Libraries {
     }
 
     /// The libraries as a list.
-    pub fn into_items(self, alloc: Global) -> Result<Items<LibName>, Memory>
+    pub(crate) fn into_items(self, alloc: Global) -> Result<Items<LibName>, Memory>
         ensures { IfOk result (λ ls. ls ≡ self) }
     {
         let mut list = Vec::new(alloc);

@@ -95,7 +95,7 @@ fn enter_inits(scope: &mut LabelSet, list: &[Init]) -> Result<(), Memory>
 /// Whether core code is closed: each label that it mentions lies in scope, or is defined at the top. The scope is left
 /// as it was.
 #[cycle(closed)]
-pub fn is_closed(scope: &mut LabelSet, top: &Top, core: &Core) -> Result<bool, Memory>
+pub(crate) fn is_closed(scope: &mut LabelSet, top: &Top, core: &Core) -> Result<bool, Memory>
     ensures closed { IfOk result (λ b. b ≡ closed (under scope.old top.now.earlier.now top.now.own.now) core.now) }
     ensures kept { OnOk result (scope.new ≡ scope.old) }
 {

@@ -140,7 +140,7 @@ fn is_indexed(
 /// variable in them has an index of its own; and whether the expressions of its keywords are well made, and closed under
 /// what the earlier records define.
 #[tactic(auto, using(crate::proofs::CodeLemmas::each_suits_with, crate::proofs::CodeLemmas::each_suits_alone, crate::proofs::Indices::table_indices))]
-pub fn has_good_code(
+pub(crate) fn has_good_code(
     one: &LibRecord,
     own: &IndexMap<Label, Option<u64>>,
     top: &Top,

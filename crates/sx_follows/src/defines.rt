@@ -26,7 +26,7 @@ fn add_defined(set: &mut LabelSet, line: &Line) -> Result<(), Memory>
 
 /// The labels that the lines of a record define, each once.
 #[tactic(auto, using(sx_core::proofs::LabelLemmas::with_labels_joined))]
-pub fn defined_set(alloc: Global, one: &LibRecord) -> Result<LabelSet, Memory>
+pub(crate) fn defined_set(alloc: Global, one: &LibRecord) -> Result<LabelSet, Memory>
     ensures { IfOk result (λ s. s ≡ with_labels [] (defined one.now)) }
 {
     let mut set = LabelSet::new(alloc);
@@ -141,7 +141,7 @@ fn defined_are_tops(lines: &[Line], tops: &LabelSet) -> bool
 /// Whether a record binds variables, pattern variables, and keywords with their expressions, and nothing else; and whether
 /// its variables of the top level are those that its lines define.
 #[tactic(auto, using(sx_well_made::proofs::Sets::each_among_with))]
-pub fn binds_what_it_defines(
+pub(crate) fn binds_what_it_defines(
     alloc: Global,
     one: &LibRecord,
     defines: &LabelSet,

@@ -180,21 +180,21 @@ impl<'a> Earlier<'a> {
     }
 
     /// Whether a needed record has this name.
-    pub fn has_name(&self, name: &LibName) -> bool
+    pub(crate) fn has_name(&self, name: &LibName) -> bool
         ensures { result ≡ among same_library (names_of self.now) name.now }
     {
         is_needed(self.places.names.get(name), self.marks)
     }
 
     /// Whether a needed record binds this label.
-    pub fn has_bound(&self, label: &Label) -> bool
+    pub(crate) fn has_bound(&self, label: &Label) -> bool
         ensures { result ≡ among same_label (flat_map bound_labels self.now) label.now }
     {
         is_needed(self.places.bound.get(label), self.marks)
     }
 
     /// Whether a needed record defines this label.
-    pub fn has_defined(&self, label: &Label) -> bool
+    pub(crate) fn has_defined(&self, label: &Label) -> bool
         ensures { result ≡ among same_label (flat_map defined self.now) label.now }
     {
         is_needed(self.places.defined.get(label), self.marks)

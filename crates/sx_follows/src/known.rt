@@ -52,7 +52,7 @@ fn is_given(label: &Label) -> bool
 }
 
 /// The labels of bindings, each with the index of its variable.
-pub fn own_indices(
+pub(crate) fn own_indices(
     alloc: Global,
     bindings: &[(Label, Binding)],
 ) -> Result<IndexMap<Label, Option<u64>>, Memory>
@@ -129,7 +129,7 @@ fn rows_are_known(rows: &[FrameRow], own: &IndexMap<Label, Option<u64>>, earlier
 /// Whether each label that a record exports, or that its frames give, is bound in it or in an earlier record, or given with
 /// the implementation.
 #[tactic(auto, using(crate::proofs::KnownLemmas::each_known))]
-pub fn knows_its_labels(
+pub(crate) fn knows_its_labels(
     one: &LibRecord,
     own: &IndexMap<Label, Option<u64>>,
     earlier: &Earlier,

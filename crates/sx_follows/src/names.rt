@@ -30,7 +30,7 @@ use sx_well_made::parts::{Parts, gather};
 use sx_well_made::scan::{add, scan};
 
 /// The core code of a line.
-pub fn line_core(line: &Line) -> &Core
+pub(crate) fn line_core(line: &Line) -> &Core
     ensures { result.now ≡ line_core line.now }
 {
     match line {
@@ -40,7 +40,7 @@ pub fn line_core(line: &Line) -> &Core
 }
 
 /// The expression of a keyword, where a binding is one.
-pub fn keyword_in(binding: &Binding) -> Option<&Core>
+pub(crate) fn keyword_in(binding: &Binding) -> Option<&Core>
     ensures { option_copied result ≡ keyword_in binding.now }
 {
     match binding {
@@ -57,7 +57,7 @@ pub fn keyword_in(binding: &Binding) -> Option<&Core>
 
 /// Adds the labels that a line binds, with the one that it defines, and the labels that it mentions.
 #[tactic(auto, using(sx_well_made::proofs::Lists::joined))]
-pub fn scan_line(
+fn scan_line(
     bound: &mut Items<Label>,
     mentioned: &mut Items<Label>,
     line: &Line,
@@ -90,7 +90,7 @@ fn scan_keyword(
 
 /// Adds the labels that lines bind or define, and those that they mention.
 #[tactic(auto, using(sx_well_made::proofs::Lists::joined))]
-pub fn scan_lines(
+pub(crate) fn scan_lines(
     bound: &mut Items<Label>,
     mentioned: &mut Items<Label>,
     lines: &[Line],
@@ -295,7 +295,11 @@ fn rows_once(alloc: Global, one: &LibRecord) -> Result<bool, Memory>
 
 /// Whether the name of a record is new: no earlier record has it, and it is neither that of the core forms nor that of the
 /// prelude. No external name stands twice among its exports.
-pub fn has_new_name(alloc: Global, one: &LibRecord, earlier: &Earlier) -> Result<bool, Memory>
+pub(crate) fn has_new_name(
+    alloc: Global,
+    one: &LibRecord,
+    earlier: &Earlier,
+) -> Result<bool, Memory>
     ensures { IfOk result (λ b. b ≡ has_new_name one.now earlier.now) }
 {
     if earlier.has_name(&one.name) {
@@ -345,7 +349,7 @@ fn stand_once(
 /// Whether a record names its own: all that it binds, its codes, and the frames of its rows are named by its library, and
 /// each stands once.
 #[tactic(auto, using(crate::proofs::Own::names_its_own_by))]
-pub fn names_its_own(alloc: Global, one: &LibRecord) -> Result<bool, Memory>
+pub(crate) fn names_its_own(alloc: Global, one: &LibRecord) -> Result<bool, Memory>
     ensures { IfOk result (λ b. b ≡ names_its_own one.now) }
 {
     let bound = all_binders(alloc, one)?;

@@ -74,7 +74,11 @@ fn run_references(alloc: Global, one: &LibRecord) -> Result<IndexSet<LibName>, M
 
 /// Whether the references of a record are the other libraries whose variables its lines mention, each once in order of
 /// first mention, and all of them have earlier records.
-pub fn refers_to_earlier(alloc: Global, one: &LibRecord, earlier: &Earlier) -> Result<bool, Memory>
+pub(crate) fn refers_to_earlier(
+    alloc: Global,
+    one: &LibRecord,
+    earlier: &Earlier,
+) -> Result<bool, Memory>
     ensures { IfOk result (λ b. b ≡ refers_to_earlier one.now earlier.now) }
 {
     let libraries = run_references(alloc, one)?;

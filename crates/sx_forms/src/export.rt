@@ -83,7 +83,7 @@ fn export_renames(
 }
 
 /// What an export spec exports, where a datum is one.
-pub fn export_spec(
+pub(crate) fn export_spec(
     alloc: Global,
     file: &Symbol,
     datum: &Datum,

@@ -20,7 +20,7 @@ pub struct VersionedName {
 }
 
 /// The identifiers at the front of a list.
-pub fn leading(alloc: Global, items: &[Datum]) -> Result<Items<Symbol>, Memory>
+pub(crate) fn leading(alloc: Global, items: &[Datum]) -> Result<Items<Symbol>, Memory>
     ensures { IfOk result (λ parts. parts ≡ leading items.now) }
 {
     let mut parts = Items::new(alloc);
@@ -59,7 +59,7 @@ fn int_of_atom(atom: &Atom) -> Option<i128>
 }
 
 /// The integer that a datum is.
-pub fn int_of(datum: &Datum) -> Option<i128>
+pub(crate) fn int_of(datum: &Datum) -> Option<i128>
     ensures { result ≡ int_of datum.now }
 {
     int_of_atom(datum.as_atom()?)

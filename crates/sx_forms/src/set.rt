@@ -51,7 +51,7 @@ pub fn start(file: &Symbol) -> Result<Span, Memory>
 }
 
 /// An identifier with its place.
-pub fn name_at(file: &Symbol, datum: &Datum) -> Result<Option<NameAt>, Memory>
+pub(crate) fn name_at(file: &Symbol, datum: &Datum) -> Result<Option<NameAt>, Memory>
     ensures { IfOk result (λ r. r ≡ name_at file.now datum.now) }
 {
     match datum.as_symbol() {
@@ -218,7 +218,7 @@ fn only_reference(
 
 /// The import set that a datum is, where it is one.
 #[cycle(import_set)]
-pub fn import_set(alloc: Global, file: &Symbol, datum: &Datum) -> Result<Option<ImportSet>, Memory>
+fn import_set(alloc: Global, file: &Symbol, datum: &Datum) -> Result<Option<ImportSet>, Memory>
     ensures { IfOk result (λ r. r ≡ import_set file.now datum.now) }
 {
     let Some(items) = datum.as_list() else {
@@ -324,7 +324,11 @@ fn import_for(alloc: Global, file: &Symbol, items: &[Datum]) -> Result<Option<Im
 }
 
 /// What an import spec imports, where a datum is one.
-pub fn import_spec(alloc: Global, file: &Symbol, datum: &Datum) -> Result<Option<Import>, Memory>
+pub(crate) fn import_spec(
+    alloc: Global,
+    file: &Symbol,
+    datum: &Datum,
+) -> Result<Option<Import>, Memory>
     ensures { IfOk result (λ r. r ≡ import_spec file.now datum.now) }
 {
     let Some(items) = datum.as_list() else {

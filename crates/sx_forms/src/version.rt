@@ -22,7 +22,7 @@ pub fn version_fits(version: &[u64], reference: &Datum) -> bool
 }
 
 /// Whether a datum is a version reference.
-pub fn is_reference(datum: &Datum) -> bool
+pub(crate) fn is_reference(datum: &Datum) -> bool
     ensures { result ≡ is_reference datum.now }
 {
     fits(&[], datum).is_some()

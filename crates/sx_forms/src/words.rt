@@ -31,7 +31,7 @@ pub enum Connective {
 }
 
 /// Whether a datum is this symbol.
-pub fn is_word(datum: &Datum, word: &str) -> bool
+pub(crate) fn is_word(datum: &Datum, word: &str) -> bool
     ensures { result ≡ is_word word.now datum.now }
 {
     match datum.as_symbol() {
@@ -41,7 +41,7 @@ pub fn is_word(datum: &Datum, word: &str) -> bool
 }
 
 /// The word that an import set begins with, where it begins with one.
-pub fn set_word(datum: &Datum) -> Option<SetWord>
+pub(crate) fn set_word(datum: &Datum) -> Option<SetWord>
     ensures { result ≡ set_word datum.now }
 {
     if is_word(datum, "library") {
@@ -62,7 +62,7 @@ pub fn set_word(datum: &Datum) -> Option<SetWord>
 }
 
 /// The word that a version reference, or a part of one, begins with.
-pub fn connective_of(datum: &Datum) -> Option<Connective>
+pub(crate) fn connective_of(datum: &Datum) -> Option<Connective>
     ensures { result ≡ connective_of datum.now }
 {
     if is_word(datum, "and") {

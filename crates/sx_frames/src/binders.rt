@@ -152,7 +152,7 @@ impl BinderIndex {
     }
 
     /// Takes the frame of each row for its symbol.
-    pub fn add_rows(&mut self, rows: &[FrameRow]) -> Result<(), Memory>
+    pub(crate) fn add_rows(&mut self, rows: &[FrameRow]) -> Result<(), Memory>
         ensures there { OnOk result (AllNoted rows.now self.new) }
         ensures kept { Covers self.old self.new }
     {

@@ -123,7 +123,7 @@ impl FrameMap {
     }
 
     /// How many rows the frame has. It takes no memory.
-    pub fn size_at(&self, frame: &FrameNo) -> usize
+    pub(crate) fn size_at(&self, frame: &FrameNo) -> usize
         ensures { result ≡ length (rows_at frame.now self.now) }
     {
         match self.frames.get(frame) {

@@ -135,7 +135,7 @@ impl JoinedFrames {
     }
 
     /// How many rows the frame has. It takes no memory.
-    pub fn size_at(&self, frame: &FrameNo) -> usize
+    pub(crate) fn size_at(&self, frame: &FrameNo) -> usize
         ensures { result ≡ length (rows_at frame.now self.now) }
     {
         part_of_frame(&self.given, &self.own, frame).size_at(frame)

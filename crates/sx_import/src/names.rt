@@ -379,7 +379,7 @@ fn join_again(alloc: Global, label: &Label, row: &(Symbol, Label), span: &Span) 
 /// Adds names to those of a form. The same name for the same label may come twice; for two labels it
 /// is `ImportConflict` at the set. After a refusal all is as before.
 #[tactic(auto, using(crate::proofs::NameLemmas::kept_front))]
-pub fn join_names(
+pub(crate) fn join_names(
     alloc: Global,
     all: &mut Names,
     more: &[(Symbol, Label)],

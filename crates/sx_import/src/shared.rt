@@ -243,7 +243,7 @@ fn join_steps(
 
 /// Joins the names that an import set with these steps gives of a library to those of a form. The answer is what is
 /// enough of the library's names then, where that changes.
-pub fn join_set(
+pub(crate) fn join_set(
     alloc: Global,
     all: &mut Names,
     source: &Source,

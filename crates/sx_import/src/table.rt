@@ -58,7 +58,7 @@ impl<V: Drop> Table<V> {
     }
 
     /// How many of so many names can be here, for each stands once.
-    pub fn at_most(&self, count: usize) -> usize
+    pub(crate) fn at_most(&self, count: usize) -> usize
         ensures fits { result ≤ count }
         ensures own { IsOwn self.now }
     {
@@ -94,7 +94,7 @@ impl<V: Drop> Table<V> {
     }
 
     /// Puts a value at the end under a name that has none. A refusal changes nothing.
-    pub fn put_new(&mut self, name: Symbol, value: V) -> Result<(), Memory>
+    pub(crate) fn put_new(&mut self, name: Symbol, value: V) -> Result<(), Memory>
         requires { value_of name self.old ≡ None }
         ensures ok { OnOk result (self.new ≡ self.old ++ (name, value) ∷ []) }
         ensures err { OnErr result (self.new ≡ self.old) }

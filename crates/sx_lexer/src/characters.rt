@@ -18,7 +18,12 @@ use sx_spelling::source::{Piece, behind, byte_at, front};
 use sx_spelling::whitespace::{is_delimited, run_end};
 
 /// The character whose `#\` is the first of the bytes.
-pub fn character_at(alloc: Global, file: &Symbol, bytes: &[u8], from: u32) -> Result<Lexeme, Stop>
+pub(crate) fn character_at(
+    alloc: Global,
+    file: &Symbol,
+    bytes: &[u8],
+    from: u32,
+) -> Result<Lexeme, Stop>
     requires some { 2 ≤ length bytes.now }
     requires fits { from + length bytes.now < 2 ^ 32 }
     ensures gives { Gives (λ x. x) result (character_at file.now bytes.now from) }

@@ -11,7 +11,7 @@ use sx_base::span::Span;
 use sx_base::symbol::Symbol;
 
 /// Refuses the bytes from `from` up to `to`.
-pub fn refuse<T>(
+pub(crate) fn refuse<T>(
     alloc: Global,
     file: &Symbol,
     kind: FaultKind,

@@ -21,7 +21,7 @@ pub enum Until {
 }
 
 /// The offset behind the gap with which the bytes at `at` begin.
-pub fn gap_end(alloc: Global, file: &Symbol, bytes: &[u8], at: u32) -> Result<u32, Stop>
+pub(crate) fn gap_end(alloc: Global, file: &Symbol, bytes: &[u8], at: u32) -> Result<u32, Stop>
     requires { at + length bytes.now < 2 ^ 32 }
     ensures gives { Gives (λ x. x) result (gap_end file.now bytes.now at) }
     ensures within { IfOk result (λ to. (at ≤ to) × (to ≤ at + length bytes.now)) }
@@ -65,7 +65,7 @@ fn atmosphere_end(alloc: Global, file: &Symbol, bytes: &[u8], at: u32) -> Result
 }
 
 /// The offset of what ends the line, or of the end of the source.
-pub fn rest_of_line(
+pub(crate) fn rest_of_line(
     alloc: Global,
     file: &Symbol,
     bytes: &[u8],

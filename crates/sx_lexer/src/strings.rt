@@ -38,7 +38,12 @@ impl<'a> StringContext<'a> {
 }
 
 /// The string whose opening quote is the first of the bytes.
-pub fn string_at(alloc: Global, file: &Symbol, bytes: &[u8], from: u32) -> Result<Lexeme, Stop>
+pub(crate) fn string_at(
+    alloc: Global,
+    file: &Symbol,
+    bytes: &[u8],
+    from: u32,
+) -> Result<Lexeme, Stop>
     requires some { 0 < length bytes.now }
     requires fits { from + length bytes.now < 2 ^ 32 }
     ensures gives { Gives (λ x. x) result (string_at file.now bytes.now from) }

@@ -36,7 +36,7 @@ use sx_standing::share::share_library;
 /// The names that the imports of a form give, each once and in order, with their labels. First each library
 /// must be there in a version that fits, and then each name is looked for.
 #[tactic(auto, unfolding(crate::specs::Imports::form_names))]
-pub fn form_names(alloc: Global, needed: &Needed, imports: &[Import]) -> Result<Names, Stop>
+pub(crate) fn form_names(alloc: Global, needed: &Needed, imports: &[Import]) -> Result<Names, Stop>
     ensures { Gives (λ names. names) result (form_names (needed_records needed.now.records.now needed.now.marks.now) imports.now) }
 {
     refer_all(alloc, needed, imports)?;

@@ -76,7 +76,7 @@ pub struct Open {
 }
 
 /// The import of an open file that is next.
-pub fn next_import(at: &Open) -> Option<&Import>
+pub(crate) fn next_import(at: &Open) -> Option<&Import>
     ensures { option_copied result ≡ slice_get at.now.opened.form.imports at.now.next }
 {
     let imports = at.opened.form.imports.as_slice();

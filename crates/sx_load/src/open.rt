@@ -45,7 +45,7 @@ fn most(bytes: usize) -> usize
 }
 
 /// A reference to a library beyond the most.
-pub fn too_many(alloc: Global, set: &ImportSet) -> Stop
+pub(crate) fn too_many(alloc: Global, set: &ImportSet) -> Stop
     ensures { StopsWith result (too_many set.now) }
 {
     match set.place.share() {
@@ -59,7 +59,7 @@ pub fn too_many(alloc: Global, set: &ImportSet) -> Stop
 }
 
 /// A fault of a file that was not read, at its start.
-pub fn at_start(kind: FaultKind, path: &Symbol, words: Items<Symbol>) -> Stop
+pub(crate) fn at_start(kind: FaultKind, path: &Symbol, words: Items<Symbol>) -> Stop
     ensures { StopsWith result (at_start kind path.now words) }
 {
     match start(path) {
@@ -122,7 +122,7 @@ fn library_in(alloc: Global, name: &LibName, path: &Symbol, held: &[u8]) -> Resu
 
 /// The program that a source is.
 #[tactic(auto, unfolding(crate::specs::Load::program_in))]
-pub fn program_in(alloc: Global, path: &Symbol, held: &[u8]) -> Result<Opened, Stop>
+pub(crate) fn program_in(alloc: Global, path: &Symbol, held: &[u8]) -> Result<Opened, Stop>
     requires { length held.now < 2 ^ 32 }
     ensures { Gives (λ o. o) result (program_in path.now held.now) }
 {
@@ -192,7 +192,7 @@ fn opened_from(
 
 /// Opens the file of a library that isn't begun yet.
 #[tactic(auto, unfolding(crate::specs::Load::open_file))]
-pub fn open_file<F: Files>(
+pub(crate) fn open_file<F: Files>(
     search: &Search,
     files: &mut F,
     set: &ImportSet,

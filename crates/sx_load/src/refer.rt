@@ -56,7 +56,7 @@ fn fault_about(alloc: Global, kind: FaultKind, set: &ImportSet) -> Result<Fault,
 }
 
 /// The name of a library, as a word of a fault.
-pub fn library_word(alloc: Global, library: &LibName) -> Result<Symbol, Memory>
+pub(crate) fn library_word(alloc: Global, library: &LibName) -> Result<Symbol, Memory>
     ensures { IfOk result (λ s. s ≡ name_text library.now) }
 {
     let mut text = String::new(alloc);
@@ -109,7 +109,11 @@ fn either(one: bool, other: bool) -> bool
 }
 
 /// Marks, with those of a library and of what it needs.
-pub fn with_needs(alloc: Global, needs: &[bool], found: &Found) -> Result<Items<bool>, Memory>
+pub(crate) fn with_needs(
+    alloc: Global,
+    needs: &[bool],
+    found: &Found,
+) -> Result<Items<bool>, Memory>
     ensures { IfOk result (λ more. more ≡ with_needs needs.now found.now) }
 {
     let mut more = Items::new(alloc);
@@ -150,7 +154,7 @@ fn by_begun(alloc: Global, set: &ImportSet, is_begun: bool) -> Result<Known, Sto
 /// What is known of the library that a reference names: it is given with the implementation, it is
 /// loaded, it is being loaded, which is a cycle, or it is new.
 #[tactic(auto, unfolding(crate::specs::Load::known_of))]
-pub fn known_of(
+pub(crate) fn known_of(
     alloc: Global,
     loading: &Loading,
     needs: &[bool],

@@ -61,7 +61,11 @@ fn capped(answer: FileAnswer, max: usize) -> Answer
 }
 
 /// What there is at a path, if it has at most so many bytes.
-pub fn read_at<F: Files>(files: &mut F, path: &Symbol, max: usize) -> Result<Answer, OutsideError>
+pub(crate) fn read_at<F: Files>(
+    files: &mut F,
+    path: &Symbol,
+    max: usize,
+) -> Result<Answer, OutsideError>
     ensures same { F.told files.new ≡ F.told files.old }
     ensures answer { (fs : Paths) → F.told files.old ≡ Some fs → IfOk result (λ answer. answer_reading answer ≡ read_of (at_path fs path.now) max) }
     ensures within { IfOk result (IsWithin max) }
@@ -81,7 +85,7 @@ fn absent_at(path: Symbol) -> Source
 }
 
 /// Looks for a file under the first root that has it. The paths where it isn't are kept as sources.
-pub fn look_for<F: Files>(
+pub(crate) fn look_for<F: Files>(
     search: &Search,
     files: &mut F,
     file: &Symbol,

@@ -277,7 +277,7 @@ fn walk<F: Files>(
 }
 
 /// A file and all that it imports, directly or not, each library after those that it imports itself.
-pub fn load_all<F: Files>(
+pub(crate) fn load_all<F: Files>(
     search: &Search,
     files: &mut F,
     opened: Opened,

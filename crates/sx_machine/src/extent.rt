@@ -25,7 +25,7 @@ pub struct Misplaced {
 }
 
 /// The span of these bytes of a file.
-pub fn span_at(file: &Symbol, at: Extent) -> Result<Option<Span>, Memory>
+pub(crate) fn span_at(file: &Symbol, at: Extent) -> Result<Option<Span>, Memory>
     ensures { IfOk result (λ s. s ≡ span_at file.now at) }
 {
     let file = file.share()?;
@@ -34,7 +34,12 @@ pub fn span_at(file: &Symbol, at: Extent) -> Result<Option<Span>, Memory>
 }
 
 /// A fault at these bytes of a file.
-pub fn fault_at(alloc: Global, file: &Symbol, kind: FaultKind, at: Extent) -> Result<Fault, Memory>
+pub(crate) fn fault_at(
+    alloc: Global,
+    file: &Symbol,
+    kind: FaultKind,
+    at: Extent,
+) -> Result<Fault, Memory>
     ensures { IfOk result (λ f. f ≡ fault_at file.now kind at) }
 {
     let file = file.share()?;

@@ -36,7 +36,7 @@ pub fn constant(file: &Symbol, value: Atom, at: Extent) -> Result<Datum, Memory>
 }
 
 /// A symbol with the span of its token.
-pub fn named(file: &Symbol, name: Symbol, at: Extent) -> Result<Datum, Memory>
+pub(crate) fn named(file: &Symbol, name: Symbol, at: Extent) -> Result<Datum, Memory>
     ensures { IfOk result (λ d. d ≡ symbol (span_at file.now at) name) }
 {
     let span = span_at(file, at)?;
@@ -45,7 +45,7 @@ pub fn named(file: &Symbol, name: Symbol, at: Extent) -> Result<Datum, Memory>
 }
 
 /// The elements of a list that has no more to come, at their length: a list of one datum would keep room for four.
-pub fn exact(items: Items<Datum>) -> Vec<Datum>
+pub(crate) fn exact(items: Items<Datum>) -> Vec<Datum>
     ensures { result.items ≡ items }
 {
     let mut items = items.into_vec();
@@ -56,7 +56,7 @@ pub fn exact(items: Items<Datum>) -> Vec<Datum>
 /// A list with a tail, which is joined on where it is a list. Without elements it is the tail, with
 /// this span.
 #[tactic(auto, using(crate::proofs::Joining::joined_list))]
-pub fn joined(
+pub(crate) fn joined(
     alloc: Global,
     span: Option<Span>,
     items: Items<Datum>,
@@ -99,7 +99,7 @@ pub fn vector(file: &Symbol, items: Items<Datum>, at: Extent) -> Result<Datum, M
 }
 
 /// A bytevector with these elements.
-pub fn bytevector(file: &Symbol, bytes: Items<u8>, at: Extent) -> Result<Datum, Memory>
+pub(crate) fn bytevector(file: &Symbol, bytes: Items<u8>, at: Extent) -> Result<Datum, Memory>
     ensures { IfOk result (λ d. d ≡ atom (span_at file.now at) (atoms.Bytes bytes)) }
 {
     let bytes = Bytes::from_vec(bytes.into_vec())?;
@@ -108,7 +108,7 @@ pub fn bytevector(file: &Symbol, bytes: Items<u8>, at: Extent) -> Result<Datum, 
 
 /// The list that an abbreviation with its datum is. The symbol stands at the prefix, the list at the
 /// whole.
-pub fn abbreviated(
+pub(crate) fn abbreviated(
     context: &SourceContext,
     abbreviation: Abbreviation,
     prefix: Extent,
@@ -139,7 +139,7 @@ fn keyword_at(
 }
 
 /// The byte that a datum is in a bytevector.
-pub fn byte_of(datum: &Datum) -> Option<u8>
+pub(crate) fn byte_of(datum: &Datum) -> Option<u8>
     ensures { result ≡ byte_of datum.now }
 {
     match &datum.node {

@@ -57,7 +57,7 @@ impl Keywords {
     }
 
     /// The symbol that an abbreviation stands for.
-    pub fn shared(&self, abbreviation: Abbreviation) -> Result<Symbol, Memory>
+    pub(crate) fn shared(&self, abbreviation: Abbreviation) -> Result<Symbol, Memory>
         ensures { IfOk result (λ s. s ≡ keyword_of abbreviation) }
     {
         self.symbol(abbreviation).share()

@@ -92,7 +92,7 @@ impl Stack {
     }
 
     /// How many more forms may be opened, where so many may be at the top.
-    pub fn room(&self, nesting: u32) -> u32
+    pub(crate) fn room(&self, nesting: u32) -> u32
         ensures { result ≡ room_in nesting self.now }
     {
         match self.innermost() {
@@ -103,7 +103,7 @@ impl Stack {
 
     /// What is wrong where a form other than a comment begins here: in a bytevector stands no form,
     /// and behind a dot stands one.
-    pub fn misplaced(&self, at: Extent) -> Option<Misplaced>
+    pub(crate) fn misplaced(&self, at: Extent) -> Option<Misplaced>
         ensures { result ≡ misplaced self.now at }
     {
         match self.innermost() {

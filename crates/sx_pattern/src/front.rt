@@ -93,7 +93,7 @@ fn further(alloc: Global, begun: Front, limit: Option<usize>) -> Result<Front, M
 
 /// The first elements of a list, as many as there are up to a limit, and what is behind them. Pairs of
 /// the store and of a syntax tree are opened alike.
-pub fn front_of(
+pub(crate) fn front_of(
     alloc: Global,
     value: &Value,
     limit: Option<usize>,

@@ -23,7 +23,7 @@ pub fn is_form(form: CoreForm, label: &Option<Label>) -> bool
 }
 
 /// Whether a form is an ellipsis.
-pub fn is_ellipsis(form: &Syn, frames: &Frames) -> Result<bool, Memory>
+fn is_ellipsis(form: &Syn, frames: &Frames) -> Result<bool, Memory>
     ensures { IfOk result (λ b. b ≡ is_ellipsis frames.now form.now) }
 {
     let label = frames.stands(form)?;
@@ -31,7 +31,7 @@ pub fn is_ellipsis(form: &Syn, frames: &Frames) -> Result<bool, Memory>
 }
 
 /// How many ellipses these forms begin with.
-pub fn leading(forms: &[Syn], frames: &Frames) -> Result<usize, Memory>
+fn leading(forms: &[Syn], frames: &Frames) -> Result<usize, Memory>
     ensures { IfOk result (λ n. n ≡ leading frames.now forms.now) }
 {
     let mut count = 0;
@@ -45,7 +45,10 @@ pub fn leading(forms: &[Syn], frames: &Frames) -> Result<usize, Memory>
 }
 
 /// The ellipsis that these forms begin with.
-pub fn first_ellipsis<'a>(forms: &'a [Syn], frames: &Frames) -> Result<Option<&'a Syn>, Memory>
+pub(crate) fn first_ellipsis<'a>(
+    forms: &'a [Syn],
+    frames: &Frames,
+) -> Result<Option<&'a Syn>, Memory>
     ensures { IfOk result (λ e. option_map (λ t. t.now) e ≡ first_ellipsis frames.now forms.now) }
 {
     let Some((form, _)) = forms.split_first() else {

@@ -234,7 +234,7 @@ fn start<L: Ledger>(alloc: Global, unspent: Unspent<L>) -> Result<Expander<L>, S
 }
 
 /// The codes of all texts, in the order of `PROCEDURES`. `means` has no records; its primitives are asked for nothing.
-pub fn prelude_codes<N: Ledger, L: Ledger>(
+pub(crate) fn prelude_codes<N: Ledger, L: Ledger>(
     alloc: Global,
     means: &Means,
     tally: &mut Tally<N, L>,

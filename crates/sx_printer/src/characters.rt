@@ -8,7 +8,7 @@ use std::alloc::AllocError;
 use sx_base::hex::put_hex;
 
 /// Adds a character: `#\` and itself where it is printable ASCII, else its name, else `#\xHEX`.
-pub fn put_character(out: &mut String, c: char) -> Result<(), AllocError>
+pub(crate) fn put_character(out: &mut String, c: char) -> Result<(), AllocError>
     ensures { OnOk result (string_bytes out.new ≡ string_bytes out.old ++ character_text c) }
 {
     out.push_str("#\\")?;

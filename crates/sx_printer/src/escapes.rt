@@ -8,7 +8,7 @@ use std::alloc::AllocError;
 use sx_base::hex::put_hex;
 
 /// Adds `\xHEX;`, which stands for a character in strings and symbols.
-pub fn put_escape(out: &mut String, c: char) -> Result<(), AllocError>
+pub(crate) fn put_escape(out: &mut String, c: char) -> Result<(), AllocError>
     ensures { OnOk result (string_bytes out.new ≡ string_bytes out.old ++ escape_text c) }
 {
     out.push_str("\\x")?;

@@ -9,7 +9,7 @@ use std::alloc::AllocError;
 
 /// Adds a string between its quotes. Printable ASCII stands as it is, but `"` and `\`; the rest is
 /// spelt by escapes.
-pub fn put_string(out: &mut String, text: &str) -> Result<(), AllocError>
+pub(crate) fn put_string(out: &mut String, text: &str) -> Result<(), AllocError>
     ensures { OnOk result (string_bytes out.new ≡ string_bytes out.old ++ string_text text.now) }
 {
     out.push_str("\"")?;

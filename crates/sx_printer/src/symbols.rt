@@ -10,7 +10,7 @@ use std::alloc::AllocError;
 
 /// Adds a symbol as an identifier of ASCII. A character that may not stand in its place is spelt
 /// `\xHEX;`. The symbol without characters, which no identifier spells, adds nothing.
-pub fn put_symbol(out: &mut String, text: &str) -> Result<(), AllocError>
+pub(crate) fn put_symbol(out: &mut String, text: &str) -> Result<(), AllocError>
     ensures { OnOk result (string_bytes out.new ≡ string_bytes out.old ++ symbol_text text.now) }
 {
     if is_peculiar(text) {

@@ -156,7 +156,12 @@ fn labelled(family: Family, label: &Option<Label>) -> Word
 }
 
 /// The word of a form. An identifier is known by what it stands for; what is no identifier is plain.
-pub fn word_of(alloc: Global, family: Family, form: &Syn, frames: &Frames) -> Result<Word, Memory>
+pub(crate) fn word_of(
+    alloc: Global,
+    family: Family,
+    form: &Syn,
+    frames: &Frames,
+) -> Result<Word, Memory>
     ensures { IfOk result (λ w. w ≡ word_of family frames.now form.now) }
 {
     if !is_id(alloc, form)? {

@@ -278,7 +278,7 @@ fn bindings_rise_on(label: &Label, bindings: &[(Label, Binding)]) -> bool
 }
 
 /// Adds bindings, which rise by their labels.
-pub fn put_bindings(
+pub(crate) fn put_bindings(
     out: &mut Vec<u8>,
     alloc: Global,
     bindings: &[(Label, Binding)],
@@ -312,7 +312,7 @@ fn put_row(out: &mut Vec<u8>, alloc: Global, row: &(Label, Binding)) -> Result<b
 }
 
 /// The bindings that the bytes begin with, where they rise by their labels, and the bytes behind them.
-pub fn bindings_at<'a>(
+pub(crate) fn bindings_at<'a>(
     libraries: &mut Libraries,
     bytes: &'a [u8],
 ) -> Result<Option<(Held<Vec<(Label, Binding)>>, &'a [u8])>, Memory>

@@ -82,7 +82,7 @@ fn definition_at<'a>(
 }
 
 /// Adds run lines.
-pub fn put_lines(out: &mut Vec<u8>, alloc: Global, lines: &[Line]) -> Result<bool, Memory>
+pub(crate) fn put_lines(out: &mut Vec<u8>, alloc: Global, lines: &[Line]) -> Result<bool, Memory>
     ensures { IfOk result (λ b. PutsIf (listed spell.line) lines.now out.old.items out.new.items b) }
 {
     put_u64(out, lines.len() as u64)?;
@@ -95,7 +95,7 @@ pub fn put_lines(out: &mut Vec<u8>, alloc: Global, lines: &[Line]) -> Result<boo
 }
 
 /// The run lines that the bytes begin with, and the bytes behind them.
-pub fn lines_at<'a>(
+pub(crate) fn lines_at<'a>(
     libraries: &mut Libraries,
     bytes: &'a [u8],
 ) -> Result<Option<(Held<Vec<Line>>, &'a [u8])>, Memory>

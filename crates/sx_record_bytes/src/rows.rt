@@ -91,7 +91,7 @@ fn rows_rise_on(frame: &FrameNo, rows: &[FrameRow]) -> bool
 }
 
 /// Adds rows, which rise by their frames.
-pub fn put_rows(out: &mut Vec<u8>, alloc: Global, rows: &[FrameRow]) -> Result<bool, Memory>
+pub(crate) fn put_rows(out: &mut Vec<u8>, alloc: Global, rows: &[FrameRow]) -> Result<bool, Memory>
     ensures { IfOk result (λ b. PutsIf (checked spell.rows_rise (listed frame_row)) rows.now out.old.items out.new.items b) }
 {
     if !rows_rise(rows) {
@@ -112,7 +112,7 @@ fn put_all(out: &mut Vec<u8>, alloc: Global, rows: &[FrameRow]) -> Result<(), Me
 }
 
 /// The rows that the bytes begin with, where they rise by their frames, and the bytes behind them.
-pub fn rows_at<'a>(
+pub(crate) fn rows_at<'a>(
     libraries: &mut Libraries,
     bytes: &'a [u8],
 ) -> Result<Option<(Vec<FrameRow>, &'a [u8])>, Memory>

@@ -83,7 +83,7 @@ impl<'a> Cache<'a> {
     }
 
     /// A library whose turn it is.
-    pub fn due(&self, alloc: Global, found: Found) -> Result<Due, Memory>
+    pub(crate) fn due(&self, alloc: Global, found: Found) -> Result<Due, Memory>
         ensures { IfOk result (λ d. (d.found ≡ found) × (string_bytes d.place ≡ place_of self.now found)) }
     {
         let place = self.place_of(alloc, &found)?;
@@ -91,7 +91,7 @@ impl<'a> Cache<'a> {
     }
 
     /// The entry of a library, but for its record.
-    pub fn unmade(&self, alloc: Global, found: &Found) -> Result<Unmade, Memory>
+    pub(crate) fn unmade(&self, alloc: Global, found: &Found) -> Result<Unmade, Memory>
         ensures { IfOk result (λ u. u ≡ record { path = found.now.opened.path; roots = self.now.roots; sources = picked self.now.sources (chosen self.now.groups found.now) }) }
     {
         let path = found.opened.path.share()?;
@@ -106,7 +106,7 @@ impl<'a> Cache<'a> {
     }
 
     /// The record of the entry that the bytes are, sealed, where it is an entry of a library's roots and sources.
-    pub fn record_in(
+    pub(crate) fn record_in(
         &self,
         alloc: Global,
         found: &Found,
@@ -171,7 +171,7 @@ impl Unmade {
 }
 
 /// The bytes of an entry, where it has a spelling.
-pub fn spelled(alloc: Global, entry: &Entry) -> Result<Option<Vec<u8>>, Memory>
+pub(crate) fn spelled(alloc: Global, entry: &Entry) -> Result<Option<Vec<u8>>, Memory>
     ensures { IfOk result (λ o. option_map (λ v. v.items) o ≡ spelled entry.now) }
 {
     match encode_entry(alloc, entry)? {

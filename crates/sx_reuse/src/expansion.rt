@@ -34,7 +34,7 @@ pub enum File {
 }
 
 /// The marks of the libraries that are needed, behind that of the derived library, which all need.
-pub fn with_derived(alloc: Global, needs: &[bool]) -> Result<Items<bool>, Memory>
+pub(crate) fn with_derived(alloc: Global, needs: &[bool]) -> Result<Items<bool>, Memory>
     ensures { IfOk result (λ ms. ms ≡ true ∷ needs.now) }
 {
     let mut all = Items::new(alloc);
@@ -108,7 +108,7 @@ fn without_links(linked: Linked) -> LibRecord
 }
 
 /// The record of what a file holds, behind those that it needs.
-pub fn record_of<N: Ledger, L: Ledger>(
+pub(crate) fn record_of<N: Ledger, L: Ledger>(
     behind: &Behind,
     file: File,
     found: Found,
@@ -133,7 +133,7 @@ fn planned_text(alloc: Global, records: &[LibRecord], program: &LibRecord) -> Re
 
 /// The core text of a program behind these records, or its first fault. The data of its file go once they are syntax
 /// objects.
-pub fn text_after<N: Ledger, L: Ledger>(
+pub(crate) fn text_after<N: Ledger, L: Ledger>(
     alloc: Global,
     implementation: &Implementation,
     records: Records,

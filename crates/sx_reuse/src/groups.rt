@@ -155,7 +155,7 @@ fn add_marked(all: &mut Items<usize>, groups: &[Group], marks: &[bool]) -> Resul
 }
 
 /// The places of the sources of all that a library needs, in the order of loading, and then of its own.
-pub fn chosen(alloc: Global, groups: &[Group], found: &Found) -> Result<Items<usize>, Memory>
+pub(crate) fn chosen(alloc: Global, groups: &[Group], found: &Found) -> Result<Items<usize>, Memory>
     ensures { IfOk result (λ ps. ps ≡ chosen groups.now found.now) }
 {
     let mut all = Items::new(alloc);
@@ -186,7 +186,11 @@ fn share_held(alloc: Global, held: &Option<Items<u8>>) -> Result<Option<Items<u8
 }
 
 /// The sources at some places.
-pub fn picked(alloc: Global, sources: &[Source], places: &[usize]) -> Result<Items<Source>, Memory>
+pub(crate) fn picked(
+    alloc: Global,
+    sources: &[Source],
+    places: &[usize],
+) -> Result<Items<Source>, Memory>
     ensures { IfOk result (λ ss. ss ≡ picked sources.now places.now) }
 {
     let mut all = Items::new(alloc);
@@ -220,7 +224,7 @@ fn add_source_at(
 }
 
 /// Other owners of these.
-pub fn share_all(alloc: Global, symbols: &[Symbol]) -> Result<Items<Symbol>, Memory>
+pub(crate) fn share_all(alloc: Global, symbols: &[Symbol]) -> Result<Items<Symbol>, Memory>
     ensures { IfOk result (λ ss. ss ≡ symbols.now) }
 {
     let mut all = Items::new(alloc);

@@ -85,7 +85,7 @@ impl Turned {
     }
 
     /// The records, and which of them were reused but for the first. It takes no memory.
-    pub fn into_parts(self) -> (Records, Items<bool>)
+    pub(crate) fn into_parts(self) -> (Records, Items<bool>)
         ensures records { result.0 ≡ self.records }
         ensures reused { result.1 ≡ self.reused }
     {

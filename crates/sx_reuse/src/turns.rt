@@ -260,7 +260,7 @@ fn take_each<S: Store, N: Ledger, L: Ledger>(
 }
 
 /// The record of the derived library, and behind it those of others, in the order of loading.
-pub fn take_turns<S: Store, N: Ledger, L: Ledger>(
+pub(crate) fn take_turns<S: Store, N: Ledger, L: Ledger>(
     turning: &Turning,
     libraries: Table<Found>,
     store: &mut S,

@@ -206,7 +206,7 @@ fn of_job<F: Files, S: Store, N: Ledger, L: Ledger>(
 
 /// The core text of a job's program and its report, or why there is none. What is made of its libraries is kept in the
 /// store, and what the store has of them is taken, where it was made of the sources that are read now.
-pub fn prepare_cached<F: Files, S: Store, N: Ledger, L: Ledger>(
+pub(crate) fn prepare_cached<F: Files, S: Store, N: Ledger, L: Ledger>(
     cached: &CachedJob,
     inputs: &mut Inputs<F, S>,
     primitives: &PrimTable,

@@ -100,7 +100,7 @@ fn expanded<N: Ledger, L: Ledger>(
 
 /// The line on the core text of so many libraries and a program that are made in memory, or why there is none.
 #[tactic(auto, unfolding(crate::specs::Whole::of_made))]
-pub fn prepare_made<N: Ledger, L: Ledger>(
+pub(crate) fn prepare_made<N: Ledger, L: Ledger>(
     alloc: Global,
     count: u32,
     primitives: &PrimTable,

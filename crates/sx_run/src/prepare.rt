@@ -294,7 +294,7 @@ fn of_job<F: Files, N: Ledger, L: Ledger>(
 }
 
 /// The core text or the binding map of a job's program and its report, or why there is none.
-pub fn prepare<F: Files, N: Ledger, L: Ledger>(
+pub(crate) fn prepare<F: Files, N: Ledger, L: Ledger>(
     alloc: Global,
     job: &Job,
     files: &mut F,

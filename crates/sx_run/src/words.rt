@@ -8,7 +8,7 @@ use sx_base::memory::Memory;
 use sx_words::words::{Words, read_words};
 
 /// What the words ask for.
-pub fn words_asked(alloc: Global, words: &[String]) -> Result<Words, Memory>
+pub(crate) fn words_asked(alloc: Global, words: &[String]) -> Result<Words, Memory>
     ensures { IfOk result (λ asked. asked ≡ words_asked (texts words.now)) }
 {
     read_words(alloc, words)

@@ -110,7 +110,7 @@ pub fn share_all(alloc: Global, forms: &[Syn]) -> Result<Items<Syn>, Memory>
 }
 
 /// Whether all of these are identifiers.
-pub fn all_ids(alloc: Global, forms: &[Syn]) -> Result<bool, Memory>
+pub(crate) fn all_ids(alloc: Global, forms: &[Syn]) -> Result<bool, Memory>
     ensures { IfOk result (λ b. b ≡ all_ids forms.now) }
 {
     for form in forms {

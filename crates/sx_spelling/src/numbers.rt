@@ -53,7 +53,7 @@ pub fn digits_size(base: u8, bytes: &[u8]) -> usize
 }
 
 /// The number that digits spell, where it is at most 2^127.
-pub fn magnitude(base: u8, digits: &[u8]) -> Option<u128>
+pub(crate) fn magnitude(base: u8, digits: &[u8]) -> Option<u128>
     requires { 0 < base }
     ensures { SomeIff result (value_from base 0 digits.now ≤ 2 ^ 127) (value_from base 0 digits.now) }
 {

@@ -76,7 +76,7 @@ impl Libraries {
     }
 
     /// Whether all of these are there. It takes no memory.
-    pub fn has_all(&self, others: &Libraries) -> bool
+    pub(crate) fn has_all(&self, others: &Libraries) -> bool
         ensures { result ≡ has_all self.now others.now }
     {
         for library in others.set.as_slice() {

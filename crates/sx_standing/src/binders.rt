@@ -142,7 +142,7 @@ impl<L: Ledger> Expansion<L> {
     }
 
     /// Binds identifiers in order.
-    pub fn bind_all(&mut self, context: &BinderContext, ids: &[Syn]) -> Result<Items<Label>, Stop>
+    fn bind_all(&mut self, context: &BinderContext, ids: &[Syn]) -> Result<Items<Label>, Stop>
         ensures { GivesAfter (λ ls. ls) result self.new (bind_all context.now.frame.now context.now.place.now context.now.level ids.now self.old) }
     {
         let mut labels = Items::new(self.alloc);

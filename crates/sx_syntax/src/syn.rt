@@ -343,7 +343,7 @@ impl Syn {
 
     /// The tree of a datum, without spans: its symbols are leaves with the marks and stamps of this
     /// leaf. It is `TooDeep` where it would pass a limit. What is no leaf gives no marks and no stamps.
-    pub fn datum_like(&self, alloc: Global, datum: &Datum) -> Result<Syn, BareStop>
+    fn datum_like(&self, alloc: Global, datum: &Datum) -> Result<Syn, BareStop>
         ensures { BareGives (λ t. t) result (within (datum_like self.now datum.now)) }
     {
         let sample = self.kept.sample(alloc)?;

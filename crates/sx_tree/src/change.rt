@@ -18,7 +18,7 @@ pub enum Change {
 }
 
 /// Another owner of the same frame, where there is one.
-pub fn share_frame(frame: &Option<FrameNo>) -> Result<Option<FrameNo>, Memory>
+fn share_frame(frame: &Option<FrameNo>) -> Result<Option<FrameNo>, Memory>
     ensures { IfOk result (λ f. f ≡ frame.now) }
 {
     match frame {

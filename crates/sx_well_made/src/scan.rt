@@ -36,7 +36,7 @@ fn add_each(all: &mut Items<Label>, labels: &[Label]) -> Result<(), Memory>
 
 /// Adds the labels of formals.
 #[tactic(auto, using(crate::proofs::Lists::joined))]
-pub fn add_formals(all: &mut Items<Label>, formals: &Formals) -> Result<(), Memory>
+pub(crate) fn add_formals(all: &mut Items<Label>, formals: &Formals) -> Result<(), Memory>
     ensures { OnOk result (all.new ≡ all.old ++ formals_labels formals.now) }
 {
     add_each(all, formals.required.as_slice())?;

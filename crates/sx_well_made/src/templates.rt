@@ -255,7 +255,7 @@ fn instance_suits(variables: &DepthSet, template: &Template) -> Result<bool, Mem
 
 /// Whether each template in core code suits the pattern variables round it. These are as before.
 #[cycle(templates)]
-pub fn templates_suit(variables: &mut DepthSet, core: &Core) -> Result<bool, Memory>
+pub(crate) fn templates_suit(variables: &mut DepthSet, core: &Core) -> Result<bool, Memory>
     ensures suit { IfOk result (λ b. b ≡ templates_suit variables.old core.now) }
     ensures kept { OnOk result (variables.new ≡ variables.old) }
 {

@@ -70,7 +70,7 @@ fn with<'a>(command: Command<'a>, arg: Arg<'a>) -> Result<Command<'a>, Memory>
 }
 
 /// The values that were found in the words.
-pub fn values_given<'a>(matches: &ArgMatches<'a>) -> Given<'a>
+pub(crate) fn values_given<'a>(matches: &ArgMatches<'a>) -> Given<'a>
     ensures { seen result ≡ given_of (rows_of (found_of matches.now)) }
 {
     Given {

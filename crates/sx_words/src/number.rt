@@ -7,7 +7,7 @@ ghost use Rattle.sx_words.specs.Number.{greatest, number_from, number_of};
 const GREATEST: u32 = 1_000;
 
 /// The number that decimal digits without a leading zero spell, where it is from 1 to the greatest.
-pub fn number_of(text: &str) -> Option<u32>
+pub(crate) fn number_of(text: &str) -> Option<u32>
     ensures { result ≡ number_of text.now }
 {
     match text.as_bytes() {

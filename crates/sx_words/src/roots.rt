@@ -11,7 +11,7 @@ use sx_base::symbol::Symbol;
 
 /// The directories that the word of `--root` joins by `:`, where it is one of one to sixteen, none of
 /// them empty.
-pub fn roots_of(alloc: Global, word: &str) -> Result<Option<Items<Symbol>>, Memory>
+pub(crate) fn roots_of(alloc: Global, word: &str) -> Result<Option<Items<Symbol>>, Memory>
     ensures { IfOk result (λ roots. roots ≡ roots_of word.now) }
 {
     let names = directories(alloc, word)?;
