@@ -111,7 +111,11 @@ impl Survey {
     }
 
     /// An identifier that is an expression.
-    pub(crate) fn identifier(&mut self, primitives: &Primitives, identifier: &Symbol) -> Result<(), Halt>
+    pub(crate) fn identifier(
+        &mut self,
+        primitives: &Primitives,
+        identifier: &Symbol,
+    ) -> Result<(), Halt>
         ensures { Takes result self.new (variable identifier.now self.old) }
     {
         if is_name(identifier.as_str()) {

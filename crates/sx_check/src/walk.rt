@@ -131,7 +131,11 @@ fn binding_names(survey: &mut Survey, datum: &Datum) -> Result<(), Halt>
 
 /// An expression.
 #[cycle(walk)]
-pub(crate) fn expression(survey: &mut Survey, primitives: &Primitives, datum: &Datum) -> Result<(), Halt>
+pub(crate) fn expression(
+    survey: &mut Survey,
+    primitives: &Primitives,
+    datum: &Datum,
+) -> Result<(), Halt>
     ensures { Takes result survey.new (expression datum.now survey.old) }
 {
     if let Some(symbol) = datum.as_symbol() {
@@ -345,7 +349,11 @@ fn line_list(survey: &mut Survey, primitives: &Primitives, items: &[Datum]) -> R
 }
 
 /// The form of a line.
-pub(crate) fn line_form(survey: &mut Survey, primitives: &Primitives, datum: &Datum) -> Result<(), Halt>
+pub(crate) fn line_form(
+    survey: &mut Survey,
+    primitives: &Primitives,
+    datum: &Datum,
+) -> Result<(), Halt>
     ensures { Takes result survey.new (line_form datum.now survey.old) }
 {
     match datum.as_list() {

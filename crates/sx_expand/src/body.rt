@@ -4,6 +4,7 @@ ghost use Rattle.std.specs.Prelude.{◌≡◌, IfOk, None, false, map};
 ghost use Rattle.sx_base.specs.Datum as datum;
 ghost use Rattle.sx_base.specs.declared.atom.Atom.TheVariants as atoms;
 ghost use Rattle.sx_base.specs.Act.{GivesAfter};
+ghost use Rattle.sx_core.specs.Core.{quoted};
 ghost use Rattle.sx_heads.specs.Items.{begun};
 ghost use Rattle.sx_tree.specs.Changes.{stamp};
 ghost use Rattle.sx_expand.specs.Expression.{inside};
@@ -51,18 +52,21 @@ fn falsehood() -> Datum
     }
 }
 
+fn boxed_falsehood(alloc: Global) -> Result<Box<Core>, Memory>
+    ensures { IfOk result (λ c. c.value ≡ quoted (datum.atom None (atoms.Bool false))) }
+{
+    let constant = Core {
+        node: CoreNode::Quote(falsehood()),
+    };
+    Ok(Box::new(alloc, constant)?)
+}
+
 /// The value of a variable that is defined without one: that of `(if #f #f)`.
 fn no_value(alloc: Global) -> Result<Core, Memory>
     ensures { IfOk result (λ c. c ≡ no_value) }
 {
-    let test = Core {
-        node: CoreNode::Quote(falsehood()),
-    };
-    let then = Core {
-        node: CoreNode::Quote(falsehood()),
-    };
-    let test = Box::new(alloc, test)?;
-    let then = Box::new(alloc, then)?;
+    let test = boxed_falsehood(alloc)?;
+    let then = boxed_falsehood(alloc)?;
     Ok(Core {
         node: CoreNode::If(test, then, None),
     })
@@ -178,7 +182,9 @@ fn item_at<M: Transformers, N: Ledger, L: Ledger>(
         return Err(state.fault_form(FaultKind::TooDeep, form, &at.body.place));
     }
     let settled = settle_item(state, at, taken, form, counts)?;
-    perform_item(state, at, taken, &settled, counts)
+    let done = perform_item(state, at, taken, &settled, counts);
+    drop(settled);
+    done
 }
 
 /// What is done with a form of a body that is no use. Where it stands is told by `settled`: the body of `at` is
@@ -369,7 +375,9 @@ fn body_in<M: Transformers, N: Ledger, L: Ledger>(
         means: at.means,
     };
     let taken = taken_of(state, &items, whole.forms, counts)?;
-    finish(state, whole.form, &taken, at, counts)
+    let core = finish(state, whole.form, &taken, at, counts);
+    drop(taken);
+    core
 }
 
 /// The first pass over the forms of a body, on which its frame is put.
@@ -384,6 +392,11 @@ fn taken_of<M: Transformers, N: Ledger, L: Ledger>(
 {
     let forms = stamp_all(state.alloc(), &at.body.frame, forms, counts.nodes)?;
     let mut taken = begun(state.alloc());
-    splice(state, at, &mut taken, forms.as_slice(), counts)?;
-    Ok(taken)
+    match splice(state, at, &mut taken, forms.as_slice(), counts) {
+        Ok(()) => Ok(taken),
+        Err(stop) => {
+            drop(taken);
+            Err(stop)
+        }
+    }
 }

@@ -11,12 +11,27 @@ use sx_base::name::{CodeNo, Label};
 use sx_base::span::Span;
 use sx_core::code::{Clause, Code, Core, CoreNode, Init, Lambda};
 
+/// The one case of a procedure.
+fn one_case(alloc: Global, case: Lambda) -> Result<Vec<Lambda>, Memory>
+    ensures { IfOk result (λ cs. cs.items ≡ case ∷ []) }
+{
+    match Vec::with_capacity(alloc, 1) {
+        Ok(mut cases) => {
+            cases.push(case)?;
+            Ok(cases)
+        }
+        Err(_) => {
+            drop(case);
+            Err(Memory)
+        }
+    }
+}
+
 /// A procedure of one case.
 pub(crate) fn procedure_of_case(alloc: Global, number: CodeNo, case: Lambda) -> Result<Core, Memory>
     ensures { IfOk result (λ c. c ≡ procedure number (cases (case ∷ [])) true) }
 {
-    let mut cases = Vec::with_capacity(alloc, 1)?;
-    cases.push(case)?;
+    let cases = one_case(alloc, case)?;
     let code = Rc::new(
         alloc,
         Code {
@@ -52,49 +67,37 @@ pub(crate) fn procedure_of_cases(
 }
 
 /// An application.
-pub(crate) fn call_of(alloc: Global, operator: Core, operands: Vec<Core>) -> Result<Core, Memory>
-    ensures { IfOk result (λ c. c ≡ call operator (cores operands.items)) }
+pub(crate) fn call_of(operator: Box<Core>, operands: Vec<Core>) -> Core
+    ensures { result ≡ call operator.value (cores operands.items) }
 {
-    let operator = Box::new(alloc, operator)?;
-    Ok(Core {
+    Core {
         node: CoreNode::App(operator, operands),
-    })
+    }
 }
 
 /// A form of `if` with no alternate.
-pub(crate) fn one_armed_of(alloc: Global, test: Core, consequent: Core) -> Result<Core, Memory>
-    ensures { IfOk result (λ c. c ≡ one_armed test consequent) }
+pub(crate) fn one_armed_of(test: Box<Core>, consequent: Box<Core>) -> Core
+    ensures { result ≡ one_armed test.value consequent.value }
 {
-    let test = Box::new(alloc, test)?;
-    let consequent = Box::new(alloc, consequent)?;
-    Ok(Core {
+    Core {
         node: CoreNode::If(test, consequent, None),
-    })
+    }
 }
 
 /// A form of `if` with an alternate.
-pub(crate) fn two_armed_of(
-    alloc: Global,
-    test: Core,
-    consequent: Core,
-    other: Core,
-) -> Result<Core, Memory>
-    ensures { IfOk result (λ c. c ≡ two_armed test consequent other) }
+pub(crate) fn two_armed_of(test: Box<Core>, consequent: Box<Core>, other: Box<Core>) -> Core
+    ensures { result ≡ two_armed test.value consequent.value other.value }
 {
-    let test = Box::new(alloc, test)?;
-    let consequent = Box::new(alloc, consequent)?;
-    let other = Box::new(alloc, other)?;
-    Ok(Core {
+    Core {
         node: CoreNode::If(test, consequent, Some(other)),
-    })
+    }
 }
 
 /// An assignment.
-pub(crate) fn assignment_of(alloc: Global, label: &Label, value: Core) -> Result<Core, Memory>
-    ensures { IfOk result (λ c. c ≡ assignment label.now value) }
+pub(crate) fn assignment_of(label: &Label, value: Box<Core>) -> Result<Core, Memory>
+    ensures { IfOk result (λ c. c ≡ assignment label.now value.value) }
 {
     let label = label.share()?;
-    let value = Box::new(alloc, value)?;
     Ok(Core {
         node: CoreNode::Set(label, value),
     })
@@ -117,15 +120,13 @@ pub(crate) fn letrec_of(
 
 /// A form of `syntax-case`.
 pub(crate) fn matching_of(
-    alloc: Global,
-    subject: Core,
+    subject: Box<Core>,
     list: Vec<Clause>,
     span: &Span,
 ) -> Result<Core, Memory>
-    ensures { IfOk result (λ c. c ≡ matching subject (clauses list.items) span.now) }
+    ensures { IfOk result (λ c. c ≡ matching subject.value (clauses list.items) span.now) }
 {
     let span = span.share()?;
-    let subject = Box::new(alloc, subject)?;
     Ok(Core {
         node: CoreNode::SyntaxCase(subject, list, span),
     })

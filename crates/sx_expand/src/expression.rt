@@ -44,8 +44,8 @@ struct IfForm<'a> {
 /// The test and the consequent of an `if`, expanded.
 #[derive(Drop)]
 struct OneArmed {
-    test: Core,
-    consequent: Core,
+    test: Box<Core>,
+    consequent: Box<Core>,
 }
 
 /// A form that makes a procedure, and the parts of one of its cases.
@@ -136,6 +136,20 @@ pub fn expression<M: Transformers, N: Ledger, L: Ledger>(
     form_at(state, form, &inner, counts)
 }
 
+/// An expression, in a box. Code that waits for other code lies in one: it is dropped by one call.
+#[cycle(form)]
+pub(crate) fn boxed<M: Transformers, N: Ledger, L: Ledger>(
+    state: &mut Expansion<L>,
+    form: &Syn,
+    at: &FormAt<M>,
+    counts: &mut Counts<N, L>,
+) -> Result<Box<Core>, Stop>
+    ensures { GivesAfter (λ c. c.value) result state.new ((inside (M.records at.now.means.now) at.now.room).form at.now.place.now at.now.level at.now.depth form.now state.old) }
+{
+    let core = expression(state, form, at, counts)?;
+    Ok(Box::new(state.alloc(), core)?)
+}
+
 /// An expression that a frame is put on.
 #[cycle(form)]
 pub(crate) fn expression_in<M: Transformers, N: Ledger, L: Ledger>(
@@ -187,7 +201,11 @@ fn perform<M: Transformers, N: Ledger, L: Ledger>(
 {
     match plan {
         Plan::Done(core) => Ok(core),
-        plan => perform_plan(state, form, &plan, at, counts),
+        plan => {
+            let core = perform_plan(state, form, &plan, at, counts);
+            drop(plan);
+            core
+        }
     }
 }
 
@@ -284,9 +302,9 @@ fn application<M: Transformers, N: Ledger, L: Ledger>(
 ) -> Result<Core, Stop>
     ensures { GivesAfter (λ c. c) result state.new (application (inside (M.records at.now.means.now) at.now.room) at.now.place.now at.now.level at.now.depth operator.now operands.now state.old) }
 {
-    let operator = expression(state, operator, at, counts)?;
+    let operator = boxed(state, operator, at, counts)?;
     let operands = in_order(state, operands, at, counts)?;
-    Ok(call_of(state.alloc(), operator, operands)?)
+    Ok(call_of(operator, operands))
 }
 
 #[cycle(form)]
@@ -299,8 +317,8 @@ fn conditional<M: Transformers, N: Ledger, L: Ledger>(
 ) -> Result<Core, Stop>
     ensures { GivesAfter (λ c. c) result state.new (conditional (inside (M.records at.now.means.now) at.now.room) at.now.place.now at.now.level at.now.depth parts.now.test.now parts.now.consequent.now parts.now.alternate.now state.old) }
 {
-    let test = expression(state, parts.test, at, counts)?;
-    let consequent = expression(state, parts.consequent, at, counts)?;
+    let test = boxed(state, parts.test, at, counts)?;
+    let consequent = boxed(state, parts.consequent, at, counts)?;
     let tested = OneArmed { test, consequent };
     alternate(state, tested, parts.alternate, at, counts)
 }
@@ -313,14 +331,14 @@ fn alternate<M: Transformers, N: Ledger, L: Ledger>(
     at: &FormAt<M>,
     counts: &mut Counts<N, L>,
 ) -> Result<Core, Stop>
-    ensures { GivesAfter (λ c. c) result state.new (alternate (inside (M.records at.now.means.now) at.now.room) at.now.place.now at.now.level at.now.depth tested.test tested.consequent other.now state.old) }
+    ensures { GivesAfter (λ c. c) result state.new (alternate (inside (M.records at.now.means.now) at.now.room) at.now.place.now at.now.level at.now.depth tested.test.value tested.consequent.value other.now state.old) }
 {
     let OneArmed { test, consequent } = tested;
     match other {
-        None => Ok(one_armed_of(state.alloc(), test, consequent)?),
+        None => Ok(one_armed_of(test, consequent)),
         Some(other) => {
-            let other = expression(state, other, at, counts)?;
-            Ok(two_armed_of(state.alloc(), test, consequent, other)?)
+            let other = boxed(state, other, at, counts)?;
+            Ok(two_armed_of(test, consequent, other))
         }
     }
 }
@@ -336,8 +354,8 @@ fn set<M: Transformers, N: Ledger, L: Ledger>(
 ) -> Result<Core, Stop>
     ensures { GivesAfter (λ c. c) result state.new (set (inside (M.records at.now.means.now) at.now.room) at.now.place.now at.now.level at.now.depth label.now value.now state.old) }
 {
-    let value = expression(state, value, at, counts)?;
-    Ok(assignment_of(state.alloc(), label, value)?)
+    let value = boxed(state, value, at, counts)?;
+    Ok(assignment_of(label, value)?)
 }
 
 #[cycle(form)]

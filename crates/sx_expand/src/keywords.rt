@@ -62,9 +62,16 @@ fn expression_apart<M: Transformers, N: Ledger, L: Ledger>(
     ensures { GivesAfter (λ c. c) result state.new (apart ((inside (M.records at.now.means.now) at.now.room).form at.now.place.now at.now.level at.now.depth form.now) state.old) }
 {
     let scope = state.take_scope();
-    let core = expression(state, form, at, counts)?;
-    state.restore_scope(scope);
-    Ok(core)
+    match expression(state, form, at, counts) {
+        Ok(core) => {
+            state.restore_scope(scope);
+            Ok(core)
+        }
+        Err(stop) => {
+            drop(scope);
+            Err(stop)
+        }
+    }
 }
 
 /// Expands the expression of a keyword, one level up and with nothing in scope, and evaluates it.

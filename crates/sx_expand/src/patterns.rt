@@ -7,7 +7,7 @@ ghost use Rattle.sx_expand.specs.Expression.{inside, fender, clause_in, pattern_
 
 use crate::at::FormAt;
 use crate::cores::matching_of;
-use crate::expression::{expression, expression_in};
+use crate::expression::{boxed, expression_in};
 use crate::transformers::Transformers;
 use std::sync::ledger::Ledger;
 use sx_base::fault::Stop;
@@ -39,6 +39,13 @@ pub(crate) struct SyntaxCaseForm<'a> {
 struct FramedCase<'a> {
     frame: &'a FrameNo,
     case: &'a PatternCase,
+}
+
+/// The fender of a clause where there is one, and its output.
+#[derive(Drop)]
+struct ClauseCode {
+    fender: Option<Core>,
+    output: Core,
 }
 
 #[cycle(form)]
@@ -100,9 +107,16 @@ fn clause_in<M: Transformers, N: Ledger, L: Ledger>(
         place: at.place,
         level: at.level,
     };
-    state.bind_pattern(&binders, variables.as_slice())?;
-    drop(variables);
-    clause_of(state, framed, pattern, at, counts)
+    match state.bind_pattern(&binders, variables.as_slice()) {
+        Ok(()) => {
+            drop(variables);
+            clause_of(state, framed, pattern, at, counts)
+        }
+        Err(stop) => {
+            drop(pattern);
+            Err(stop)
+        }
+    }
 }
 
 /// A clause whose pattern is compiled, and its variables bound.
@@ -116,13 +130,37 @@ fn clause_of<M: Transformers, N: Ledger, L: Ledger>(
 ) -> Result<Clause, Stop>
     ensures { GivesAfter (λ c. c) result state.new (after (fender (inside (M.records at.now.means.now) at.now.room) at.now.place.now at.now.level at.now.depth framed.now.frame.now framed.now.case.now.fender state.old) (λ f s. after ((inside (M.records at.now.means.now) at.now.room).form at.now.place.now at.now.level at.now.depth (stamp framed.now.frame.now framed.now.case.now.output) s) (λ o. give (record { pattern = pattern; fender = f; output = o })))) }
 {
+    match clause_code(state, framed, at, counts) {
+        Ok(ClauseCode { fender, output }) => Ok(Clause {
+            pattern,
+            fender,
+            output,
+        }),
+        Err(stop) => {
+            drop(pattern);
+            Err(stop)
+        }
+    }
+}
+
+/// The fender and the output of a clause.
+#[cycle(form)]
+fn clause_code<M: Transformers, N: Ledger, L: Ledger>(
+    state: &mut Expansion<L>,
+    framed: &FramedCase,
+    at: &FormAt<M>,
+    counts: &mut Counts<N, L>,
+) -> Result<ClauseCode, Stop>
+    ensures { GivesAfter (λ c. c) result state.new (after (fender (inside (M.records at.now.means.now) at.now.room) at.now.place.now at.now.level at.now.depth framed.now.frame.now framed.now.case.now.fender state.old) (λ f s. after ((inside (M.records at.now.means.now) at.now.room).form at.now.place.now at.now.level at.now.depth (stamp framed.now.frame.now framed.now.case.now.output) s) (λ o. give (record { fender = f; output = o })))) }
+{
     let fender = fender(state, framed.frame, &framed.case.fender, at, counts)?;
-    let output = expression_in(state, framed.frame, &framed.case.output, at, counts)?;
-    Ok(Clause {
-        pattern,
-        fender,
-        output,
-    })
+    match expression_in(state, framed.frame, &framed.case.output, at, counts) {
+        Ok(output) => Ok(ClauseCode { fender, output }),
+        Err(stop) => {
+            drop(fender);
+            Err(stop)
+        }
+    }
 }
 
 #[cycle(form)]
@@ -154,8 +192,8 @@ pub(crate) fn syntax_case<M: Transformers, N: Ledger, L: Ledger>(
 ) -> Result<Core, Stop>
     ensures { GivesAfter (λ c. c) result state.new (syntax_case (inside (M.records at.now.means.now) at.now.room) at.now.place.now at.now.level at.now.depth parts.now.subject.now parts.now.literals.now parts.now.cases.now parts.now.span.now state.old) }
 {
-    let subject = expression(state, parts.subject, at, counts)?;
+    let subject = boxed(state, parts.subject, at, counts)?;
     state.check_literals(parts.literals, at.place)?;
     let clauses = all_clauses(state, parts.literals, parts.cases, at, counts)?;
-    Ok(matching_of(state.alloc(), subject, clauses, parts.span)?)
+    Ok(matching_of(subject, clauses, parts.span)?)
 }

@@ -4,7 +4,7 @@ ghost use Rattle.std.specs.Prelude.{◌≡◌};
 ghost use Rattle.sx_base.specs.Act.{GivesAfter};
 ghost use Rattle.sx_quasi_code.specs.Form.{parts_of};
 ghost use Rattle.sx_expand.specs.Expression.{inside};
-ghost use Rattle.sx_expand.specs.Quasi.{parts_in_order, quasi_form};
+ghost use Rattle.sx_expand.specs.Quasi.{parts_in_order, quasi_made, quasi_form};
 
 use crate::at::FormAt;
 use crate::expression::expression;
@@ -67,6 +67,26 @@ fn cores_of<M: Transformers, N: Ledger, L: Ledger>(
     parts_in_order(state, parts.as_slice(), at, counts)
 }
 
+/// The parts of a template that comes to this, in order, and the code of them all.
+#[cycle(form)]
+fn quasi_made<M: Transformers, N: Ledger, L: Ledger>(
+    state: &mut Expansion<L>,
+    form: &Syn,
+    quasi: &QuasiForm,
+    at: &FormAt<M>,
+    counts: &mut Counts<N, L>,
+) -> Result<Core, Stop>
+    ensures { GivesAfter (λ c. c) result state.new (quasi_made (inside (M.records at.now.means.now) at.now.room) at.now.place.now at.now.level at.now.depth form.now quasi.now state.old) }
+{
+    let cores = cores_of(state, form, quasi, at, counts)?;
+    let context = FormContext {
+        form,
+        place: at.place,
+        level: at.level,
+    };
+    code_of(state, &context, quasi, cores, counts.nodes)
+}
+
 /// What the template comes to, its parts in order, and the code of them all.
 #[cycle(form)]
 #[tactic(auto, unfolding(crate::specs::Quasi::quasi_form))]
@@ -78,13 +98,8 @@ pub(crate) fn quasi_form<M: Transformers, N: Ledger, L: Ledger>(
 ) -> Result<Core, Stop>
     ensures { GivesAfter (λ c. c) result state.new (quasi_form (inside (M.records at.now.means.now) at.now.room) at.now.place.now at.now.level at.now.depth parts.now.form.now parts.now.which parts.now.template.now state.old) }
 {
-    let form = parts.form;
-    let quasi = form_of(state, form, parts.which, parts.template, at.place)?;
-    let cores = cores_of(state, form, &quasi, at, counts)?;
-    let context = FormContext {
-        form,
-        place: at.place,
-        level: at.level,
-    };
-    code_of(state, &context, &quasi, cores, counts.nodes)
+    let quasi = form_of(state, parts.form, parts.which, parts.template, at.place)?;
+    let core = quasi_made(state, parts.form, &quasi, at, counts);
+    drop(quasi);
+    core
 }

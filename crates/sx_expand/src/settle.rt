@@ -179,8 +179,13 @@ fn settled_form<L: Ledger>(
 ) -> Result<Settled, Stop>
     ensures { GivesAfter (λ d. d) result state.new (Ok (record { place = place; form = form; plan = plan }, linked form plan state.old)) }
 {
-    link(state, &form, &plan)?;
-    Ok(Settled { place, form, plan })
+    match link(state, &form, &plan) {
+        Ok(()) => Ok(Settled { place, form, plan }),
+        Err(memory) => {
+            drop(plan);
+            Err(Stop::from(memory))
+        }
+    }
 }
 
 /// What is to be done with the form that comes of the uses of keywords that a form begins with. What comes of

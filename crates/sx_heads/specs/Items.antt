@@ -54,6 +54,10 @@ kept_head s id = record { symbol = symbol_of id; leaf = id; label = stands s.fra
 unfoldable pub keep : Taken → Tree → Does Taken
 keep done id s = Ok (record done { kept = with_head done.kept (kept_head s id) }, s)
 
+-- what a kept identifier stands for
+unfoldable pub kept_standing : Taken → Tree → Does (Taken × Standing)
+kept_standing done id s = after (keep done id s) (λ kept s'. Ok ((kept, standing_of s' id), s'))
+
 abbrev pub same_standing : Option Label → Option Label → Bool
 same_standing None None = true
 same_standing None (Some m) = false

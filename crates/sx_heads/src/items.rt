@@ -4,7 +4,8 @@ ghost use Rattle.std.specs.Prelude.{◌≡◌, IfOk};
 ghost use Rattle.sx_base.specs.Act.{GivesAfter, give};
 ghost use Rattle.sx_shapes.specs.Forms.{shape};
 ghost use Rattle.sx_heads.specs.Kept.{heads_of};
-ghost use Rattle.sx_heads.specs.Items.{wait, keep, leaf_item, leaf_by, in_time, keyword_in_time, define, define_keyword, with_waiting, define_item, set_item, target_item, alone, item_plan, list_item, headed_item, core_item, begin_item, keywords_item, is_mixed, is_top, is_changed, any_changed, same_standing, is_keyword_label};
+ghost use Rattle.sx_standing.specs.Standing.{standing_by};
+ghost use Rattle.sx_heads.specs.Items.{wait, kept_standing, leaf_item, leaf_by, in_time, keyword_in_time, define, define_keyword, with_waiting, define_item, set_item, target_item, alone, item_plan, list_item, headed_item, core_item, begin_item, keywords_item, is_mixed, is_top, is_changed, any_changed, same_standing, is_keyword_label};
 
 use crate::item::Item;
 use crate::kept::KeptHeads;
@@ -147,19 +148,31 @@ pub fn wait<L: Ledger>(
     Ok(())
 }
 
-#[tactic(auto, unfolding(crate::specs::Items::keep))]
-fn keep<L: Ledger>(state: &mut Expansion<L>, taken: &mut Taken, id: &Syn) -> Result<(), Stop>
-    ensures { GivesAfter (λ _. taken.new) result state.new (keep taken.old id.now state.old) }
+/// What an identifier stands for whose label this is.
+fn standing_by<L: Ledger>(state: &Expansion<L>, label: &Option<Label>) -> Result<Standing, Memory>
+    ensures { IfOk result (λ x. x ≡ standing_by state.now label.now) }
+{
+    match label {
+        None => Ok(Standing::Nothing),
+        Some(label) => state.label_standing(label),
+    }
+}
+
+/// Keeps an identifier, and gives what it stands for: its label is looked for once.
+#[tactic(auto, unfolding(crate::specs::Items::kept_standing, crate::specs::Items::keep, sx_standing::specs::Standing::standing_of))]
+fn keep<L: Ledger>(state: &mut Expansion<L>, taken: &mut Taken, id: &Syn) -> Result<Standing, Stop>
+    ensures { GivesAfter (λ x. (taken.new, x)) result state.new (kept_standing taken.old id.now state.old) }
 {
     let symbol = symbol_in(state.alloc(), id)?;
     let leaf = id.share()?;
     let label = state.stands(id)?;
+    let standing = standing_by(state, &label)?;
     taken.kept.add(KeptHead {
         symbol,
         leaf,
         label,
     })?;
-    Ok(())
+    Ok(standing)
 }
 
 /// The definition of a variable must not change what a head before it stands for, if that was a keyword.
@@ -323,6 +336,7 @@ fn target_item<L: Ledger>(
     }
 }
 
+#[tactic(auto, unfolding(crate::specs::Items::kept_standing, crate::specs::Items::keep))]
 fn set_item<L: Ledger>(
     state: &mut Expansion<L>,
     context: &ItemContext,
@@ -333,8 +347,7 @@ fn set_item<L: Ledger>(
 {
     match shape(state.alloc(), context.form, which, &context.at.place) {
         Ok(Shape::Set(id, _)) => {
-            keep(state, taken, &id)?;
-            let standing = state.standing(&id)?;
+            let standing = keep(state, taken, &id)?;
             target_item(state, context, taken, &standing)
         }
         Ok(_) => alone(state, context, taken),
@@ -424,7 +437,7 @@ fn headed_item<L: Ledger>(
     }
 }
 
-#[tactic(auto, unfolding(crate::specs::Items::list_item))]
+#[tactic(auto, unfolding(crate::specs::Items::list_item, crate::specs::Items::kept_standing, crate::specs::Items::keep))]
 fn list_item<L: Ledger>(
     state: &mut Expansion<L>,
     context: &ItemContext,
@@ -436,8 +449,7 @@ fn list_item<L: Ledger>(
     if !is_id(state.alloc(), head)? {
         return alone(state, context, taken);
     }
-    keep(state, taken, head)?;
-    let standing = state.standing(head)?;
+    let standing = keep(state, taken, head)?;
     headed_item(state, context, taken, &standing)
 }
 
@@ -459,7 +471,7 @@ fn leaf_by<L: Ledger>(
     }
 }
 
-#[tactic(auto, unfolding(crate::specs::Items::leaf_item))]
+#[tactic(auto, unfolding(crate::specs::Items::leaf_item, crate::specs::Items::kept_standing, crate::specs::Items::keep))]
 fn leaf_item<L: Ledger>(
     state: &mut Expansion<L>,
     context: &ItemContext,
@@ -467,8 +479,7 @@ fn leaf_item<L: Ledger>(
 ) -> Result<Item, Stop>
     ensures { GivesAfter (λ i. (taken.new, i)) result state.new (leaf_item context.now.at.now context.now.depth taken.old context.now.form.now state.old) }
 {
-    keep(state, taken, context.form)?;
-    let standing = state.standing(context.form)?;
+    let standing = keep(state, taken, context.form)?;
     leaf_by(state, context, taken, &standing)
 }
 

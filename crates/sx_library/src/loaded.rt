@@ -12,6 +12,7 @@ ghost use Rattle.sx_library.specs.Loaded.{expand_found, expand_next, all_records
 use crate::library::{Unexpanded, body_of, expand_body};
 use crate::records::{Needed, Records};
 use std::alloc::Global;
+use std::mem::forget;
 use std::sync::ledger::Ledger;
 use sx_base::fault::{Fault, Stop};
 use sx_base::items::Items;
@@ -216,7 +217,11 @@ pub fn program_text<N: Ledger, L: Ledger>(
     let records = all_records(alloc, implementation, libraries, tally)?;
     let program = record_of_program(alloc, implementation, &records, found, tally)?;
     let records = records.into_records();
-    planned_text(alloc, &records, &program)
+    let text = planned_text(alloc, &records, &program);
+    // A run ends with its text. To free the records, node after node, would take some hundredths of it.
+    forget(records);
+    forget(program);
+    text
 }
 
 /// The first fault where loading stopped: that of a library before, or this one.
