@@ -1,9 +1,10 @@
 -- The record of an entry that fits.
-use Rattle.std.specs.Prelude.{ℕ, Bool, ◌&&◌, List, Option, Some, None, if◌then◌else◌}
+use Rattle.std.specs.Prelude.{ℕ, Bool, ◌&&◌, List, Option, Some, None, drop, if◌then◌else◌}
 use Rattle.std.specs.Cmp.Lexicographic.{pointwise}
 use Rattle.sx_bytes.specs.Codec.{◌>>=◌, text, listed}
 use Rattle.sx_cache.specs.Entry.{source, decode}
 use Rattle.sx_cache.specs.Fits.{same_text, are_at, fits}
+use Rattle.sx_cache.specs.Seal.{is_sealed}
 use Rattle.sx_cache.specs.declared.entry.Entry.{Entry}
 use Rattle.sx_core.specs.declared.record.LibRecord.{LibRecord}
 use Rattle.sx_load.specs.declared.found.Source.{Source}
@@ -16,6 +17,10 @@ stored_in roots sources chosen (Some e) = if fits e roots sources chosen then So
 -- the record of the entry that all of the bytes spell, where it is of these roots and sources
 abbrev pub fitting_record : List (List ℕ) → List Source → List ℕ → List ℕ → Option LibRecord
 fitting_record roots sources chosen bytes = stored_in roots sources chosen (decode bytes)
+
+-- that of the entry that bytes are, sealed
+abbrev pub sealed_record : List (List ℕ) → List Source → List ℕ → List ℕ → Option LibRecord
+sealed_record roots sources chosen bytes = if is_sealed bytes then fitting_record roots sources chosen (drop 40 bytes) else None
 
 abbrev pub source_of : List ℕ → Option (List ℕ) → Source
 source_of path held = record { path = path; held = held }

@@ -7,9 +7,10 @@ ghost use Rattle.sx_bytes.specs.Codec as spec;
 ghost use Rattle.sx_bytes.specs.Codec.{listed, some_get};
 ghost use Rattle.sx_cache.specs.Entry as spell;
 ghost use Rattle.sx_cache.specs.Fits.{are_at, is_source, same_held, same_source, same_text};
-ghost use Rattle.sx_cache.specs.Fitting.{behind, fitting_record, front, source_of};
+ghost use Rattle.sx_cache.specs.Fitting.{behind, front, sealed_record, source_of};
 
 use crate::entry::held_in;
+use crate::seal::{behind_seal, is_sealed};
 use std::alloc::Global;
 use sx_base::items::Items;
 use sx_base::memory::Memory;
@@ -164,19 +165,25 @@ fn behind_front<'a>(
     behind_sources(rest, sources, chosen)
 }
 
-/// The record of the entry that all of the bytes spell, where its roots and its sources are these: the sources at
-/// these places, in their order. Each byte of the sources is compared once, and none is copied.
-pub fn fitting_record(
+/// The record of the entry that the bytes are, sealed, where its roots and its sources are these: the sources at these
+/// places, in their order. Each byte of the sources is compared once, and none is copied. The seal is looked at last, so
+/// that an entry of other sources costs no digest.
+pub fn sealed_record(
     alloc: Global,
     bytes: &[u8],
     roots: &[Symbol],
     sources: &[Source],
     chosen: &[usize],
 ) -> Result<Option<LibRecord>, Memory>
-    ensures { IfOk result (λ o. o ≡ fitting_record roots.now sources.now chosen.now bytes.now) }
+    ensures { IfOk result (λ o. o ≡ sealed_record roots.now sources.now chosen.now bytes.now) }
 {
-    match behind_front(bytes, roots, sources, chosen) {
-        Some(rest) => decode(alloc, rest),
-        None => Ok(None),
+    let body = behind_seal(bytes);
+    let Some(rest) = behind_front(body, roots, sources, chosen) else {
+        return Ok(None);
+    };
+    if is_sealed(bytes) {
+        decode(alloc, rest)
+    } else {
+        Ok(None)
     }
 }

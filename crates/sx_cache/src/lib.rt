@@ -9,8 +9,8 @@
 //! so that bytes that were cut off or changed aren't taken for an entry.
 //!
 //! The promise: `encode_entry` and `decode_entry` are exactly the grammar of entries, both ways; `unseal` gives a body
-//! exactly where the bytes are that body sealed; `fits` is equality of roots and sources. `fitting_record` is the record
-//! of an entry that fits, or nothing, and makes no value of the entry's sources. Digests are SHA-256.
+//! exactly where the bytes are that body sealed; `fits` is equality of roots and sources. `sealed_record` is the record
+//! of a sealed entry that fits, or nothing, and makes no value of the entry's sources. Digests are SHA-256.
 #![tactic(auto)]
 
 pub mod entry;

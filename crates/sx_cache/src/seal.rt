@@ -1,8 +1,8 @@
 //! Sealed bodies.
 
-ghost use Rattle.std.specs.Prelude.{◌≡◌, List, ℕ, IfOk, IfSome, option_map, Some};
+ghost use Rattle.std.specs.Prelude.{◌≡◌, List, ℕ, IfOk, IfSome, drop, option_map, Some};
 ghost use Rattle.sha2.specs.Sha256.{sha256};
-ghost use Rattle.sx_cache.specs.Seal.{sealed};
+ghost use Rattle.sx_cache.specs.Seal.{is_sealed, sealed};
 
 use sha2::{Digest, Sha256};
 use std::alloc::Global;
@@ -43,4 +43,25 @@ pub fn unseal(bytes: &[u8]) -> Option<&[u8]>
         return None;
     }
     Some(body)
+}
+
+/// The bytes behind where a header and a digest stand, which aren't looked at.
+pub(crate) fn behind_seal(bytes: &[u8]) -> &[u8]
+    ensures { result.now ≡ drop 40 bytes.now }
+{
+    if bytes.len() < 40 {
+        return &[];
+    }
+    let (_, body) = bytes.split_at(40);
+    body
+}
+
+/// Whether the bytes are a sealed body. It takes no memory.
+pub(crate) fn is_sealed(bytes: &[u8]) -> bool
+    ensures { result ≡ is_sealed bytes.now }
+{
+    let Some(_body) = unseal(bytes) else {
+        return false;
+    };
+    true
 }

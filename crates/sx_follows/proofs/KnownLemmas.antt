@@ -17,6 +17,12 @@ or_nothing : (b : Bool) → (b || false) ≡ b
 or_nothing true = refl
 or_nothing false = refl
 
+or_turn : (a b : Bool) → (a || b) ≡ (b || a)
+or_turn true true = refl
+or_turn true false = refl
+or_turn false true = refl
+or_turn false false = refl
+
 or_assoc : (a b c : Bool) → ((a || b) || c) ≡ (a || (b || c))
 or_assoc true b c = refl
 or_assoc false b c = refl
@@ -55,7 +61,8 @@ module _ (l : Label) where
 
 pub known_is : (r : LibRecord) (earlier : List LibRecord) (l : Label) → known_by (with_indices [] r.bindings) (flat_map bound_labels earlier) l ≡ is_known r earlier l
 known_is r earlier l =
-    ap (λ c. c || is_given l) (ap (λ c. c || among same_label (flat_map bound_labels earlier) l) (some_all l r.bindings []) ∙ sym (among_joined (bound_labels r) (flat_map bound_labels earlier) l))
+    or_turn (is_given l) (is_some (lookup (same_label l) (with_indices [] r.bindings)) || among same_label (flat_map bound_labels earlier) l)
+    ∙ ap (λ c. c || is_given l) (ap (λ c. c || among same_label (flat_map bound_labels earlier) l) (some_all l r.bindings []) ∙ sym (among_joined (bound_labels r) (flat_map bound_labels earlier) l))
 
 pub each_known : (own : List (Label × Option ℕ)) (r : LibRecord) (earlier : List LibRecord) → own ≡ with_indices [] r.bindings → (ls : List Label)
     → each (known_by own (flat_map bound_labels earlier)) ls ≡ each (is_known r earlier) ls

@@ -1,3 +1,4 @@
 pub mod Earlier
+pub mod Keys
 pub mod Scope
 pub mod Pieces

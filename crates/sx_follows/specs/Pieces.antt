@@ -116,7 +116,7 @@ behind_all ns rest = option_map (λ ms. ns ++ ms) rest
 -- ---- the labels that it knows
 
 abbrev pub known_by : List (Label × Option ℕ) → List Label → Label → Bool
-known_by own earlier l = (is_some (lookup (same_label l) own) || among same_label earlier l) || is_given l
+known_by own earlier l = is_given l || (is_some (lookup (same_label l) own) || among same_label earlier l)
 
 -- ---- the libraries that its lines mention
 

@@ -94,10 +94,11 @@ fn put_index(
     Ok(())
 }
 
+// What the implementation gives is asked first, since most rows are of it, and it takes no table.
 fn is_known(own: &IndexMap<Label, Option<u64>>, earlier: &Earlier, label: &Label) -> bool
     ensures { result ≡ known_by own.now.entries (flat_map bound_labels earlier.now) label.now }
 {
-    own.get(label).is_some() || earlier.has_bound(label) || is_given(label)
+    is_given(label) || (own.get(label).is_some() || earlier.has_bound(label))
 }
 
 fn exports_are_known(

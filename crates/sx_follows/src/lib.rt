@@ -23,6 +23,7 @@ pub mod code;
 pub mod defines;
 pub mod earlier;
 pub mod follows;
+pub mod keys;
 pub mod known;
 pub mod names;
 pub mod references;

@@ -6,7 +6,7 @@ ghost use Rattle.std.specs.Prelude.{◌≡◌, ◌++◌, ◌∷◌, [], ◌&&◌
 ghost use Rattle.sx_core.specs.References.{binders, mentions};
 ghost use Rattle.sx_base.specs.Same.{same_library};
 ghost use Rattle.sx_core.specs.Labels.{same_label};
-ghost use Rattle.sx_core_laws.specs.Follows.{all_binders, all_numbers, bound_labels, export_names, has_new_name, key_of, keyword_of, names_its_own, same_key};
+ghost use Rattle.sx_core_laws.specs.Follows.{all_binders, all_numbers, bound_labels, export_names, has_new_name, keyword_of, names_its_own};
 ghost use Rattle.sx_core_laws.specs.Parts.{parts};
 ghost use Rattle.sx_core_laws.specs.Records.{line_binders, line_core, same_text};
 ghost use Rattle.sx_core_laws.specs.Words.{each, once};
@@ -14,17 +14,17 @@ ghost use Rattle.sx_well_made.specs.Parts.{noted_all};
 ghost use Rattle.sx_follows.specs.Pieces.{all_once, all_own, binders_in, keyword_in, mentions_in, parts_in};
 
 use crate::earlier::Earlier;
+use crate::keys::rows_once;
 use std::alloc::Global;
 use sx_base::items::Items;
 use sx_base::library::LibName;
 use sx_base::memory::Memory;
-use sx_base::name::{CodeNo, FrameNo, Label};
+use sx_base::name::{CodeNo, Label};
 use sx_base::symbol::Symbol;
 use sx_core::binding::Binding;
 use sx_core::code::Core;
 use sx_core::record::{LibRecord, Line};
 use sx_tree::frame_row::FrameRow;
-use sx_tree::marks::Marks;
 use sx_well_made::once::once;
 use sx_well_made::parts::{Parts, gather};
 use sx_well_made::scan::{add, scan};
@@ -249,29 +249,6 @@ fn labels_of_bindings(alloc: Global, bindings: &[(Label, Binding)]) -> Result<It
     Ok(labels)
 }
 
-fn key_of(alloc: Global, row: &FrameRow) -> Result<(FrameNo, (Symbol, Marks)), Memory>
-    ensures { IfOk result (λ k. k ≡ key_of row.now) }
-{
-    let frame = row.frame.share()?;
-    let symbol = row.symbol.share()?;
-    let marks = row.marks.share(alloc)?;
-    Ok((frame, (symbol, marks)))
-}
-
-fn keys_of_rows(
-    alloc: Global,
-    rows: &[FrameRow],
-) -> Result<Items<(FrameNo, (Symbol, Marks))>, Memory>
-    ensures { IfOk result (λ ks. ks ≡ map key_of rows.now) }
-{
-    let mut keys = Items::new(alloc);
-    for row in rows {
-        let key = key_of(alloc, row)?;
-        keys.push(key)?;
-    }
-    Ok(keys)
-}
-
 fn exports_once(alloc: Global, one: &LibRecord) -> Result<bool, Memory>
     ensures { IfOk result (λ b. b ≡ once same_text (export_names one.now)) }
 {
@@ -284,13 +261,6 @@ fn bindings_once(alloc: Global, one: &LibRecord) -> Result<bool, Memory>
 {
     let labels = labels_of_bindings(alloc, one.bindings.as_slice())?;
     once(alloc, labels.into_vec())
-}
-
-fn rows_once(alloc: Global, one: &LibRecord) -> Result<bool, Memory>
-    ensures { IfOk result (λ b. b ≡ once same_key (map key_of one.now.frames)) }
-{
-    let keys = keys_of_rows(alloc, one.frames.as_slice())?;
-    once(alloc, keys.into_vec())
 }
 
 /// Whether the name of a record is new: no earlier record has it, and it is neither that of the core forms nor that of the
@@ -343,7 +313,7 @@ fn stand_once(
     if !once(alloc, numbers.into_vec())? {
         return Ok(false);
     }
-    rows_once(alloc, one)
+    rows_once(alloc, one.frames.as_slice())
 }
 
 /// Whether a record names its own: all that it binds, its codes, and the frames of its rows are named by its library, and

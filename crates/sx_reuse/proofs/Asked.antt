@@ -1,13 +1,13 @@
 -- What a store answers, and what that is for a library.
-use Rattle.std.proofs.Common.{◌≡◌, ℕ, Bool, true, false, true≢false, List, length, Option, Some, None, Result, Ok, Err, refl, sym, ap, ◌∙◌}
+use Rattle.std.proofs.Common.{◌≡◌, ℕ, Bool, true, false, List, length, Option, Some, None, Result, Ok, Err, refl, sym, ap, ◌∙◌}
 use Rattle.std.specs.Prelude.{nat_lt, if◌then◌else◌, IfSome, IfOk}
 use Rattle.sx_base.specs.declared.memory.Memory.{Memory}
 use Rattle.sx_core.specs.declared.record.LibRecord.{LibRecord}
 use Rattle.sx_load.specs.declared.found.Found.{Found}
 use Rattle.sx_outside.specs.Causes.{Rose}
-use Rattle.sx_outside.specs.Contents.{Paths, at_path, Reading, bytes, longer, absent, read_of}
+use Rattle.sx_outside.specs.Contents.{Paths, at_path, bytes, longer, absent, read_of}
 use Rattle.sx_reuse.specs.Entries.{Kept, entry_limit, entry_in, if_fits, if_short, if_suits}
-use Rattle.sx_reuse.specs.Turns.{Asked, Quiet}
+use Rattle.sx_reuse.specs.Turns.{Asked}
 use Rattle.sx_reuse.proofs.Told.{if_told, if_any}
 
 record WasFound (r : Option (List ℕ)) (max : ℕ) (held : List ℕ) : Type 0 where

@@ -1,5 +1,5 @@
 -- The turns of libraries, one after another.
-use Rattle.std.proofs.Common.{◌≡◌, ℕ, ◌≤◌, Option, List, [], ◌∷◌, Result, Ok, Err, refl, sym, ap, subst, ◌∙◌}
+use Rattle.std.proofs.Common.{◌≡◌, ℕ, Option, List, [], ◌∷◌, Result, Ok, Err, sym, subst}
 use Rattle.sx_base.specs.declared.fault.Fault.{Fault}
 use Rattle.sx_base.specs.declared.fault.Stop.{Stop}
 use Rattle.sx_base.specs.declared.fault.Stop.TheVariants as stops

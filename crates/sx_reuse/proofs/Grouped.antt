@@ -9,7 +9,7 @@ use Rattle.sx_library.proofs.PlaceLemmas.{no_places, places_on}
 use Rattle.sx_load.specs.Found.{places_from}
 use Rattle.sx_load.specs.declared.found.Found.{Found}
 use Rattle.sx_load.specs.declared.found.Source.{Source}
-use Rattle.sx_reuse.specs.Groups.{AreGroups, group_behind, group_of, groups_from, places_on as group_places, or_skip, picked, places_if}
+use Rattle.sx_reuse.specs.Groups.{AreGroups, group_behind, group_of, groups_from, places_on as group_places, or_skip, picked}
 use Rattle.sx_reuse.specs.declared.groups.Group.{Group}
 
 -- ---- the groups of the files that were read

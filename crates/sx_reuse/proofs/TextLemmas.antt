@@ -14,7 +14,7 @@ use Rattle.sx_outside.specs.Store.{WhereTold}
 use Rattle.sx_reuse.specs.Entries.{Kept}
 use Rattle.sx_reuse.specs.Expansion.{text_after}
 use Rattle.sx_reuse.specs.Progress.{Progress, begun}
-use Rattle.sx_reuse.specs.Texts.{Text, with_flags, text_behind, TextGives, Writes, took, stopped, unready, Leaves, untouched, turned, Answers}
+use Rattle.sx_reuse.specs.Texts.{Text, with_flags, TextGives, Writes, took, stopped, unready, Leaves, untouched, turned, Answers}
 use Rattle.sx_reuse.specs.Turns.{State, state, Turns, done, next, Stops, here, later, BreaksOff, between, within, behind, nothing_put, TakeFrom}
 use Rattle.sx_reuse.specs.declared.texts.Came.{Came}
 use Rattle.sx_reuse.specs.declared.texts.Came.TheVariants as came

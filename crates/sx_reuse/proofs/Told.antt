@@ -1,9 +1,9 @@
 -- What holds of contents where they are told.
-use Rattle.std.proofs.Common.{◌≡◌, ℕ, ◌+◌, ◌-◌, ◌^◌, ◌≤◌, List, Option, Some, None, arith}
-use Rattle.std.specs.Prelude.{IfSome, min}
+use Rattle.std.proofs.Common.{ℕ, ◌+◌, ◌-◌, ◌^◌, ◌≤◌, List, Option, Some, None, arith}
+use Rattle.std.specs.Prelude.{IfSome}
 use Rattle.sx_outside.specs.Causes.{Rose, raised}
 use Rattle.sx_outside.specs.Contents.{Paths}
-use Rattle.sx_outside.specs.Store.{WhereTold, KeepsOthers}
+use Rattle.sx_outside.specs.Store.{WhereTold}
 use Rattle.sx_reuse.specs.Turns.{IsPut, Quiet}
 use Rattle.sx_reuse.specs.Turns as turns
 

@@ -1,5 +1,5 @@
 -- From the calls in the turn of a library to its turn.
-use Rattle.std.proofs.Common.{◌≡◌, ℕ, ◌≤◌, Bool, true, false, List, [], ◌∷◌, Result, Ok, Err, Option, Some, None, refl, sym, subst, ap, ◌∙◌, arith}
+use Rattle.std.proofs.Common.{◌≡◌, ℕ, ◌≤◌, Bool, true, false, List, Result, Ok, Err, Option, Some, None, refl, sym, subst, ap, ◌∙◌, arith}
 use Rattle.std.specs.Prelude.{◌<◌, IfSome, length}
 use Rattle.sx_base.specs.declared.fault.Fault.{Fault}
 use Rattle.sx_base.specs.declared.fault.Stop.{Stop}
@@ -19,7 +19,7 @@ use Rattle.sx_reuse.specs.Entries.{Kept, entry_limit, if_short, made, place_of, 
 use Rattle.sx_reuse.specs.Progress.{Progress, begun, with_record}
 use Rattle.sx_reuse.specs.declared.turns.Recorded.{Recorded}
 use Rattle.sx_reuse.specs.Turns as turns
-use Rattle.sx_reuse.specs.Turns.{IsPut, put, too_long, unspelled, failed, PutsEntry, Quiet, State, state, Turn, reused, expanded, IsAtFault, Breaks, nothing_put, entry_put, BreaksOff, between, Keeps, Records, TakesTurn, TakeTurns, TakeFrom}
+use Rattle.sx_reuse.specs.Turns.{IsPut, put, too_long, unspelled, failed, PutsEntry, Quiet, State, state, Turn, reused, expanded, Breaks, nothing_put, entry_put, BreaksOff, between, Keeps, Records, TakesTurn, TakeTurns, TakeFrom}
 use Rattle.sx_reuse.proofs.Told.{told_same, told_by, told_here, told_where, rose_later, put_earlier}
 
 up_to : (a b c : ℕ) → a ≤ b → b ≤ c → a ≤ c

@@ -1,5 +1,5 @@
 -- The core text of a program behind the turns of its libraries, and what they leave of the store.
-use Rattle.std.specs.Prelude.{◌≡◌, ◌≤◌, ℕ, Bool, List, map, Result, Ok, Err, string_bytes}
+use Rattle.std.specs.Prelude.{◌≡◌, ℕ, Bool, List, map, Result, Ok, Err, string_bytes}
 use Rattle.sx_base.specs.declared.fault.Fault.{Fault}
 use Rattle.sx_base.specs.declared.fault.Stop.{Stop}
 use Rattle.sx_base.specs.declared.fault.Stop.TheVariants as stop
@@ -11,7 +11,7 @@ use Rattle.sx_outside.specs.Contents.{Paths}
 use Rattle.sx_reuse.specs.Entries.{Kept}
 use Rattle.sx_reuse.specs.Expansion.{text_after}
 use Rattle.sx_reuse.specs.Progress.{Progress, begun}
-use Rattle.sx_reuse.specs.Turns.{State, state, Turns, Stops, BreaksOff}
+use Rattle.sx_reuse.specs.Turns.{state, Turns, Stops, BreaksOff}
 use Rattle.sx_reuse.specs.declared.texts.Came.{Came}
 use Rattle.sx_reuse.specs.declared.texts.Came.TheVariants as came
 use Rattle.sx_reuse.specs.declared.texts.Written.{Written}

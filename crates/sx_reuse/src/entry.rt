@@ -13,9 +13,9 @@ use sx_base::items::Items;
 use sx_base::memory::Memory;
 use sx_base::symbol::Symbol;
 use sx_cache::entry::{Entry, encode_entry};
-use sx_cache::fitting::fitting_record;
+use sx_cache::fitting::sealed_record;
 use sx_cache::place::place;
-use sx_cache::seal::{seal, unseal};
+use sx_cache::seal::seal;
 use sx_core::record::LibRecord;
 use sx_load::found::{Found, Source};
 
@@ -130,10 +130,7 @@ fn record_sealed(
 ) -> Result<Option<LibRecord>, Memory>
     ensures { IfOk result (λ o. o ≡ stored_in roots.now sources.now chosen.now (entry_in bytes.now)) }
 {
-    let Some(body) = unseal(bytes) else {
-        return Ok(None);
-    };
-    fitting_record(alloc, body, roots, sources, chosen)
+    sealed_record(alloc, bytes, roots, sources, chosen)
 }
 
 /// A library whose turn it is, and where its entry is kept.

@@ -24,6 +24,7 @@ use sx_forms::form::{LibraryForm, library_body, program_body};
 use sx_library::library::{Unexpanded, body_of, expand_body};
 use sx_library::records::{Needed, Records};
 use sx_load::found::{Found, Opened};
+use sx_pattern_bytes::held::Held;
 use sx_plan::planned::planned;
 
 /// What a file holds.
@@ -144,12 +145,13 @@ pub(crate) fn text_after<N: Ledger, L: Ledger>(
     ensures fuel { OnOk result (tally.new.fuel ≡ tally.old.fuel + found_spent (kept implementation.now.prelude) records found
         (program_body found.opened.«data»)) }
 {
+    let records = Held::new(records);
     let behind = Behind {
         alloc,
         implementation,
-        records: &records,
+        records: &records.value,
     };
     let program = record_of(&behind, File::Program, found, tally)?;
-    let records = records.into_records();
-    planned_text(alloc, &records, &program)
+    let records = Held::new(records.take().into_records());
+    planned_text(alloc, &records.value, &program)
 }

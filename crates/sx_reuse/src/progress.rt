@@ -11,11 +11,12 @@ use sx_base::memory::Memory;
 use sx_core::record::LibRecord;
 use sx_follows::earlier::{Earlier, Places};
 use sx_library::records::Records;
+use sx_pattern_bytes::held::Held;
 
 /// The records so far, that of the derived library first, what they bind and define, and which of the others were reused.
 #[derive(Drop)]
 pub struct Turned {
-    records: Records,
+    records: Held<Records>,
     places: Places,
     reused: Items<bool>,
 }
@@ -28,9 +29,9 @@ impl Model for Turned {
 
     ghost coded = { progress_code };
 
-    ghost view = { λ t. record { records = t.records; reused = t.reused } };
+    ghost view = { λ t. record { records = t.records.value; reused = t.reused } };
 
-    ghost invariant = { λ t. ArePlaces t.places t.records };
+    ghost invariant = { λ t. ArePlaces t.places t.records.value };
 }
 
 impl Turned {
@@ -44,7 +45,7 @@ impl Turned {
         records.push(alloc, derived)?;
         let reused = Items::new(alloc);
         Ok(Turned {
-            records,
+            records: Held::new(records),
             places,
             reused,
         })
@@ -53,7 +54,7 @@ impl Turned {
     pub fn records(&self) -> &Records
         ensures { result.now ≡ self.now.records }
     {
-        &self.records
+        &self.records.value
     }
 
     /// The records that are marked.
@@ -61,7 +62,7 @@ impl Turned {
     pub fn earlier<'a>(&'a self, marks: &'a [bool]) -> Earlier<'a>
         ensures { result ≡ needed_records self.now.records marks.now }
     {
-        Earlier::new(self.records.ready().as_slice(), &self.places, marks)
+        Earlier::new(self.records.value.ready().as_slice(), &self.places, marks)
     }
 
     /// The records, and one more behind them.
@@ -73,9 +74,9 @@ impl Turned {
             mut places,
             reused: mut flags,
         } = self;
-        let place = records.ready().as_slice().len();
+        let place = records.value.ready().as_slice().len();
         places.push(alloc, &last, place)?;
-        records.push(alloc, last)?;
+        records.value.push(alloc, last)?;
         flags.push(reused)?;
         Ok(Turned {
             records,
@@ -94,6 +95,6 @@ impl Turned {
             reused,
             ..
         } = self;
-        (records, reused)
+        (records.take(), reused)
     }
 }

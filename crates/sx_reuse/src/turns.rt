@@ -30,6 +30,7 @@ use sx_follows::follows::follows;
 use sx_import::table::Table;
 use sx_load::found::Found;
 use sx_outside::{OutsideError, Store, StoreAnswer};
+use sx_pattern_bytes::held::Held;
 
 /// What each turn of a run is given.
 #[derive(Drop)]
@@ -87,8 +88,9 @@ fn stored_in(
     let Some(stored) = turning.cache.record_in(turning.alloc, found, held)? else {
         return Ok(None);
     };
-    if suits(turning.alloc, turned, found, &stored)? {
-        Ok(Some(stored))
+    let stored = Held::new(stored);
+    if suits(turning.alloc, turned, found, &stored.value)? {
+        Ok(Some(stored.take()))
     } else {
         Ok(None)
     }

@@ -1,4 +1,3 @@
-use Rattle.std.proofs.Common.{ap, sym, ◌∙◌}
 use Rattle.std.specs.Prelude.{string_bytes}
 use Rattle.sx_reuse.proofs.Asked.{asked_found, asked_longer, asked_absent, asked_failed, asked_lost}
 use Rattle.sx_reuse.proofs.turns.ask.Goals as goal

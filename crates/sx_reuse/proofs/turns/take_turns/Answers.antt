@@ -1,4 +1,3 @@
-use Rattle.std.proofs.Common.{sym}
 use Rattle.std.proofs.lemmas.Result.{err_from_is_err_and}
 use Rattle.sx_base.specs.declared.fault.Stop.TheVariants as stop
 use Rattle.sx_derived.specs.Derived.{derived_record}
