@@ -163,7 +163,7 @@ module _ (own : LibName) (K : ℕ → Mark → Type 0) (J : ℕ → FrameNo → 
 
   mutual
     quasi-up : (m n : ℕ) → m ≤ n → (q : PlainQuasi) → QuasiHolds (P m) q → QuasiHolds (P n) q
-    quasi-up m n le (constant c) h = tt
+    quasi-up m n le (constant c) h = (tree-up own K J P lives first) m n le c h
     quasi-up m n le (expression e) h = (tree-up own K J P lives first) m n le e h
     quasi-up m n le (quasi_plan.call k qs) h = quasis-up m n le qs h
 

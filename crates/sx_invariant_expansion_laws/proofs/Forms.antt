@@ -57,7 +57,7 @@ module _ (I : Invariant) (kept : IsKept I) where
   pub record Keeps (go : Inside) : Type 0 where
     pub records : RecordsHold I go.earlier
     pub form : (place : Span) (level depth : ℕ) (t : Tree) (s : State) → F I kept s → I.trees t → Gave I kept (C I kept) (go.form place level depth t s)
-    pub procedure : (place : Span) (level depth : ℕ) (t : Tree) (ids : FormalIds) (forms : List Tree) (s : State) → F I kept s → FormalsHold I kept.built ids → Ts I kept forms → Gave I kept CaseAt (go.procedure place level depth t ids forms s)
+    pub procedure : (place : Span) (level depth : ℕ) (t : Tree) (ids : FormalIds) (forms : List Tree) (s : State) → F I kept s → FormalsHold I kept.built.closed ids → Ts I kept forms → Gave I kept CaseAt (go.procedure place level depth t ids forms s)
     pub item : (at : BodyAt) (depth : ℕ) (d : Taken) (t : Tree) (s : State) → F I kept s → TakenAt I kept d → I.trees t → Gave I kept (TakenAt I kept) (go.item at depth d t s)
 
   abbrev Any : {A : Type 0} → A → Type 0
@@ -178,14 +178,14 @@ module _ (I : Invariant) (kept : IsKept I) where
 
     -- Procedures.
 
-    case-in-holds : (place : Span) (level depth : ℕ) (t : Tree) (ids : FormalIds) (forms : List Tree) (f : FrameNo) (s : State) → F I kept s → FormalsHold I kept.built ids → Ts I kept forms → Gave I kept CaseAt (case_in go place level depth t ids forms f s)
+    case-in-holds : (place : Span) (level depth : ℕ) (t : Tree) (ids : FormalIds) (forms : List Tree) (f : FrameNo) (s : State) → F I kept s → FormalsHold I kept.built.closed ids → Ts I kept forms → Gave I kept CaseAt (case_in go place level depth t ids forms f s)
     case-in-holds place level depth t ids forms f s h k g =
         gave-after I kept (Any) CaseAt (bind_formals f place level ids s) _ (bind-formals-holds I kept f place level ids s h k)
         (λ formals u i y. gave-after I kept (C I kept) CaseAt (body go place level depth t (map (stamp f) forms) u) (λ c. give (record { formals = formals; body = c }))
         (body-holds place level depth t (map (stamp f) forms) u i (stamps-hold f forms g))
         (λ c v j z. (j, z)))
 
-    pub case-holds : (place : Span) (level depth : ℕ) (t : Tree) (ids : FormalIds) (forms : List Tree) (s : State) → F I kept s → FormalsHold I kept.built ids → Ts I kept forms → Gave I kept CaseAt (lambda_case go place level depth t ids forms s)
+    pub case-holds : (place : Span) (level depth : ℕ) (t : Tree) (ids : FormalIds) (forms : List Tree) (s : State) → F I kept s → FormalsHold I kept.built.closed ids → Ts I kept forms → Gave I kept CaseAt (lambda_case go place level depth t ids forms s)
     unfolding lambda_case fresh_frame
     case-holds place level depth t ids forms s h k g =
         let f : FrameNo = record { 0 = s.names } in
@@ -194,7 +194,7 @@ module _ (I : Invariant) (kept : IsKept I) where
         gave-within I kept CaseAt (λ v. after (fresh_frame v) (case_in go place level depth t ids forms)) s
         (case-in-holds place level depth t ids forms f u i k g)
 
-    pub lambda-holds : (place : Span) (level depth : ℕ) (t : Tree) (ids : FormalIds) (forms : List Tree) (s : State) → F I kept s → FormalsHold I kept.built ids → Ts I kept forms → Gave I kept (C I kept) (lambda go place level depth t ids forms s)
+    pub lambda-holds : (place : Span) (level depth : ℕ) (t : Tree) (ids : FormalIds) (forms : List Tree) (s : State) → F I kept s → FormalsHold I kept.built.closed ids → Ts I kept forms → Gave I kept (C I kept) (lambda go place level depth t ids forms s)
     unfolding lambda fresh
     lambda-holds place level depth t ids forms s h k g =
         let u = counted s in
@@ -204,7 +204,7 @@ module _ (I : Invariant) (kept : IsKept I) where
         (λ c v j y. (j, (y, tt))))
 
     abbrev LambdaAt : LambdaCase → Type 0
-    LambdaAt c = LambdaHolds I kept.built c
+    LambdaAt c = LambdaHolds I kept.built.closed c
 
     pub case-lambda-holds : (place : Span) (level depth : ℕ) (t : Tree) (cs : List LambdaCase) (s : State) → F I kept s → Each LambdaAt cs → Gave I kept (C I kept) (case_lambda go place level depth t cs s)
     unfolding case_lambda fresh
@@ -288,7 +288,7 @@ module _ (I : Invariant) (kept : IsKept I) where
     fender-holds place level depth f (Some t) s h k =
         gave-after I kept (C I kept) (λ x. OptionHolds (C I kept) x) (go.form place level depth (stamp f t) s) (λ c. give (Some c)) (keeps.form place level depth (stamp f t) s h (kept.steady.changed (change.Stamp f ∷ []) t k)) (λ c u i y. (i, y))
 
-    clause-in-holds : (place : Span) (level depth : ℕ) (literals : List Tree) (c : PatternCase) (f : FrameNo) (s : State) → F I kept s → PatternCaseHolds I kept.built c → Gave I kept ClauseAt (clause_in go place level depth literals c f s)
+    clause-in-holds : (place : Span) (level depth : ℕ) (literals : List Tree) (c : PatternCase) (f : FrameNo) (s : State) → F I kept s → PatternCaseHolds I kept.built.closed c → Gave I kept ClauseAt (clause_in go place level depth literals c f s)
     clause-in-holds place level depth literals c f s h k =
         gave-after I kept Any ClauseAt (pattern_of literals place c.pattern s) _ (pattern-holds I kept literals place c.pattern s h)
         (λ p t i y. let ht = i in
@@ -301,7 +301,7 @@ module _ (I : Invariant) (kept : IsKept I) where
         (λ o w b d. (b, (a, d))))))
 
     abbrev PatternCaseAt : PatternCase → Type 0
-    PatternCaseAt c = PatternCaseHolds I kept.built c
+    PatternCaseAt c = PatternCaseHolds I kept.built.closed c
 
     clause-holds : (place : Span) (level depth : ℕ) (literals : List Tree) (c : PatternCase) (s : State) → F I kept s → PatternCaseAt c → Gave I kept ClauseAt (pattern_clause go place level depth literals c s)
     unfolding pattern_clause fresh_frame

@@ -57,22 +57,22 @@ module _ (I : Invariant) (kept : IsKept I) where
 
   -- what a form comes to
   abbrev pub FormAt : QuasiForm → Type 0
-  FormAt (forms.Quote q) = QuasiHolds I kept.built q
+  FormAt (forms.Quote q) = QuasiHolds I kept.built.closed q
   FormAt (forms.Syntax q) = I.trees q.template × Each InsertAt q.inserts
 
   -- the ellipsis behind splices has a name
   name-of-dots : I.trees dots
-  name-of-dots = kept.built.ellipsis
+  name-of-dots = kept.ellipsis
 
   form-of-holds : (place : Span) (t : Tree) (which : Family) (template : Tree) (s : State) → F I kept s → I.trees template → Gave I kept FormAt (form_of place t which template s)
-  form-of-holds place t family.Quote template s h k = by (quasi (word_of family.Quote s.frames) template t place) (quasi-holds I kept.built (word_of family.Quote s.frames) template t place k)
+  form-of-holds place t family.Quote template s h k = by (quasi (word_of family.Quote s.frames) template t place) (quasi-holds I kept.built.closed (word_of family.Quote s.frames) template t place k)
     where
-      by : (r : Result PlainQuasi Fault) → OkHolds (QuasiHolds I kept.built) r → Gave I kept FormAt (quote_by r s)
+      by : (r : Result PlainQuasi Fault) → OkHolds (QuasiHolds I kept.built.closed) r → Gave I kept FormAt (quote_by r s)
       by (Err f) j = tt
       by (Ok q) j = (h, j)
   form-of-holds place t family.Syntax template s h k =
       by (quasi_syntax (record { words = word_of family.Syntax s.frames; dots = dots }) template t place)
-      (quasi-syntax-holds I kept.built (record { words = word_of family.Syntax s.frames; dots = dots }) name-of-dots template t place k)
+      (quasi-syntax-holds I kept.built kept.insert (record { words = word_of family.Syntax s.frames; dots = dots }) name-of-dots template t place k)
     where
       by : (r : Result QuasiSyntax Fault) → OkHolds (λ (q : QuasiSyntax). I.trees q.template × Each InsertAt q.inserts) r → Gave I kept FormAt (syntax_by r s)
       by (Err f) j = tt
@@ -91,12 +91,12 @@ module _ (I : Invariant) (kept : IsKept I) where
       by false = k
 
   mutual
-    quasi-parts-hold : (t : Tree) (depth : ℕ) (done : List Part) (q : PlainQuasi) → I.trees t → Each PartAt done → QuasiHolds I kept.built q → Each PartAt (quasi_parts t depth done q)
+    quasi-parts-hold : (t : Tree) (depth : ℕ) (done : List Part) (q : PlainQuasi) → I.trees t → Each PartAt done → QuasiHolds I kept.built.closed q → Each PartAt (quasi_parts t depth done q)
     quasi-parts-hold t depth done (constant c) h k j = with-made-holds t depth done h k
     quasi-parts-hold t depth done (expression e) h k j = each_and PartAt done (part e depth) k j
     quasi-parts-hold t depth done (quasi_plan.call m qs) h k j = all-parts-hold t (deeper depth) (with_made t (deeper depth) done) qs h (with-made-holds t (deeper depth) done h k) j
 
-    all-parts-hold : (t : Tree) (depth : ℕ) (done : List Part) (qs : PlainQuasis) → I.trees t → Each PartAt done → QuasisHold I kept.built qs → Each PartAt (all_quasi_parts t depth done qs)
+    all-parts-hold : (t : Tree) (depth : ℕ) (done : List Part) (qs : PlainQuasis) → I.trees t → Each PartAt done → QuasisHold I kept.built.closed qs → Each PartAt (all_quasi_parts t depth done qs)
     all-parts-hold t depth done none h k j = k
     all-parts-hold t depth done (more q qs) h k j = all-parts-hold t depth (quasi_parts t depth done q) qs h (quasi-parts-hold t depth done q h k j.0) j.1
 
@@ -130,12 +130,12 @@ module _ (I : Invariant) (kept : IsKept I) where
   next-code-holds t (c ∷ cs) k h = h
 
   mutual
-    filled-holds : (q : PlainQuasi) (cs : List PlainCore) → QuasiHolds I kept.built q → Cs cs → FilledAt (filled q cs)
+    filled-holds : (q : PlainQuasi) (cs : List PlainCore) → QuasiHolds I kept.built.closed q → Cs cs → FilledAt (filled q cs)
     filled-holds (constant t) cs k h = (kept.built.constants t k, h)
     filled-holds (expression t) cs k h = next-code-holds t cs k h
     filled-holds (quasi_plan.call m qs) cs k h = let p = all-filled-hold [] qs cs k tt h in ((tt, cores-hold (all_filled [] qs cs).0 p.0), p.1)
 
-    all-filled-hold : (done : List PlainCore) (qs : PlainQuasis) (cs : List PlainCore) → QuasisHold I kept.built qs → Cs done → Cs cs → Cs (all_filled done qs cs).0 × Cs (all_filled done qs cs).1
+    all-filled-hold : (done : List PlainCore) (qs : PlainQuasis) (cs : List PlainCore) → QuasisHold I kept.built.closed qs → Cs done → Cs cs → Cs (all_filled done qs cs).0 × Cs (all_filled done qs cs).1
     all-filled-hold done none cs j h k = (h, k)
     all-filled-hold done (more q qs) cs j h k =
         let p = filled-holds q cs j.0 k in

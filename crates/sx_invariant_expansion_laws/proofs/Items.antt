@@ -83,7 +83,7 @@ module _ (I : Invariant) (kept : IsKept I) where
         (gave-after I kept (λ l. Unit {0}) DefinedAt (bind_variable at.frame at.place at.level (is_top at.kind) id s) (λ l s'. after (in_time at d id s') (λ taken. give (taken, l))) (variable-holds I kept at.frame at.place at.level (is_top at.kind) id s h g)
         (λ l u i y. in-time d id l u i k))
 
-    define-item-holds : (d : Taken) (t : Tree) (x : Shape) (s : State) → F I kept s → TakenAt d → I.trees t → ShapeHolds I kept.built x → Gave I kept TakenAt (define_item at depth d t x s)
+    define-item-holds : (d : Taken) (t : Tree) (x : Shape) (s : State) → F I kept s → TakenAt d → I.trees t → ShapeHolds I kept.built.closed x → Gave I kept TakenAt (define_item at depth d t x s)
     unfolding define_item
     define-item-holds d t (shapes.Define id value) s h k g j =
         gave-after I kept DefinedAt TakenAt (define at d t id s) (λ e. give (with_waiting at depth e.0 (waits.Variable e.1 value))) (define-holds d t id s h k j.0)
@@ -153,18 +153,18 @@ module _ (I : Invariant) (kept : IsKept I) where
     set-holds d t (Ok (shapes.SyntaxCase subject literals cs)) s h k g = waits-so d t s h k g
     set-holds d t (Err e) s h k g = waits-so d t s h k g
 
-    begin-holds : (d : Taken) (t : Tree) (x : Shape) (s : State) → F I kept s → TakenAt d → ShapeHolds I kept.built x → Gave I kept BothAt (begin_item at d t x s)
+    begin-holds : (d : Taken) (t : Tree) (x : Shape) (s : State) → F I kept s → TakenAt d → ShapeHolds I kept.built.closed x → Gave I kept BothAt (begin_item at d t x s)
     unfolding begin_item
     begin-holds d t (shapes.Begin forms) s h k g = (h, (k, g))
     begin-holds d t _ s h k g = tt
 
-    keywords-item-holds : (d : Taken) (t : Tree) (f : CoreForm) (x : Shape) (s : State) → F I kept s → TakenAt d → ShapeHolds I kept.built x → Gave I kept BothAt (keywords_item at d t f x s)
+    keywords-item-holds : (d : Taken) (t : Tree) (f : CoreForm) (x : Shape) (s : State) → F I kept s → TakenAt d → ShapeHolds I kept.built.closed x → Gave I kept BothAt (keywords_item at d t f x s)
     unfolding keywords_item
     keywords-item-holds d t f (shapes.DefineSyntax id value) s h k g = (h, (k, g))
     keywords-item-holds d t f (shapes.LetSyntax bs forms) s h k g = (h, (k, g))
     keywords-item-holds d t f _ s h k g = tt
 
-    shaped : (t : Tree) (r : Result Shape Fault) (go : Shape → State → Result ((Taken × Item) × State) Fault) (s : State) → OkHolds (ShapeHolds I kept.built) r → ((x : Shape) → ShapeHolds I kept.built x → Gave I kept BothAt (go x s))
+    shaped : (t : Tree) (r : Result Shape Fault) (go : Shape → State → Result ((Taken × Item) × State) Fault) (s : State) → OkHolds (ShapeHolds I kept.built.closed) r → ((x : Shape) → ShapeHolds I kept.built.closed x → Gave I kept BothAt (go x s))
         → Gave I kept BothAt (with_shape r go s)
     shaped t (Err e) go s j k = tt
     shaped t (Ok x) go s j k = k x j
@@ -172,11 +172,11 @@ module _ (I : Invariant) (kept : IsKept I) where
     item-by-holds : (d : Taken) (t : Tree) (f : CoreForm) (r : Role) (s : State) → F I kept s → TakenAt d → I.trees t → Gave I kept BothAt (item_by at depth d t f r s)
     item-by-holds d t f role.Expression s h k g = waits-so d t s h k g
     item-by-holds d t f role.Assignment s h k g = set-holds d t (shape f t at.place) s h k g
-    item-by-holds d t f role.Sequence s h k g = shaped t (shape f t at.place) (begin_item at d t) s (shape-holds I kept.built f t at.place g) (λ x j. begin-holds d t x s h k j)
+    item-by-holds d t f role.Sequence s h k g = shaped t (shape f t at.place) (begin_item at d t) s (shape-holds I kept.built.closed f t at.place g) (λ x j. begin-holds d t x s h k j)
     item-by-holds d t f role.Definition s h k g =
-        shaped t (shape f t at.place) (λ x. alone (define_item at depth d t x)) s (shape-holds I kept.built f t at.place g)
+        shaped t (shape f t at.place) (λ x. alone (define_item at depth d t x)) s (shape-holds I kept.built.closed f t at.place g)
         (λ x j. gave-after I kept TakenAt BothAt (define_item at depth d t x s) (λ e. give (e, items.Nothing)) (define-item-holds d t x s h k g j) (λ e u i y. (i, (y, tt))))
-    item-by-holds d t f role.Keywords s h k g = shaped t (shape f t at.place) (keywords_item at d t f) s (shape-holds I kept.built f t at.place g) (λ x j. keywords-item-holds d t f x s h k j)
+    item-by-holds d t f role.Keywords s h k g = shaped t (shape f t at.place) (keywords_item at d t f) s (shape-holds I kept.built.closed f t at.place g) (λ x j. keywords-item-holds d t f x s h k j)
     item-by-holds d t f role.Record s h k g = (h, (k, tt))
     item-by-holds d t f role.RecordValue s h k g = (h, (k, tt))
     item-by-holds d t f role.Auxiliary s h k g = waits-so d t s h k g

@@ -45,10 +45,10 @@ module _ (I : Invariant) (kept : IsKept I) where
   PlanAt (plans.Conditional test consequent other) = I.trees test × (I.trees consequent × OptionHolds I.trees other)
   PlanAt (plans.Assignment l value) = I.trees value
   PlanAt (plans.Sequence forms) = Ts I kept forms
-  PlanAt (plans.Lambda ids forms) = FormalsHold I kept.built ids × Ts I kept forms
-  PlanAt (plans.CaseLambda cs) = Each (LambdaHolds I kept.built) cs
+  PlanAt (plans.Lambda ids forms) = FormalsHold I kept.built.closed ids × Ts I kept forms
+  PlanAt (plans.CaseLambda cs) = Each (LambdaHolds I kept.built.closed) cs
   PlanAt (plans.Letrec star bs forms) = Each (SpecAt I kept) bs × Ts I kept forms
-  PlanAt (plans.Matching subject literals cs span) = I.trees subject × (Ts I kept literals × Each (PatternCaseHolds I kept.built) cs)
+  PlanAt (plans.Matching subject literals cs span) = I.trees subject × (Ts I kept literals × Each (PatternCaseHolds I kept.built.closed) cs)
   PlanAt (plans.Keywords recursive bs forms) = Each (SpecAt I kept) bs × Ts I kept forms
   PlanAt (plans.Quasi which template) = I.trees template
   PlanAt (plans.Use k) = Unit {0}
@@ -134,7 +134,7 @@ module _ (I : Invariant) (kept : IsKept I) where
 
     application-holds : (t operator rest : Tree) → I.trees operator → I.trees rest → Planned (application place t operator rest s)
     unfolding application
-    application-holds t operator rest k j = call-holds t operator (proper_elements rest) k (proper-holds I kept.built rest j)
+    application-holds t operator rest k j = call-holds t operator (proper_elements rest) k (proper-holds I kept.built.closed rest j)
 
     sequence-holds : (t : Tree) (xs : List Tree) → Ts I kept xs → Planned (in_sequence place t xs s)
     sequence-holds t [] k = tt
@@ -151,7 +151,7 @@ module _ (I : Invariant) (kept : IsKept I) where
     operand-holds t core_forms.Quasisyntax operand k = (as-it-is, k)
     operand-holds t _ operand k = tt
 
-    shape-plan-holds : (t : Tree) (f : CoreForm) (x : Shape) → ShapeHolds I kept.built x → Planned (shape_plan place level t f x s)
+    shape-plan-holds : (t : Tree) (f : CoreForm) (x : Shape) → ShapeHolds I kept.built.closed x → Planned (shape_plan place level t f x s)
     unfolding shape_plan
     shape-plan-holds t f (shapes.Quote datum) k = (as-it-is, kept.built.constants datum k)
     shape-plan-holds t f (shapes.Lambda ids body) k = (as-it-is, k)
@@ -167,12 +167,12 @@ module _ (I : Invariant) (kept : IsKept I) where
     shape-plan-holds t f (shapes.Operand operand) k = operand-holds t f operand k
     shape-plan-holds t f (shapes.SyntaxCase subject literals clauses) k = (as-it-is, k)
 
-    with-shape-holds : (t : Tree) (f : CoreForm) (r : Result Shape Fault) → OkHolds (ShapeHolds I kept.built) r → Planned (with_shape place level t f r s)
+    with-shape-holds : (t : Tree) (f : CoreForm) (r : Result Shape Fault) → OkHolds (ShapeHolds I kept.built.closed) r → Planned (with_shape place level t f r s)
     with-shape-holds t f (Err e) k = tt
     with-shape-holds t f (Ok x) k = shape-plan-holds t f x k
 
     by-shape : (t : Tree) (f : CoreForm) → I.trees t → Planned (with_shape place level t f (shape f t place) s)
-    by-shape t f k = with-shape-holds t f (shape f t place) (shape-holds I kept.built f t place k)
+    by-shape t f k = with-shape-holds t f (shape f t place) (shape-holds I kept.built.closed f t place k)
 
     by-role-holds : (t head : Tree) (f : CoreForm) (r : Role) → I.trees t → Planned (by_role place level t head f r s)
     by-role-holds t head f role.Expression k = by-shape t f k

@@ -25,10 +25,10 @@ use Rattle.sx_invariant_laws.proofs.Eachs.{each_and, each_both, each_taken, each
 use Rattle.sx_invariant_laws.proofs.Trees.{OkHolds}
 use Rattle.sx_invariant_expansion_laws.proofs.Shapes.{then-holds, ok-if, some-holds, proper-holds}
 use Rattle.sx_invariant_laws.specs.Invariant.{Invariant}
-use Rattle.sx_invariant_expansion_laws.specs.Kept.{IsBuilt}
+use Rattle.sx_invariant_laws.specs.Closed.{IsClosed}
 use Rattle.sx_base.specs.declared.atom.Atom.TheVariants as a
 
-module _ (I : Invariant) (built : IsBuilt I) where
+module _ (I : Invariant) (parts : IsClosed I) where
   -- What elements of a list or vector give, and its only operand.
 
   abbrev Ts : List Tree → Type 0
@@ -44,7 +44,7 @@ module _ (I : Invariant) (built : IsBuilt I) where
   behind-holds (t ∷ ts) h = h.1
 
   operands-hold : (t : Tree) → I.trees t → OptionHolds Ts (operands t)
-  operands-hold t h = some-holds Ts Ts (proper_elements t) behind_head (proper-holds I built t h) behind-holds
+  operands-hold t h = some-holds Ts Ts (proper_elements t) behind_head (proper-holds I parts t h) behind-holds
 
   taken-by-holds : (w : Word) (o : Option (List Tree)) → OptionHolds Ts o → TakenHolds (taken_by w o)
   taken-by-holds word.Lower (Some es) h = h
@@ -125,7 +125,7 @@ module _ (I : Invariant) (built : IsBuilt I) where
 
   vector-joined-holds : (t : Tree) (p : Pieces) → I.trees t → PiecesHold p → QuasiHolds (vector_joined t p)
   vector-joined-holds t p g h =
-      quasi-if p.fixed (constant t) (call maker.ListToVector (quasis (made_of p.parts p.run (constant nil) ∷ []))) g (quasis-hold (made_of p.parts p.run (constant nil) ∷ []) (made-holds p.parts p.run (constant nil) h.0 h.1 (built.closed.atom a.Nil built.closed.nil), tt))
+      quasi-if p.fixed (constant t) (call maker.ListToVector (quasis (made_of p.parts p.run (constant nil) ∷ []))) g (quasis-hold (made_of p.parts p.run (constant nil) ∷ []) (made-holds p.parts p.run (constant nil) h.0 h.1 (parts.atom a.Nil parts.nil), tt))
 
   -- Forms.
 
@@ -176,7 +176,7 @@ module _ (I : Invariant) (built : IsBuilt I) where
   rest-holds zero t h = h
   rest-holds (suc n) (atom s a) h = h
   rest-holds (suc n) (leaf s x c) h = h
-  rest-holds (suc n) (pair s a d) h = rest-holds n d (built.closed.rest s a d h)
+  rest-holds (suc n) (pair s a d) h = rest-holds n d (parts.rest s a d h)
   rest-holds (suc n) (vector s d) h = h
 
   flat-holds : (w : Words) (t : Tree) (xs : List Element) (x : Tail) (n : ℕ) → I.trees t → Each IsElement xs → IsTail x → OkHolds QuasiHolds (flat w t xs x n)
@@ -198,20 +198,20 @@ module _ (I : Invariant) (built : IsBuilt I) where
       quasi-at-holds (leaf s x c) g n = g
       quasi-at-holds (pair s a d) g n =
           list-made-holds w (pair s a d) ((a, quasi_at w a) ∷ elements_made w d) (record { ends = is_nil (tail_of d); made = tail_made w d }) n g
-          (record { form = built.closed.first s a d g; made = λ m. quasi-at-holds a (built.closed.first s a d g) m }, elements-hold d (built.closed.rest s a d g)) (λ m. tail-holds d (built.closed.rest s a d g) m)
-      quasi-at-holds (vector s d) g n = vector-made-holds w (vector s d) (elements_made w d) n g (elements-hold d (built.closed.elements s d g))
+          (record { form = parts.first s a d g; made = λ m. quasi-at-holds a (parts.first s a d g) m }, elements-hold d (parts.rest s a d g)) (λ m. tail-holds d (parts.rest s a d g) m)
+      quasi-at-holds (vector s d) g n = vector-made-holds w (vector s d) (elements_made w d) n g (elements-hold d (parts.elements s d g))
 
       elements-hold : (t : Tree) → I.trees t → Each IsElement (elements_made w t)
       elements-hold (atom s a) g = tt
       elements-hold (leaf s x c) g = tt
-      elements-hold (pair s a d) g = (record { form = built.closed.first s a d g; made = λ m. quasi-at-holds a (built.closed.first s a d g) m }, elements-hold d (built.closed.rest s a d g))
+      elements-hold (pair s a d) g = (record { form = parts.first s a d g; made = λ m. quasi-at-holds a (parts.first s a d g) m }, elements-hold d (parts.rest s a d g))
       elements-hold (vector s d) g = tt
 
       tail-holds : (t : Tree) → I.trees t → (n : ℕ) → OkHolds QuasiHolds (tail_made w t n)
       tail-holds (atom s a) g n = g
       tail-holds (leaf s x c) g n = g
-      tail-holds (pair s a d) g n = tail-holds d (built.closed.rest s a d g) n
-      tail-holds (vector s d) g n = vector-made-holds w (vector s d) (elements_made w d) n g (elements-hold d (built.closed.elements s d g))
+      tail-holds (pair s a d) g n = tail-holds d (parts.rest s a d g) n
+      tail-holds (vector s d) g n = vector-made-holds w (vector s d) (elements_made w d) n g (elements-hold d (parts.elements s d g))
 
     pub quasi-holds : (t form : Tree) (place : Span) → I.trees t → OkHolds QuasiHolds (quasi w t form place)
     quasi-holds t form place g = by (quasi_at w t 0) (quasi-at-holds t g 0)

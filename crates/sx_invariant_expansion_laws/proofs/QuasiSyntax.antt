@@ -30,7 +30,7 @@ use Rattle.sx_invariant_expansion_laws.proofs.Shapes.{ok-if}
 use Rattle.sx_invariant_laws.specs.Invariant.{Invariant}
 use Rattle.sx_invariant_expansion_laws.specs.Kept.{IsBuilt}
 
-module _ (I : Invariant) (built : IsBuilt I) where
+module _ (I : Invariant) (built : IsBuilt I) (of_insert : (k : ℕ) → I.trees (insert_leaf k)) where
   abbrev pub InsertHolds : Insert → Type 0
   InsertHolds i = I.trees i.leaf × I.trees i.expression
 
@@ -55,7 +55,7 @@ module _ (I : Invariant) (built : IsBuilt I) where
   both-if Q false r q h k = k
 
   insert-holds : (depth : ℕ) (e : Tree) (is : List Insert) → I.trees e → InsertHolds (insert depth e is)
-  insert-holds depth e is h = (built.insert _, h)
+  insert-holds depth e is h = (of_insert _, h)
 
   abbrev TreesBoth : List Tree × List Insert → Type 0
   TreesBoth p = Each I.trees p.0 × Is p.1
@@ -63,13 +63,13 @@ module _ (I : Invariant) (built : IsBuilt I) where
   leaves-hold : (ts es : List Tree) (is : List Insert) → Each I.trees ts → Each I.trees es → Is is → TreesBoth (leaves ts es is)
   leaves-hold ts [] is h k j = (h, j)
   leaves-hold ts (e ∷ es) is h k j =
-      leaves-hold (ts ++ insert_leaf (length is) ∷ []) es (is ++ insert 0 e is ∷ []) (each_and I.trees ts (insert_leaf (length is)) h (built.insert _)) k.1 (each_and InsertHolds is (insert 0 e is) j (insert-holds 0 e is k.0))
+      leaves-hold (ts ++ insert_leaf (length is) ∷ []) es (is ++ insert 0 e is ∷ []) (each_and I.trees ts (insert_leaf (length is)) h (of_insert _)) k.1 (each_and InsertHolds is (insert 0 e is) j (insert-holds 0 e is k.0))
 
   spliced-hold : (dots : Tree) → I.trees dots → (ts es : List Tree) (is : List Insert) → Each I.trees ts → Each I.trees es → Is is → TreesBoth (spliced dots ts es is)
   spliced-hold dots d ts [] is h k j = (h, j)
   spliced-hold dots d ts (e ∷ es) is h k j =
       spliced-hold dots d ((ts ++ insert_leaf (length is) ∷ []) ++ dots ∷ []) es (is ++ insert 1 e is ∷ [])
-      (each_and I.trees (ts ++ insert_leaf (length is) ∷ []) dots (each_and I.trees ts (insert_leaf (length is)) h (built.insert _)) d) k.1 (each_and InsertHolds is (insert 1 e is) j (insert-holds 1 e is k.0))
+      (each_and I.trees (ts ++ insert_leaf (length is) ∷ []) dots (each_and I.trees ts (insert_leaf (length is)) h (of_insert _)) d) k.1 (each_and InsertHolds is (insert 1 e is) j (insert-holds 1 e is k.0))
 
   abbrev RowHolds : Row → Type 0
   RowHolds r = Each I.trees r.trees
@@ -108,7 +108,7 @@ module _ (I : Invariant) (built : IsBuilt I) where
   rest-holds (suc n) (vector s d) h = h
 
   module _ (w : Looked) (dots_hold : I.trees w.dots) where
-    step-by-holds : (n : ℕ) (x : Element) (r : Row) (u : Taken) (is : List Insert) → IsElement x → RowHolds r → TakenHolds I built u → Is is → Both RowHolds (step_by w n x r u is)
+    step-by-holds : (n : ℕ) (x : Element) (r : Row) (u : Taken) (is : List Insert) → IsElement x → RowHolds r → TakenHolds I built.closed u → Is is → Both RowHolds (step_by w n x r u is)
     step-by-holds n x r (taken.Each es) is one h k j = leaves-hold r.trees es is h k j
     step-by-holds n x r (taken.Spliced es) is one h k j = spliced-hold w.dots dots_hold r.trees es is h k j
     step-by-holds n x r taken.Kept is one h k j =
@@ -117,7 +117,7 @@ module _ (I : Invariant) (built : IsBuilt I) where
     walked-holds : (n : ℕ) (r : Row) (xs : List Element) (is : List Insert) → RowHolds r → Each IsElement xs → Is is → Both RowHolds (walked w n r xs is)
     walked-holds n r [] is h all j = (h, j)
     walked-holds n r (x ∷ xs) is h all j =
-        both-then RowHolds RowHolds (step w n r x is) (λ q inserts. walked w n q xs inserts) (step-by-holds n x r (taken_at w.words n x.0) is all.0 h (taken-holds I built w.words n x.0 all.0.form) j) (λ q more g i. walked-holds n q xs more g all.1 i)
+        both-then RowHolds RowHolds (step w n r x is) (λ q inserts. walked w n q xs inserts) (step-by-holds n x r (taken_at w.words n x.0) is all.0 h (taken-holds I built.closed w.words n x.0 all.0.form) j) (λ q more g i. walked-holds n q xs more g all.1 i)
 
     abbrev BegunHolds : Begun → Type 0
     BegunHolds (begun.Whole p) = PartHolds p
@@ -125,7 +125,7 @@ module _ (I : Invariant) (built : IsBuilt I) where
 
     or-bad-holds : (o : Option Tree) (is : List Insert) → OptionHolds I.trees o → Is is → Both BegunHolds (operand_or_bad o is)
     or-bad-holds None is h j = tt
-    or-bad-holds (Some e) is h j = (built.insert _, each_and InsertHolds is (insert 0 e is) j (insert-holds 0 e is h))
+    or-bad-holds (Some e) is h j = (of_insert _, each_and InsertHolds is (insert 0 e is) j (insert-holds 0 e is h))
 
     begun-holds : (o : Option Tree) (row : Inserts Row) (x : Reach) (is : List Insert) → OptionHolds I.trees o → Both RowHolds (row is) → Is is → Both BegunHolds (begun_by o row x is)
     begun-holds o row reached.Operand is h k j = or-bad-holds o is h j
@@ -134,7 +134,7 @@ module _ (I : Invariant) (built : IsBuilt I) where
 
     begins-hold : (xs : List Element) (ends : Bool) (n : ℕ) (is : List Insert) → Each IsElement xs → Is is → Both BegunHolds (begins w xs ends n is)
     begins-hold xs ends n is all j =
-        begun-holds (operand_of ends (forms xs)) (walked w (inner (first_word w.words (forms xs)) n) no_trees xs) (reach (first_word w.words (forms xs)) n) is (operand-holds I built ends (forms xs) (forms-hold xs all))
+        begun-holds (operand_of ends (forms xs)) (walked w (inner (first_word w.words (forms xs)) n) no_trees xs) (reach (first_word w.words (forms xs)) n) is (operand-holds I built.closed ends (forms xs) (forms-hold xs all))
         (walked-holds (inner (first_word w.words (forms xs)) n) no_trees xs is tt all j) j
 
     abbrev IsTail : Tail → Type 0

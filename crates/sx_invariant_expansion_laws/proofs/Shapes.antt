@@ -20,7 +20,7 @@ use Rattle.sx_invariant_laws.proofs.Eachs.{each_and}
 use Rattle.sx_invariant_laws.proofs.Matches.{elements_of_tree}
 use Rattle.sx_invariant_laws.proofs.Trees.{OkHolds}
 use Rattle.sx_invariant_laws.specs.Invariant.{Invariant}
-use Rattle.sx_invariant_expansion_laws.specs.Kept.{IsBuilt}
+use Rattle.sx_invariant_laws.specs.Closed.{IsClosed}
 
 -- where there is a value, this holds of it
 pub then-holds : {A B E : Type 0} (P : A → Type 0) (Q : B → Type 0) (r : Result A E) (k : A → Result B E) → OkHolds P r → ((a : A) → P a → OkHolds Q (k a)) → OkHolds Q (r >>= k)
@@ -47,7 +47,7 @@ all-of-holds A B f k done [] h g = h
 all-of-holds {X} {Y} A B f k done (x ∷ xs) h g =
     some-holds B (Each B) (f x) (λ y. all_of f (done ++ y ∷ []) xs) (k x g.0) (λ y j. all-of-holds A B f k (done ++ y ∷ []) xs (each_and B done y h j) g.1)
 
-module _ (I : Invariant) (built : IsBuilt I) where
+module _ (I : Invariant) (parts : IsClosed I) where
   abbrev pub T : Tree → Type 0
   T t = I.trees t
 
@@ -84,11 +84,11 @@ module _ (I : Invariant) (built : IsBuilt I) where
   pub tail-holds : (t : Tree) → T t → T (tail_of t)
   tail-holds (atom s a) h = h
   tail-holds (leaf s x c) h = h
-  tail-holds (pair s a d) h = tail-holds d (built.closed.rest s a d h)
+  tail-holds (pair s a d) h = tail-holds d (parts.rest s a d h)
   tail-holds (vector s d) h = h
 
   pub elements-hold : (t : Tree) → T t → Ts (elements t)
-  elements-hold t h = elements_of_tree I built.closed t h
+  elements-hold t h = elements_of_tree I parts t h
 
   pub proper-holds : (t : Tree) → T t → OptionHolds Ts (proper_elements t)
   proper-holds t h = if-holds Ts (is_nil (tail_of t)) (Some (elements t)) None (elements-hold t h) tt
@@ -194,7 +194,7 @@ module _ (I : Invariant) (built : IsBuilt I) where
   split-holds : (t : Tree) → T t → OptionHolds SplitHolds (split_first t)
   split-holds (atom s a) h = tt
   split-holds (leaf s x c) h = tt
-  split-holds (pair s a d) h = (built.closed.first s a d h, built.closed.rest s a d h)
+  split-holds (pair s a d) h = (parts.first s a d h, parts.rest s a d h)
   split-holds (vector s d) h = tt
 
   procedure-holds : (body : List Tree) (x : Split) → Ts body → SplitHolds x → OptionHolds ShapeHolds (procedure_of body x)

@@ -173,7 +173,7 @@ module _ (I : Invariant) (kept : IsKept I) where
   bind-rest-holds frame place level (Some id) s h k =
       gave-after Taken Taken (bind_variable frame place level false id s) (λ l. give (Some l)) (variable-holds frame place level false id s h k) (λ l t i j. (i, tt))
 
-  pub bind-formals-holds : (frame : FrameNo) (place : Span) (level : ℕ) (ids : FormalIds) (s : State) → F s → FormalsHold I kept.built ids → Gave Taken (bind_formals frame place level ids s)
+  pub bind-formals-holds : (frame : FrameNo) (place : Span) (level : ℕ) (ids : FormalIds) (s : State) → F s → FormalsHold I kept.built.closed ids → Gave Taken (bind_formals frame place level ids s)
   unfolding bind_formals
   bind-formals-holds frame place level ids s h k =
       gave-after Taken Taken (bind_all frame place level ids.required s) _ (bind-all-holds frame place level ids.required s h k.0)
@@ -185,7 +185,7 @@ module _ (I : Invariant) (kept : IsKept I) where
   BoundHolds b = I.trees b.init
 
   abbrev pub SpecAt : BindingSpec → Type 0
-  SpecAt b = SpecHolds I kept.built b
+  SpecAt b = SpecHolds I kept.built.closed b
 
   bind-spec-holds : (frame : FrameNo) (place : Span) (level : ℕ) (b : BindingSpec) (s : State) → F s → SpecAt b → Gave BoundHolds (bind_spec frame place level b s)
   unfolding bind_spec

@@ -17,20 +17,19 @@ use Rattle.sx_invariant_laws.specs.Invariant.{Invariant}
 use Rattle.sx_invariant_laws.specs.Steady.{IsSteady}
 use Rattle.sx_invariant_laws.proofs.Trees.{OkHolds}
 
--- Forms keep it: it holds of trees with other spans, of the identifiers that quasi forms make, and of the datum and the symbol of each tree of which
--- it holds.
+-- Forms keep it: it holds of trees with other spans, and of the datum and the symbol of each tree of which it holds.
 pub record IsBuilt (I : Invariant) : Type 0 where
   pub closed : IsClosed I
   pub spanned : (s : Option Span) (t : Tree) → I.trees t → I.trees (spanned s t)
   pub unspanned : (t : Tree) → I.trees t → I.trees (unspanned t)
-  pub insert : (k : ℕ) → I.trees (insert_leaf k)
-  pub ellipsis : I.trees dots
   pub constants : (t : Tree) → I.trees t → I.constants (strip t)
   pub symbols : (s : Option Span) (x : List ℕ) (c : LeafContext) → I.trees (leaf s x c) → I.symbols x
 
--- So do evaluations and record forms, and of a clause it asks nothing of the pattern.
+-- So do evaluations and record forms; it holds of the identifiers that quasi forms make, and of a clause it asks nothing of the pattern.
 pub record IsKept (I : Invariant) : Type 1 where
   pub built : IsBuilt I
   pub steady : IsSteady I
+  pub insert : (k : ℕ) → I.trees (insert_leaf k)
+  pub ellipsis : I.trees dots
   pub records : (fs : Scope) (t : Tree) (f : CoreForm) (place : Span) (own : LibName) (count : ℕ) → I.trees t → OkHolds I.trees (record_forms fs t f place (record_uid own t count))
   pub clauses : (p : PlainPattern) (A : Type 0) → A → I.clauses p A

@@ -9,6 +9,8 @@ use Rattle.sx_core.specs.declared.core_form.CoreForm.{CoreForm}
 use Rattle.sx_core.specs.declared.record.LibRecord.{LibRecord}
 use Rattle.sx_value.specs.Cells.{Each}
 use Rattle.sx_eval.specs.Codes.{Codes}
+use Rattle.sx_quasi.specs.QuasiSyntax.{insert_leaf}
+use Rattle.sx_quasi_code.specs.Inserted.{dots}
 use Rattle.sx_records.specs.Forms.{record_forms}
 use Rattle.sx_records.specs.Names.{record_uid}
 use Rattle.sx_expand.specs.Expanding.{ready, library_record}
@@ -22,6 +24,8 @@ use Rattle.sx_invariant_expansion_laws.specs.Records.{RecordHolds}
 pub record AreKeptByForms (t : Tests) : Type 0 where
   pub evaluation : AreKept t
   pub built : IsBuilt (passing t)
+  pub insert : (k : ℕ) → IsTrue (t.trees (insert_leaf k))
+  pub ellipsis : IsTrue (t.trees dots)
   pub records : (fs : Scope) (u : Tree) (f : CoreForm) (place : Span) (own : LibName) (count : ℕ) → IsTrue (t.trees u) → OkHolds (λ (v : Tree). IsTrue (t.trees v)) (record_forms fs u f place (record_uid own u count))
 
 -- If the forms of a library pass, the records before it and the codes of texts, so does its record: the constants of its lines and of its keywords'

@@ -15,8 +15,6 @@ module _ (T : Tree → Type 0) (lawful : IsLawful T) where
     closed = trees-closed T lawful;
     spanned = lawful.spanned;
     unspanned = lawful.unspanned;
-    insert = λ k. lawful.leaves None _ _;
-    ellipsis = lawful.leaves None _ _;
     constants = strip_holds T lawful;
     symbols = λ s x c h. tt;
   }
@@ -25,6 +23,8 @@ module _ (T : Tree → Type 0) (lawful : IsLawful T) where
   trees-kept = record {
     built = trees-built;
     steady = trees-steady T lawful;
+    insert = λ k. lawful.leaves None _ _;
+    ellipsis = lawful.leaves None _ _;
     records = λ fs t f place own count h. record-holds T lawful fs t f place (record_uid own t count);
     clauses = λ p A h. h;
   }

@@ -1,4 +1,3 @@
-pub mod Built
 pub mod Shapes
 pub mod Records
 pub mod Kept
