@@ -216,7 +216,7 @@ pub fn encode_entry(alloc: Global, entry: &Entry) -> Result<Option<Vec<u8>>, Mem
 }
 
 /// The entry that all of the bytes spell, or nothing where they spell none.
-pub(crate) fn decode_entry(alloc: Global, bytes: &[u8]) -> Result<Option<Entry>, Memory>
+pub fn decode_entry(alloc: Global, bytes: &[u8]) -> Result<Option<Entry>, Memory>
     ensures { IfOk result (λ o. o ≡ spell.decode bytes.now) }
 {
     let mut libraries = Libraries::new(alloc);

@@ -58,7 +58,7 @@ fn are_at(sources: &[Source], chosen: &[usize], kept: &[Source]) -> bool
 
 /// Whether an entry is of these roots, and of the sources at these places, in their order. It takes no memory.
 #[tactic(auto, unfolding(crate::specs::Fits::fits))]
-pub(crate) fn fits(entry: &Entry, roots: &[Symbol], sources: &[Source], chosen: &[usize]) -> bool
+pub fn fits(entry: &Entry, roots: &[Symbol], sources: &[Source], chosen: &[usize]) -> bool
     ensures { result ≡ fits entry.now roots.now sources.now chosen.now }
 {
     entry.roots.as_slice() == roots && are_at(sources, chosen, entry.sources.as_slice())

@@ -25,7 +25,7 @@ pub struct Misplaced {
 }
 
 /// The span of these bytes of a file.
-pub(crate) fn span_at(file: &Symbol, at: Extent) -> Result<Option<Span>, Memory>
+pub fn span_at(file: &Symbol, at: Extent) -> Result<Option<Span>, Memory>
     ensures { IfOk result (λ s. s ≡ span_at file.now at) }
 {
     let file = file.share()?;
