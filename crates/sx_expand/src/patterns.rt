@@ -41,13 +41,6 @@ struct FramedCase<'a> {
     case: &'a PatternCase,
 }
 
-/// The fender of a clause where there is one, and its output.
-#[derive(Drop)]
-struct ClauseCode {
-    fender: Option<Core>,
-    output: Core,
-}
-
 #[cycle(form)]
 fn fender<M: Transformers, N: Ledger, L: Ledger>(
     state: &mut Expansion<L>,
@@ -130,34 +123,21 @@ fn clause_of<M: Transformers, N: Ledger, L: Ledger>(
 ) -> Result<Clause, Stop>
     ensures { GivesAfter (λ c. c) result state.new (after (fender (inside (M.records at.now.means.now) at.now.room) at.now.place.now at.now.level at.now.depth framed.now.frame.now framed.now.case.now.fender state.old) (λ f s. after ((inside (M.records at.now.means.now) at.now.room).form at.now.place.now at.now.level at.now.depth (stamp framed.now.frame.now framed.now.case.now.output) s) (λ o. give (record { pattern = pattern; fender = f; output = o })))) }
 {
-    match clause_code(state, framed, at, counts) {
-        Ok(ClauseCode { fender, output }) => Ok(Clause {
-            pattern,
-            fender,
-            output,
-        }),
+    match fender(state, framed.frame, &framed.case.fender, at, counts) {
+        Ok(fender) => match expression_in(state, framed.frame, &framed.case.output, at, counts) {
+            Ok(output) => Ok(Clause {
+                pattern,
+                fender,
+                output,
+            }),
+            Err(stop) => {
+                drop(pattern);
+                drop(fender);
+                Err(stop)
+            }
+        },
         Err(stop) => {
             drop(pattern);
-            Err(stop)
-        }
-    }
-}
-
-/// The fender and the output of a clause.
-#[cycle(form)]
-fn clause_code<M: Transformers, N: Ledger, L: Ledger>(
-    state: &mut Expansion<L>,
-    framed: &FramedCase,
-    at: &FormAt<M>,
-    counts: &mut Counts<N, L>,
-) -> Result<ClauseCode, Stop>
-    ensures { GivesAfter (λ c. c) result state.new (after (fender (inside (M.records at.now.means.now) at.now.room) at.now.place.now at.now.level at.now.depth framed.now.frame.now framed.now.case.now.fender state.old) (λ f s. after ((inside (M.records at.now.means.now) at.now.room).form at.now.place.now at.now.level at.now.depth (stamp framed.now.frame.now framed.now.case.now.output) s) (λ o. give (record { fender = f; output = o })))) }
-{
-    let fender = fender(state, framed.frame, &framed.case.fender, at, counts)?;
-    match expression_in(state, framed.frame, &framed.case.output, at, counts) {
-        Ok(output) => Ok(ClauseCode { fender, output }),
-        Err(stop) => {
-            drop(fender);
             Err(stop)
         }
     }

@@ -127,13 +127,13 @@ abbrev pub decreases-patterns::fender : goal.decreases-patterns::fender
 decreases-patterns::fender g l = 32 * l.at.now.room + 2
 
 abbrev pub decreases-patterns::pattern_clause : goal.decreases-patterns::pattern_clause
-decreases-patterns::pattern_clause g l = 32 * l.at.now.room + 6
+decreases-patterns::pattern_clause g l = 32 * l.at.now.room + 5
 
 abbrev pub decreases-patterns::all_clauses : goal.decreases-patterns::all_clauses
-decreases-patterns::all_clauses g l = 32 * l.at.now.room + 7
+decreases-patterns::all_clauses g l = 32 * l.at.now.room + 6
 
 abbrev pub decreases-patterns::syntax_case : goal.decreases-patterns::syntax_case
-decreases-patterns::syntax_case g l = 32 * l.at.now.room + 8
+decreases-patterns::syntax_case g l = 32 * l.at.now.room + 7
 
 abbrev pub invariant-keywords::all_keywords-loop-one : goal.invariant-keywords::all_keywords-loop-one
 invariant-keywords::all_keywords-loop-one g l = gather (keyword_in (inside (g.M.Transformers.records l.at.means.now) l.at.room) l.at.place.now l.at.level l.at.depth l.scope.recursive l.scope.frame.now) tt (map (λ b. b) (drop l.one-index l.bound)) l.state ≡ all_keywords (inside (g.M.Transformers.records l.at.means.now) l.at.room) l.at.place.now l.at.level l.at.depth l.scope.recursive l.scope.frame.now l.bound l.fn.state
@@ -157,7 +157,7 @@ abbrev pub decreases-expression::expression_in : goal.decreases-expression::expr
 decreases-expression::expression_in g l = 32 * l.at.now.room + 1
 
 abbrev pub decreases-patterns::clause_in : goal.decreases-patterns::clause_in
-decreases-patterns::clause_in g l = 32 * l.at.now.room + 5
+decreases-patterns::clause_in g l = 32 * l.at.now.room + 4
 
 abbrev pub decreases-body::taken_of : goal.decreases-body::taken_of
 decreases-body::taken_of g l = 32 * l.at.now.room + 2
@@ -181,10 +181,7 @@ abbrev pub decreases-quasi::cores_of : goal.decreases-quasi::cores_of
 decreases-quasi::cores_of g l = 32 * l.at.now.room + 2
 
 abbrev pub decreases-patterns::clause_of : goal.decreases-patterns::clause_of
-decreases-patterns::clause_of g l = 32 * l.at.now.room + 4
-
-abbrev pub decreases-patterns::clause_code : goal.decreases-patterns::clause_code
-decreases-patterns::clause_code g l = 32 * l.at.now.room + 3
+decreases-patterns::clause_of g l = 32 * l.at.now.room + 3
 
 abbrev pub decreases-quasi::quasi_made : goal.decreases-quasi::quasi_made
 decreases-quasi::quasi_made g l = 32 * l.at.now.room + 3
