@@ -11,8 +11,9 @@
 //! of the store that fails costs a library its expansion at most.
 //!
 //! The promise, on `take_turns`: the records are those that the store had for the sources of this run and those of
-//! expansion, each behind the ones before it; and what is put is the entry of what was expanded. The fuel that is spent is that of the expansions. That over an honest
-//! store all of them are those of expansion, and that it is honest afterwards, `sx_local_laws` says.
+//! expansion, each behind the ones before it; what is put is the entry of what was expanded; and the fuel rises by just
+//! what the expansions spend. That over an honest store all of them are those of expansion, and that it is honest
+//! afterwards, `sx_local_laws` says.
 #![tactic(auto)]
 
 pub mod entry;
