@@ -12,8 +12,8 @@
 //! It imports all that the implementation gives and it doesn't define itself. A program's `or` stands for the label
 //! under which its record exports it.
 //!
-//! The promise: `derived_record` gives exactly the record of its definition and spends exactly its fuel; only want of
-//! memory is free.
+//! The promise: `derived_record` gives exactly the record of its definition, for which exactly its fuel is spent; only
+//! want of memory is free.
 #![tactic(auto)]
 
 pub mod derived;
