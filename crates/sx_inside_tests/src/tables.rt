@@ -105,6 +105,7 @@ fn put(alloc: Global, records: &mut ReadyRecords, word: &str) -> Result<(), Memo
 const MOST: u64 = 3;
 
 // The records so far, and the fuel of expansions.
+#[derive(Drop)]
 struct Run<L: Ledger> {
     alloc: Global,
     records: ReadyRecords,
