@@ -1,0 +1,5 @@
+pub mod Refused
+pub mod Read
+pub mod Uneven
+pub mod Caused
+pub mod Meeting
