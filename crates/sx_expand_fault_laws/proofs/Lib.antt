@@ -1,0 +1,5 @@
+pub mod Told
+pub mod Identifiers
+pub mod Bindings
+pub mod Uses
+pub mod Evaluations

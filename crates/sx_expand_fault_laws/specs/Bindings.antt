@@ -1,0 +1,46 @@
+-- Second binders, and exports of what isn't bound (R6RS 5.2, 7.1 and 11.2).
+use Rattle.std.specs.Prelude.{◌≡◌, ℕ, Bool, true, false, List, [], ◌∷◌, None, Some, Err}
+use Rattle.sx_base.specs.declared.fault.Fault.{Fault}
+use Rattle.sx_base.specs.declared.fault.FaultKind.TheVariants as kind
+use Rattle.sx_base.specs.declared.name.FrameNo.{FrameNo}
+use Rattle.sx_base.specs.declared.name.Label.{Label}
+use Rattle.sx_base.specs.declared.name.Mark.{Mark}
+use Rattle.sx_base.specs.declared.span.Span.{Span}
+use Rattle.sx_tree.specs.Changes.{stamp}
+use Rattle.sx_tree.specs.Leaves.{marks_of}
+use Rattle.sx_tree.specs.Tree.{Tree}
+use Rattle.sx_frames.specs.Rows.{Row}
+use Rattle.sx_frames.specs.Scope.{rows_at}
+use Rattle.sx_scope.specs.Stands.{symbol_of, stands}
+use Rattle.sx_shapes.specs.Lists.{is_leaf}
+use Rattle.sx_shapes.specs.declared.shape.BindingSpec.{BindingSpec}
+use Rattle.sx_standing.specs.Binders.{bind_variable}
+use Rattle.sx_standing.specs.State.{State}
+use Rattle.sx_standing.specs.Uses.{bind_keyword}
+use Rattle.sx_expand.specs.Top.{exports}
+use Rattle.sx_expand.specs.declared.top.TopAt.{TopAt}
+use Rattle.sx_expand_fault_laws.specs.Told.{Tells}
+
+-- some row binds the symbol under the marks
+pub data IsBound (x : List ℕ) (ms : List Mark) : List Row → Type 0 where
+  by_this_row : {r : Row} {rs : List Row} → r.symbol ≡ x → r.marks ≡ ms → IsBound x ms (r ∷ rs)
+  by_another_row : {r : Row} {rs : List Row} → IsBound x ms rs → IsBound x ms (r ∷ rs)
+
+-- A frame binds an identifier once. The second binder is the fault, and what is no identifier is no binder.
+pub data IsBadBinder (s : State) (frame : FrameNo) (id : Tree) (place : Span) (f : Fault) : Type 0 where
+  second : is_leaf id ≡ true → IsBound (symbol_of id) (marks_of id) (rows_at frame s.frames) → Tells kind.Duplicate id place (symbol_of id ∷ []) f → IsBadBinder s frame id place f
+  no_identifier : is_leaf id ≡ false → Tells kind.BadForm id place [] f → IsBadBinder s frame id place f
+
+-- The first export, in order, whose identifier stands for nothing in the library.
+pub data IsBadExport (s : State) (at : TopAt) (f : Fault) : List (List ℕ × Tree) → Type 0 where
+  this_export : {external : List ℕ} {id : Tree} {es : List (List ℕ × Tree)} → stands s.frames (stamp at.frame id) ≡ None → Tells kind.ExportUnbound id at.place (symbol_of id ∷ []) f → IsBadExport s at f ((external, id) ∷ es)
+  another_export : {external : List ℕ} {id : Tree} {l : Label} {es : List (List ℕ × Tree)} → stands s.frames (stamp at.frame id) ≡ Some l → IsBadExport s at f es → IsBadExport s at f ((external, id) ∷ es)
+
+-- Binders and exports are at fault exactly so.
+pub record BindingsAreTold : Type 0 where
+  pub variable_binders : (frame : FrameNo) (place : Span) (level : ℕ) (top : Bool) (id : Tree) (s : State) (f : Fault) → IsBadBinder s frame id place f → bind_variable frame place level top id s ≡ Err f
+  pub variable_binders_only : (frame : FrameNo) (place : Span) (level : ℕ) (top : Bool) (id : Tree) (s : State) (f : Fault) → bind_variable frame place level top id s ≡ Err f → IsBadBinder s frame id place f
+  pub keyword_binders : (frame : FrameNo) (place : Span) (level : ℕ) (b : BindingSpec) (s : State) (f : Fault) → IsBadBinder s frame b.id place f → bind_keyword frame place level b s ≡ Err f
+  pub keyword_binders_only : (frame : FrameNo) (place : Span) (level : ℕ) (b : BindingSpec) (s : State) (f : Fault) → bind_keyword frame place level b s ≡ Err f → IsBadBinder s frame b.id place f
+  pub unbound_exports : (at : TopAt) (es : List (List ℕ × Tree)) (s : State) (f : Fault) → IsBadExport s at f es → exports at es s ≡ Err f
+  pub unbound_exports_only : (at : TopAt) (es : List (List ℕ × Tree)) (s : State) (f : Fault) → exports at es s ≡ Err f → IsBadExport s at f es
