@@ -26,7 +26,8 @@ use Rattle.sx_shape_laws.specs.Grammar as g
 use Rattle.sx_shape_laws.specs.Records.{IsWord}
 use Rattle.sx_value.specs.Cells.{Each}
 use Rattle.sx_pattern.specs.Keywords.{is_form, is_ellipsis}
-use Rattle.sx_template.specs.Compile.{Context, variable_made, bound_made, label_made, is_special, Element, dots, dots_behind, reach, with_ellipses, fitted, item_made, walked, template_of, items_of, list_joined, vector_joined, escape_of, unescaped, list_parts, list_made, vector_made, template, elements_made, tail_made, with_template}
+use Rattle.sx_template.specs.Compile.{Context, bound_made, label_made, is_special, Element, dots, dots_behind, reach, with_ellipses, fitted, item_made, walked, template_of, items_of, list_joined, vector_joined, escape_of, unescaped, list_parts, list_made, vector_made, template, tail_made, with_template}
+use Rattle.sx_template.proofs.Levels.{elements_are}
 use Rattle.sx_pattern_laws.specs.Patterns.{IsChain}
 use Rattle.sx_pattern_laws.specs.Patterns as p
 use Rattle.sx_compiled_laws.specs.Templates.{IsBound, IsOther, IsFree, AreDotted, IsRepeated, constants, list_by, vector_by, IsTemplate, AreItems, IsBadTemplate, HoldsLists, Comes, TemplatesAreCompiled}
@@ -34,7 +35,7 @@ use Rattle.sx_compiled_laws.specs.Templates as r
 use Rattle.sx_pattern_laws.proofs.Words.{form-is, ellipsis-is, untold}
 use Rattle.sx_pattern_laws.proofs.Patterns.{chain-elements, chain-tail}
 use Rattle.sx_compiled_laws.proofs.Joining.{Made, MadeItem, unescaped-template, Tells, then-tells, tells-if, both-tell, Part, list-joins, vector-joins}
-use Rattle.sx_compiled_laws.proofs.Templates.{unspanned-chain, unspanned-list, list-elements, elements-are, Gave, Told, IsBadIn, Skips, none_skipped, one_skipped, GaveItems, Walks, all-items, after-item, walk-told, list-template, list-template-is, told, all-told, tail-told}
+use Rattle.sx_compiled_laws.proofs.Templates.{unspanned-chain, unspanned-list, list-elements, Gave, Told, IsBadIn, Skips, none_skipped, one_skipped, Walks, all-items, after-item, walk-told, list-template, list-template-is, told, all-told, tail-told}
 
 -- no ellipsis is left
 past : (es : List Tree) (n : ℕ) → length es ≤ n → slice_get es n ≡ None
@@ -253,7 +254,7 @@ module _ (c : Context) where
     comes (r.a_vector {escaped = escaped} {under = under} {span = s} {t = d} {xs = xs} {is = is} l are) holds =
         let all : Each (Told c) xs = subst (Each (Told c)) (list-elements l) (all-told c d holds.1) in
         let each : Each HoldsLists xs = subst (Each HoldsLists) (list-elements l) (each-holds d holds.1) in
-        subst (λ (ys : List Element). Tells (Is (vector_by is (constants is))) IsDeep (vector_made c escaped (vector s d) ys under)) (sym (elements-are c d ∙ ap (map (with_template c)) (list-elements l)))
+        subst (λ (ys : List Element). Tells (Is (vector_by is (constants is))) IsDeep (vector_made c escaped (vector s d) ys under)) (sym (elements_are c d ∙ ap (map (with_template c)) (list-elements l)))
         (vector-comes escaped under s d xs is l all (items-come are all each []))
 
     items-come : {escaped : Bool} {under : ℕ} {ts : List Tree} {is : PlainItems} → AreItems c escaped under ts is → Each (Told c) ts → Each HoldsLists ts → (items : List MadeItem) → Tells (AreAll is items) IsDeep (walked c escaped under 0 items (map (with_template c) ts))

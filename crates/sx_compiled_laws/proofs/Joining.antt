@@ -1,5 +1,5 @@
 -- What comes of the parts of a list or vector in a template.
-use Rattle.std.proofs.Common.{◌≡◌, ℕ, zero, suc, ◌+◌, ◌-◌, ◌≤◌, ◌<◌, Bool, true, false, List, [], ◌∷◌, map, Option, None, Some, Result, Ok, Err, refl, sym, ◌∙◌, ap, subst, arith, inl, inr, nat_lt, if◌then◌else◌}
+use Rattle.std.proofs.Common.{◌≡◌, ℕ, ◌≤◌, ◌<◌, Bool, true, false, List, [], ◌∷◌, map, Option, None, Some, Result, Ok, Err, refl, sym, ◌∙◌, ap, subst, arith, inl, inr, nat_lt, if◌then◌else◌}
 use Rattle.std.specs.Prelude.{◌⊎◌, ◌||◌, max}
 use Rattle.std.proofs.Math.Nat.{le-max_left, le-max_right}
 use Rattle.std.proofs.lemmas.Bool.Decides.{nat_tests}
@@ -11,7 +11,8 @@ use Rattle.sx_base.specs.declared.span.Span.{Span}
 use Rattle.sx_tree.specs.Measures.{fits, within, too_deep}
 use Rattle.sx_tree.specs.Tree as tree
 use Rattle.sx_tree.specs.Tree.{Tree, nil, chain, span_of, spanned, unspanned, is_list, rest_of, list_of, vector_of}
-use Rattle.sx_core.specs.Template.{PlainTemplate, variable, constant, list, vector, PlainItems, none, more}
+use Rattle.sx_tree.proofs.TreeLaws.{unspanned-spanned}
+use Rattle.sx_core.specs.Template.{PlainTemplate, variable, constant, list, vector, PlainItems}
 use Rattle.sx_core_laws.specs.Templates.{HasDepth, ItemHasDepth}
 use Rattle.sx_shapes.specs.At.{fault_at}
 use Rattle.sx_template.specs.Compile.{reach, constant_of, template_of, items_of, reaches, is_fixed, all_fixed, is_changed, any_changed, tree_before, trees, rebuilt, placed, fixed_list, list_joined, fixed_vector, vector_joined, unescaped}
@@ -92,12 +93,6 @@ both-tell P R Q S (Err f) h k = k
 
 -- Trees without spans.
 
-pub spanned-is : (s : Option Span) (t : Tree) → unspanned (spanned s t) ≡ unspanned t
-spanned-is s (tree.atom p a) = refl
-spanned-is s (tree.leaf p x k) = refl
-spanned-is s (tree.pair p a d) = refl
-spanned-is s (tree.vector p d) = refl
-
 pub chain-is : (ts : List Tree) (r : Tree) → unspanned (chain ts r) ≡ chain (map unspanned ts) (unspanned r)
 chain-is [] r = refl
 chain-is (t ∷ ts) r = ap (tree.pair None (unspanned t)) (chain-is ts r)
@@ -106,7 +101,7 @@ rest-is : (t : Tree) → unspanned (rest_of t) ≡ unspanned t
 rest-is t = by (is_list t)
   where
     by : (b : Bool) → unspanned (if b then spanned None t else t) ≡ unspanned t
-    by true = spanned-is None t
+    by true = unspanned-spanned None t
     by false = refl
 
 list-is : (ts : List Tree) (r : Tree) → unspanned (list_of ts (Some r)) ≡ chain (map unspanned ts) (unspanned r)
@@ -210,7 +205,7 @@ module _ (place : Span) (t : Tree) (is : List MadeItem) (m : Made) where
     fixed-joins h k = tells-if (Part t joins) IsDeep (is_changed m || any_changed is) _ _
         (λ c. within-tells (Part t joins) IsDeep (list_of (trees is) (Some (tree_in m))) (λ x. rebuilt place t x)
         (fixed-part t (spanned (span_of t) (list_of (trees is) (Some (tree_in m)))) joins _ refl refl
-        (ap constant (spanned-is (span_of t) (list_of (trees is) (Some (tree_in m))) ∙ list-is (trees is) (tree_in m)) ∙ constant-is h k) (λ no. absurd (cc)))
+        (ap constant (unspanned-spanned (span_of t) (list_of (trees is) (Some (tree_in m))) ∙ list-is (trees is) (tree_in m)) ∙ constant-is h k) (λ no. absurd (cc)))
         refl)
         (λ c. let b = both-same (is_changed m) (any_changed is) c in fixed-part t t joins _ refl refl (ap constant (same-tree h k b.1 b.0) ∙ constant-is h k) (λ no. refl))
 

@@ -21,21 +21,22 @@ use Rattle.sx_core.specs.declared.binding.Binding.TheVariants as binding
 use Rattle.sx_core.specs.declared.core_form.CoreForm.TheVariants as form
 use Rattle.sx_core_laws.specs.Templates.{HasDepth, ItemHasDepth}
 use Rattle.sx_shapes.specs.At.{fault_at}
-use Rattle.sx_shapes.specs.Lists.{is_nil, elements, tail_of, proper_elements}
+use Rattle.sx_shapes.specs.Lists.{is_nil, elements, tail_of}
 use Rattle.sx_shape_laws.specs.Grammar.{IsId, IsList}
 use Rattle.sx_shape_laws.specs.Grammar as g
 use Rattle.sx_shape_laws.specs.Records.{IsWord}
 use Rattle.sx_shape_laws.proofs.Sound.{proper, some-is}
 use Rattle.sx_value.specs.Cells.{Each}
-use Rattle.sx_pattern.specs.Keywords.{is_form, is_ellipsis}
-use Rattle.sx_template.specs.Compile.{Context, bad, variable_made, bound_made, label_made, is_special, leaf_made, Element, dots, dots_behind, reach, with_ellipses, fitted, item_made, walked, template_of, items_of, reaches, is_fixed, all_fixed, is_changed, any_changed, trees, tree_before, list_joined, vector_joined, escape_of, unescaped, list_parts, list_made, vector_made, template, elements_made, tail_made, with_template, compiled}
+use Rattle.sx_pattern.specs.Keywords.{is_ellipsis}
+use Rattle.sx_template.specs.Compile.{Context, bad, variable_made, bound_made, label_made, is_special, Element, dots, dots_behind, reach, with_ellipses, fitted, item_made, walked, template_of, items_of, reaches, is_fixed, all_fixed, is_changed, any_changed, trees, list_joined, vector_joined, escape_of, unescaped, list_parts, list_made, vector_made, template, tail_made, with_template}
+use Rattle.sx_template.proofs.Levels.{elements_are, tail_is}
 use Rattle.sx_pattern_laws.specs.Patterns.{IsChain, IsPart, IsIn}
 use Rattle.sx_pattern_laws.specs.Patterns as p
 use Rattle.sx_compiled_laws.specs.Templates.{IsBound, IsOther, IsFree, AreFree, AreDotted, IsRepeated, before, constants, list_by, vector_by, IsTemplate, AreItems, IsBadPart, IsBadTemplate, HoldsLists, IsMade, OthersAreBadTemplates}
 use Rattle.sx_compiled_laws.specs.Templates as r
 use Rattle.sx_pattern_laws.proofs.Words.{form-is, ellipsis-is}
 use Rattle.sx_pattern_laws.proofs.Patterns.{chain-of, chain-elements, chain-tail, element-part, tail-part}
-use Rattle.sx_compiled_laws.proofs.Joining.{Made, MadeItem, tree_in, first, is_constant, fixed-template, fixed-before, fixed-reach, unescaped-fixed, unescaped-changed, unescaped-template, unescaped-reach, Tells, then-tells, tells-if, tells-of, Part, Parts, max-parts, list-joins, vector-joins}
+use Rattle.sx_compiled_laws.proofs.Joining.{Made, MadeItem, tree_in, is_constant, fixed-template, fixed-before, fixed-reach, unescaped-fixed, unescaped-changed, unescaped-template, unescaped-reach, Tells, then-tells, tells-if, Part, Parts, max-parts, list-joins, vector-joins}
 
 -- Forms without spans.
 
@@ -55,18 +56,6 @@ chain-list : {xs : List Tree} {e t : Tree} → IsChain xs e t → is_nil e ≡ t
 chain-list {xs} {e} {t} h n = proper t xs (ap (λ b. if b then Some (elements t) else None) (ap is_nil (chain-tail h) ∙ n) ∙ ap Some (chain-elements h))
 
 module _ (c : Context) where
-  pub elements-are : (t : Tree) → elements_made c t ≡ map (with_template c) (elements t)
-  elements-are (atom s a) = refl
-  elements-are (leaf s x k) = refl
-  elements-are (pair s a d) = ap (λ (xs : List Element). (a, template c a) ∷ xs) (elements-are d)
-  elements-are (vector s d) = refl
-
-  pub tail-is : (t : Tree) → tail_made c t ≡ template c (tail_of t)
-  tail-is (atom s a) = refl
-  tail-is (leaf s x k) = refl
-  tail-is (pair s a d) = tail-is d
-  tail-is (vector s d) = refl
-
   -- What is told of a form.
 
   pub record Gave (escaped : Bool) (under : ℕ) (t : Tree) (m : Made) : Type 0 where
@@ -372,8 +361,8 @@ module _ (c : Context) where
 
   pub list-template-is : (s : Option Span) (a d : Tree) (escaped : Bool) (under : ℕ) → template c (pair s a d) escaped under ≡ list-template (pair s a d) (a ∷ elements d) (tail_of d) escaped under
   list-template-is s a d escaped under =
-      ap (λ (xs : List Element). list_made c escaped (pair s a d) ((a, template c a) ∷ xs) (tail_made c d) under (escape_of c.frames escaped ((a, template c a) ∷ xs) (is_nil (tail_of d)))) (elements-are d)
-      ∙ ap (λ (go : Bool → ℕ → Result Made Fault). list_made c escaped (pair s a d) (map (with_template c) (a ∷ elements d)) go under (escape_of c.frames escaped (map (with_template c) (a ∷ elements d)) (is_nil (tail_of d)))) (tail-is d)
+      ap (λ (xs : List Element). list_made c escaped (pair s a d) ((a, template c a) ∷ xs) (tail_made c d) under (escape_of c.frames escaped ((a, template c a) ∷ xs) (is_nil (tail_of d)))) (elements_are c d)
+      ∙ ap (λ (go : Bool → ℕ → Result Made Fault). list_made c escaped (pair s a d) (map (with_template c) (a ∷ elements d)) go under (escape_of c.frames escaped (map (with_template c) (a ∷ elements d)) (is_nil (tail_of d)))) (tail_is c d)
 
   module _ (t u x : Tree) (xs : List Tree) (ch : IsChain (x ∷ xs) u t) (all : Each Told (x ∷ xs)) (last : Told u) where
     abbrev Lists : Bool → ℕ → Result Made Fault → Type 0
@@ -429,7 +418,7 @@ module _ (c : Context) where
   vector-told : (s : Option Span) (d : Tree) → IsList (elements d) d → Each Told (elements d) → Told (vector s d)
   vector-told s d l all escaped under =
       let t = vector s d in
-      subst (λ (xs : List Element). Tells (Gave escaped under t) (IsBadTemplate c t) (vector_made c escaped t xs under)) (sym (elements-are d))
+      subst (λ (xs : List Element). Tells (Gave escaped under t) (IsBadTemplate c t) (vector_made c escaped t xs under)) (sym (elements_are c d))
       (then-tells (Walks escaped under (elements d) []) (IsBadIn (elements d)) (Gave escaped under t) (IsBadTemplate c t) (walked c escaped under 0 [] (map (with_template c) (elements d))) (vector_joined c.place t)
       (walk-told escaped under (elements d) all none_skipped [])
       (λ is w. let h = all-items escaped under (elements d) is w in

@@ -6,16 +6,16 @@ use Rattle.sx_base.specs.declared.fault.Bare.{Bare}
 use Rattle.sx_base.specs.declared.span.Span.{Span}
 use Rattle.sx_tree.specs.Measures.{fits, within, too_deep}
 use Rattle.sx_tree.specs.Tree.{Tree, atom, leaf, pair, vector, nil, chain, span_of, spanned, unspanned, is_list, rest_of, list_of, vector_of}
+use Rattle.sx_tree.proofs.TreeLaws.{unspanned-spanned}
 use Rattle.sx_shapes.specs.Lists.{is_nil, elements, tail_of, if_some}
 use Rattle.sx_shape_laws.specs.Grammar.{IsList}
 use Rattle.sx_shape_laws.specs.Grammar as g
 use Rattle.sx_shape_laws.proofs.Sound.{proper, some-is}
 use Rattle.sx_value.specs.Cells.{Each}
-use Rattle.sx_quasi.specs.Words.{Words, inner, reach, counts}
-use Rattle.sx_quasi.specs.Parts.{rest_at, splits, taken_by, taken_at, behind_head, first_word, operand_of}
+use Rattle.sx_quasi.specs.Words.{inner, reach, counts}
+use Rattle.sx_quasi.specs.Parts.{rest_at, splits, taken_by, behind_head, first_word, operand_of}
 use Rattle.sx_quasi.specs.Quasi.{at_form}
-use Rattle.sx_quasi.specs.QuasiSyntax.{Looked, Inserts, then_insert, insert_leaf, insert, leaves, spliced, no_trees, with_part, unchanged, rebuilt, list_joined, vector_joined, joined, Element, forms, step_by, step, walked, operand_or_bad, begun_by, Tail, finished, flat, split_tail, escapes, list_made, vector_made, syntax_at, elements_made, tail_made, element, forms_walked, answer, quasi_syntax}
-use Rattle.sx_quasi.specs.declared.parts.Taken.TheVariants as taken
+use Rattle.sx_quasi.specs.QuasiSyntax.{Looked, Inserts, then_insert, insert_leaf, insert, leaves, spliced, no_trees, with_part, unchanged, rebuilt, list_joined, vector_joined, joined, Element, step_by, step, walked, operand_or_bad, begun_by, Tail, finished, flat, split_tail, escapes, list_made, vector_made, syntax_at, tail_made, element, answer}
 use Rattle.sx_quasi.specs.declared.quasi_syntax.Insert.{Insert}
 use Rattle.sx_quasi.specs.declared.quasi_syntax.Part.{Part}
 use Rattle.sx_quasi.specs.declared.quasi_syntax.QuasiSyntax.{QuasiSyntax}
@@ -24,6 +24,7 @@ use Rattle.sx_quasi.specs.declared.word.Reach.{Reach}
 use Rattle.sx_quasi.specs.declared.word.Reach.TheVariants as reached
 use Rattle.sx_quasi.specs.declared.word.Word.{Word}
 use Rattle.sx_quasi.specs.declared.word.Word.TheVariants as word
+use Rattle.sx_quasi.proofs.InsertLevels.{elements_are, tail_is, forms_are}
 use Rattle.sx_quasi_laws.specs.Filled.{level_behind, only}
 use Rattle.sx_quasi_laws.specs.Filled as report
 use Rattle.sx_quasi_laws.proofs.Puts.{map_joined, chain_joined}
@@ -35,12 +36,6 @@ use Rattle.sx_insert_laws.specs.Inserted as r
 
 -- Trees without spans.
 
-spanned-is : (s : Option Span) (t : Tree) → unspanned (spanned s t) ≡ unspanned t
-spanned-is s (atom p a) = refl
-spanned-is s (leaf p x k) = refl
-spanned-is s (pair p a d) = refl
-spanned-is s (vector p d) = refl
-
 chain-is : (ts : List Tree) (t : Tree) → unspanned (chain ts t) ≡ chain (map unspanned ts) (unspanned t)
 chain-is [] t = refl
 chain-is (x ∷ xs) t = ap (pair None (unspanned x)) (chain-is xs t)
@@ -49,7 +44,7 @@ rest-is : (t : Tree) → unspanned (rest_of t) ≡ unspanned t
 rest-is t = by (is_list t)
   where
     by : (b : Bool) → unspanned (if b then spanned None t else t) ≡ unspanned t
-    by true = spanned-is None t
+    by true = unspanned-spanned None t
     by false = refl
 
 list-is : (ts : List Tree) (t : Tree) → unspanned (list_of ts (Some t)) ≡ chain (map unspanned ts) (unspanned t)
@@ -189,22 +184,6 @@ within-tells Q t u is h = by (fits u)
     by false = tt
 
 module _ (w : Looked) where
-  elements-are : (t : Tree) → elements_made w t ≡ map (element w) (elements t)
-  elements-are (atom s a) = refl
-  elements-are (leaf s x c) = refl
-  elements-are (pair s a d) = ap (λ (xs : List Element). (a, syntax_at w a) ∷ xs) (elements-are d)
-  elements-are (vector s d) = refl
-
-  tail-is : (t : Tree) → tail_made w t ≡ syntax_at w (tail_of t)
-  tail-is (atom s a) = refl
-  tail-is (leaf s x c) = refl
-  tail-is (pair s a d) = tail-is d
-  tail-is (vector s d) = refl
-
-  forms-are : (ts : List Tree) → forms (map (element w) ts) ≡ ts
-  forms-are [] = refl
-  forms-are (t ∷ ts) = ap (λ us. t ∷ us) (forms-are ts)
-
   take-are : (k : ℕ) (ts : List Tree) → take k (map (element w) ts) ≡ map (element w) (take k ts)
   take-are zero ts = refl
   take-are (suc k) [] = refl
@@ -350,7 +329,7 @@ module _ (w : Looked) where
       where
         by : (b : Bool) → (q.changed || p.changed) ≡ b → Tells (Comes n is t) (joined (if b then rebuilt t (within (list_of q.trees (Some p.tree))) else Ok (unchanged t)) js)
         by true e = within-tells (Comes n is t) t (list_of q.trees (Some p.tree)) js (record {
-          is_so = subst (λ x. IsInserted w n is t x js) (sym (spanned-is (span_of t) (list_of q.trees (Some p.tree)) ∙ list-is q.trees p.tree ∙ ap (λ v. chain v (unspanned p.tree)) rows.trees)) (whole is mid js rows.us (unspanned p.tree) head rows.are c.is_so);
+          is_so = subst (λ x. IsInserted w n is t x js) (sym (unspanned-spanned (span_of t) (list_of q.trees (Some p.tree)) ∙ list-is q.trees p.tree ∙ ap (λ v. chain v (unspanned p.tree)) rows.trees)) (whole is mid js rows.us (unspanned p.tree) head rows.are c.is_so);
           kept = λ h. absurd (cc);
         })
         by false e = let b = neither q.changed p.changed e in record {
@@ -362,7 +341,7 @@ module _ (w : Looked) where
     list-told : (tail : Tail) → Each Told (a ∷ ts) → ((is : List Insert) → Tells (Comes n is rest) (tail.made n is)) → Whole → ((e : Tree) → operand_of tail.ends (a ∷ ts) ≡ Some e → IsList (a ∷ (e ∷ [])) t) → (is : List Insert)
         → Tells (Comes n is t) (flat w t (map (element w) (a ∷ ts)) tail n is)
     list-told tail all last whole operand is =
-        subst (λ us. Tells (Comes n is t) (then_insert (begun_by (operand_of tail.ends us) (walked w (inner (first_word w.words us) n) no_trees (map (element w) (a ∷ ts))) (reach (first_word w.words us) n) is) (finished t tail n))) (sym (forms-are (a ∷ ts)))
+        subst (λ us. Tells (Comes n is t) (then_insert (begun_by (operand_of tail.ends us) (walked w (inner (first_word w.words us) n) no_trees (map (element w) (a ∷ ts))) (reach (first_word w.words us) n) is) (finished t tail n))) (sym (forms_are w (a ∷ ts)))
         (by (reach (w.words a) n) refl)
       where
         one : (o : Option Tree) → operand_of tail.ends (a ∷ ts) ≡ o → reach (w.words a) n ≡ reached.Operand → Tells (Comes n is t) (then_insert (operand_or_bad o is) (finished t tail n))
@@ -442,7 +421,7 @@ module _ (w : Looked) where
     pair-told n is =
         subst (λ us. Tells (Comes n is the-list) (if escapes (first_word w.words us) (is_nil (tail_of d)) us then Ok (unchanged the-list, is)
         else if splits w.words (is_nil (tail_of d)) us then flat w the-list (take (length (map (element w) (a ∷ elements d)) - 2) (map (element w) (a ∷ elements d))) (split_tail w the-list (map (element w) (a ∷ elements d)) the-tail) n is
-        else flat w the-list (map (element w) (a ∷ elements d)) the-tail n is)) (sym (forms-are (a ∷ elements d)))
+        else flat w the-list (map (element w) (a ∷ elements d)) the-tail n is)) (sym (forms_are w (a ∷ elements d)))
         (by (escapes (w.words a) (is_nil (tail_of d)) (a ∷ elements d)) (splits w.words (is_nil (tail_of d)) (a ∷ elements d)) refl refl)
       where
         by : (b c : Bool) → escapes (w.words a) (is_nil (tail_of d)) (a ∷ elements d) ≡ b → splits w.words (is_nil (tail_of d)) (a ∷ elements d) ≡ c
@@ -490,10 +469,10 @@ module _ (w : Looked) where
     told (atom s a) h n is = atom-told (atom s a) n is r.a_datum
     told (leaf s x c) h n is = atom-told (leaf s x c) n is r.an_identifier
     told (pair s a d) h n is =
-        subst (λ (xs : List Element). Tells (Comes n is (pair s a d)) (list_made w (pair s a d) ((a, syntax_at w a) ∷ xs) (record { ends = is_nil (tail_of d); made = tail_made w d }) n is)) (sym (elements-are d))
-        (subst (λ (go : ℕ → Inserts Part). Tells (Comes n is (pair s a d)) (list_made w (pair s a d) (map (element w) (a ∷ elements d)) (record { ends = is_nil (tail_of d); made = go }) n is)) (sym (tail-is d))
+        subst (λ (xs : List Element). Tells (Comes n is (pair s a d)) (list_made w (pair s a d) ((a, syntax_at w a) ∷ xs) (record { ends = is_nil (tail_of d); made = tail_made w d }) n is)) (sym (elements_are w d))
+        (subst (λ (go : ℕ → Inserts Part). Tells (Comes n is (pair s a d)) (list_made w (pair s a d) (map (element w) (a ∷ elements d)) (record { ends = is_nil (tail_of d); made = go }) n is)) (sym (tail_is w d))
         (pair-told s a d (told a h.0, all-told d h.1) (tail-told-of d h.1) n is))
-    told (vector s d) h n is = subst (λ (xs : List Element). Tells (Comes n is (vector s d)) (vector_made w (vector s d) xs n is)) (sym (elements-are d)) (vector-told s d h.0 (all-told d h.1) n is)
+    told (vector s d) h n is = subst (λ (xs : List Element). Tells (Comes n is (vector s d)) (vector_made w (vector s d) xs n is)) (sym (elements_are w d)) (vector-told s d h.0 (all-told d h.1) n is)
 
     all-told : (t : Tree) → HoldsLists t → Each Told (elements t)
     all-told (atom s a) h = tt
@@ -505,7 +484,7 @@ module _ (w : Looked) where
     tail-told-of (atom s a) h n is = atom-told (atom s a) n is r.a_datum
     tail-told-of (leaf s x c) h n is = atom-told (leaf s x c) n is r.an_identifier
     tail-told-of (pair s a d) h n is = tail-told-of d h.1 n is
-    tail-told-of (vector s d) h n is = subst (λ (xs : List Element). Tells (Comes n is (vector s d)) (vector_made w (vector s d) xs n is)) (sym (elements-are d)) (vector-told s d h.0 (all-told d h.1) n is)
+    tail-told-of (vector s d) h n is = subst (λ (xs : List Element). Tells (Comes n is (vector s d)) (vector_made w (vector s d) xs n is)) (sym (elements_are w d)) (vector-told s d h.0 (all-told d h.1) n is)
 
 pub inserts-are-told : InsertsAreTold
 inserts-are-told w t form place q h e = by (syntax_at w t 0 []) (told w t h 0 []) e

@@ -1,10 +1,10 @@
 -- What a list is, where it is taken apart: its elements and what ends it, or its first elements and a tail of two.
-use Rattle.std.proofs.Common.{◌≡◌, ℕ, zero, suc, Bool, true, false, List, [], ◌∷◌, take, Option, None, Some, refl, ap, sym, ◌∙◌, arith}
-use Rattle.std.specs.Prelude.{◌-◌, ◌&&◌, ◌||◌, is_some, if◌then◌else◌}
+use Rattle.std.proofs.Common.{◌≡◌, ℕ, zero, suc, Bool, true, false, List, [], ◌∷◌, take, None, Some, refl, ap, sym, ◌∙◌, arith}
+use Rattle.std.specs.Prelude.{◌&&◌, is_some, if◌then◌else◌}
 use Rattle.sx_tree.specs.Tree.{Tree, atom, leaf, pair, vector}
 use Rattle.sx_shapes.specs.Lists.{is_nil, elements, tail_of}
 use Rattle.sx_quasi.specs.Words.{Words, counts, inner}
-use Rattle.sx_quasi.specs.Parts.{rest_at, operand_of}
+use Rattle.sx_quasi.specs.Parts.{rest_at}
 use Rattle.sx_quasi.specs.declared.word.Word.{Word}
 use Rattle.sx_quasi.specs.declared.word.Word.TheVariants as word
 use Rattle.sx_quasi_laws.specs.Filled as report

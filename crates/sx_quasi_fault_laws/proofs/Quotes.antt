@@ -9,15 +9,14 @@ use Rattle.sx_tree.specs.Tree.{Tree, atom, leaf, pair, vector}
 use Rattle.sx_shapes.specs.At.{fault_at}
 use Rattle.sx_shapes.specs.Lists.{is_nil, elements, tail_of, if_some}
 use Rattle.sx_quasi.specs.Words.{Words, inner, reach}
-use Rattle.sx_quasi.specs.Parts.{bad, rest_at, splits, taken_by, taken_at, behind_head, first_word, operand_of}
+use Rattle.sx_quasi.specs.Parts.{bad, rest_at, splits, taken_by, behind_head, first_word, operand_of}
 use Rattle.sx_quasi.specs.Plan.{PlainQuasi}
-use Rattle.sx_quasi.specs.Quasi.{Element, Tail, forms, no_pieces, with_item, step_by, step, walked, operand_or_bad, begun_by, finished, flat, split_tail, list_joined, vector_joined, list_made, vector_made, quasi_at, elements_made, tail_made, element, fault_of, at_form, quasi}
-use Rattle.sx_quasi.specs.declared.parts.Taken.TheVariants as taken
+use Rattle.sx_quasi.specs.Quasi.{Element, Tail, no_pieces, with_item, step_by, step, walked, operand_or_bad, begun_by, finished, flat, split_tail, list_joined, vector_joined, list_made, vector_made, quasi_at, tail_made, element, fault_of, at_form}
 use Rattle.sx_quasi.specs.declared.quasi.Begun.TheVariants as begun
 use Rattle.sx_quasi.specs.declared.quasi.Pieces.{Pieces}
-use Rattle.sx_quasi.specs.declared.word.Reach.TheVariants as reached
 use Rattle.sx_quasi.specs.declared.word.Word.{Word}
 use Rattle.sx_quasi.specs.declared.word.Word.TheVariants as word
+use Rattle.sx_quasi.proofs.Levels.{elements_are, tail_is, forms_are}
 use Rattle.sx_quasi_laws.specs.Filled.{level_behind, only}
 use Rattle.sx_quasi_laws.proofs.Tails.{has_tail, cut, IsTail, splits_is, cut_is, tail_no_tail, cut_length, only_is, elements_at, tail_at}
 use Rattle.sx_quasi_fault_laws.specs.Formed.{none_stays, stands_for_operands, element_formed, list_formed, is_formed, rest_is_formed, items_are_formed}
@@ -60,22 +59,6 @@ module _ (w : Words) where
   drop-told zero ts h = h
   drop-told (suc k) [] h = tt
   drop-told (suc k) (t ∷ ts) h = drop-told k ts h.1
-
-  elements-are : (t : Tree) → elements_made w t ≡ map (element w) (elements t)
-  elements-are (atom s a) = refl
-  elements-are (leaf s x c) = refl
-  elements-are (pair s a d) = ap (λ (xs : List Element). (a, quasi_at w a) ∷ xs) (elements-are d)
-  elements-are (vector s d) = refl
-
-  tail-is : (t : Tree) → tail_made w t ≡ quasi_at w (tail_of t)
-  tail-is (atom s a) = refl
-  tail-is (leaf s x c) = refl
-  tail-is (pair s a d) = tail-is d
-  tail-is (vector s d) = refl
-
-  forms-are : (ts : List Tree) → forms (map (element w) ts) ≡ ts
-  forms-are [] = refl
-  forms-are (t ∷ ts) = ap (λ us. t ∷ us) (forms-are ts)
 
   take-are : (k : ℕ) (ts : List Tree) → take k (map (element w) ts) ≡ map (element w) (take k ts)
   take-are zero ts = refl
@@ -162,7 +145,7 @@ module _ (w : Words) where
         → Tells (pair_formed none_stays w n a d) (flat w t (map (element w) (a ∷ ts)) tail n)
     list-told n all c last e given =
         subst (λ us. Tells (pair_formed none_stays w n a d) (begun_by (operand_of tail.ends us) (walked w (inner (first_word w us) n) no_pieces (map (element w) (a ∷ ts))) (reach (first_word w us) n) >>= finished t tail n))
-        (sym (forms-are (a ∷ ts))) (list-by n all c last e (w a) given)
+        (sym (forms_are w (a ∷ ts))) (list-by n all c last e (w a) given)
 
   -- a list that is not split
   flat-told : (s : Option Span) (a d : Tree) → has_tail w d ≡ false → AllTold (a ∷ elements d) → (tail : Tail) → tail.ends ≡ is_nil (tail_of d) → (n : ℕ) → Tells (formed (tail_of d) n) (tail.made n)
@@ -197,7 +180,7 @@ module _ (w : Words) where
     pair-told n =
         subst (λ us. Tells (pair_formed none_stays w n a d)
         (if splits w (is_nil (tail_of d)) us then flat w (pair s a d) (take (length (map (element w) (a ∷ elements d)) - 2) (map (element w) (a ∷ elements d))) (split_tail w (pair s a d) (map (element w) (a ∷ elements d)) the-tail) n
-        else flat w (pair s a d) (map (element w) (a ∷ elements d)) the-tail n)) (sym (forms-are (a ∷ elements d))) (by (splits w (is_nil (tail_of d)) (a ∷ elements d)) refl)
+        else flat w (pair s a d) (map (element w) (a ∷ elements d)) the-tail n)) (sym (forms_are w (a ∷ elements d))) (by (splits w (is_nil (tail_of d)) (a ∷ elements d)) refl)
       where
         by : (b : Bool) → splits w (is_nil (tail_of d)) (a ∷ elements d) ≡ b
             → Tells (pair_formed none_stays w n a d)
@@ -226,10 +209,10 @@ module _ (w : Words) where
     told (atom s a) n = refl
     told (leaf s x c) n = refl
     told (pair s a d) n =
-        subst (λ (xs : List Element). Tells (pair_formed none_stays w n a d) (list_made w (pair s a d) ((a, quasi_at w a) ∷ xs) (record { ends = is_nil (tail_of d); made = tail_made w d }) n)) (sym (elements-are d))
-        (subst (λ (go : ℕ → Result PlainQuasi Bare). Tells (pair_formed none_stays w n a d) (list_made w (pair s a d) (map (element w) (a ∷ elements d)) (record { ends = is_nil (tail_of d); made = go }) n)) (sym (tail-is d))
+        subst (λ (xs : List Element). Tells (pair_formed none_stays w n a d) (list_made w (pair s a d) ((a, quasi_at w a) ∷ xs) (record { ends = is_nil (tail_of d); made = tail_made w d }) n)) (sym (elements_are w d))
+        (subst (λ (go : ℕ → Result PlainQuasi Bare). Tells (pair_formed none_stays w n a d) (list_made w (pair s a d) (map (element w) (a ∷ elements d)) (record { ends = is_nil (tail_of d); made = go }) n)) (sym (tail_is w d))
         (pair-told s a d (told a, all-told d) (tail-told-of d) n))
-    told (vector s d) n = subst (λ (xs : List Element). Tells (items_are_formed none_stays w d n) (vector_made w (vector s d) xs n)) (sym (elements-are d)) (vector-told s d (all-told d) n)
+    told (vector s d) n = subst (λ (xs : List Element). Tells (items_are_formed none_stays w d n) (vector_made w (vector s d) xs n)) (sym (elements_are w d)) (vector-told s d (all-told d) n)
 
     all-told : (t : Tree) → AllTold (elements t)
     all-told (atom s a) = tt
@@ -241,7 +224,7 @@ module _ (w : Words) where
     tail-told-of (atom s a) n = refl
     tail-told-of (leaf s x c) n = refl
     tail-told-of (pair s a d) n = tail-told-of d n
-    tail-told-of (vector s d) n = subst (λ (xs : List Element). Tells (items_are_formed none_stays w d n) (vector_made w (vector s d) xs n)) (sym (elements-are d)) (vector-told s d (all-told d) n)
+    tail-told-of (vector s d) n = subst (λ (xs : List Element). Tells (items_are_formed none_stays w d n) (vector_made w (vector s d) xs n)) (sym (elements_are w d)) (vector-told s d (all-told d) n)
 
 pub quotes-are-decided : QuotesAreDecided
 quotes-are-decided w t form place = by (quasi_at w t 0) (told w t 0)

@@ -10,17 +10,16 @@ use Rattle.sx_tree.specs.Tree.{Tree, atom, leaf, pair, vector, list_of, vector_o
 use Rattle.sx_shapes.specs.At.{fault_at}
 use Rattle.sx_shapes.specs.Lists.{is_nil, elements, tail_of, if_some}
 use Rattle.sx_quasi.specs.Words.{inner, reach}
-use Rattle.sx_quasi.specs.Parts.{bad, rest_at, splits, taken_by, taken_at, behind_head, first_word, operand_of}
+use Rattle.sx_quasi.specs.Parts.{bad, rest_at, splits, taken_by, behind_head, first_word, operand_of}
 use Rattle.sx_quasi.specs.Quasi.{fault_of, at_form}
-use Rattle.sx_quasi.specs.QuasiSyntax.{Looked, Inserts, then_insert, no_trees, with_part, unchanged, rebuilt, list_joined, vector_joined, joined, Element, forms, step_by, step, walked, operand_or_bad, begun_by, Tail, finished, flat, split_tail, escapes, list_made, vector_made, syntax_at, elements_made, tail_made, element, answer, quasi_syntax}
-use Rattle.sx_quasi.specs.declared.parts.Taken.TheVariants as taken
+use Rattle.sx_quasi.specs.QuasiSyntax.{Looked, Inserts, then_insert, no_trees, with_part, unchanged, rebuilt, list_joined, vector_joined, joined, Element, step_by, step, walked, operand_or_bad, begun_by, Tail, finished, flat, split_tail, escapes, list_made, vector_made, syntax_at, tail_made, element, answer}
 use Rattle.sx_quasi.specs.declared.quasi_syntax.Begun.TheVariants as begun
 use Rattle.sx_quasi.specs.declared.quasi_syntax.Insert.{Insert}
 use Rattle.sx_quasi.specs.declared.quasi_syntax.Part.{Part}
 use Rattle.sx_quasi.specs.declared.quasi_syntax.Row.{Row}
-use Rattle.sx_quasi.specs.declared.word.Reach.TheVariants as reached
 use Rattle.sx_quasi.specs.declared.word.Word.{Word}
 use Rattle.sx_quasi.specs.declared.word.Word.TheVariants as word
+use Rattle.sx_quasi.proofs.InsertLevels.{elements_are, tail_is, forms_are}
 use Rattle.sx_quasi_laws.specs.Filled.{level_behind, only}
 use Rattle.sx_quasi_laws.proofs.Tails.{has_tail, cut, IsTail, splits_is, cut_is, tail_no_tail, cut_length, only_is, elements_at, tail_at}
 use Rattle.sx_quasi_fault_laws.specs.Formed.{ellipsis_stays, stands_for_operands, element_formed, list_formed, is_formed, rest_is_formed, items_are_formed}
@@ -80,22 +79,6 @@ module _ (w : Looked) where
   drop-told zero ts h = h
   drop-told (suc k) [] h = tt
   drop-told (suc k) (t ∷ ts) h = drop-told k ts h.1
-
-  elements-are : (t : Tree) → elements_made w t ≡ map (element w) (elements t)
-  elements-are (atom s a) = refl
-  elements-are (leaf s x c) = refl
-  elements-are (pair s a d) = ap (λ (xs : List Element). (a, syntax_at w a) ∷ xs) (elements-are d)
-  elements-are (vector s d) = refl
-
-  tail-is : (t : Tree) → tail_made w t ≡ syntax_at w (tail_of t)
-  tail-is (atom s a) = refl
-  tail-is (leaf s x c) = refl
-  tail-is (pair s a d) = tail-is d
-  tail-is (vector s d) = refl
-
-  forms-are : (ts : List Tree) → forms (map (element w) ts) ≡ ts
-  forms-are [] = refl
-  forms-are (t ∷ ts) = ap (λ us. t ∷ us) (forms-are ts)
 
   take-are : (k : ℕ) (ts : List Tree) → take k (map (element w) ts) ≡ map (element w) (take k ts)
   take-are zero ts = refl
@@ -188,7 +171,7 @@ module _ (w : Looked) where
         → Tells (pair_formed ellipsis_stays w.words n a d) (flat w t (map (element w) (a ∷ ts)) tail n is)
     list-told n all c last e given is =
         subst (λ us. Tells (pair_formed ellipsis_stays w.words n a d) (then_insert (begun_by (operand_of tail.ends us) (walked w (inner (first_word w.words us) n) no_trees (map (element w) (a ∷ ts))) (reach (first_word w.words us) n) is) (finished t tail n)))
-        (sym (forms-are (a ∷ ts))) (list-by n all c last e (w.words a) given is)
+        (sym (forms_are w (a ∷ ts))) (list-by n all c last e (w.words a) given is)
 
   -- a list that is not split
   flat-told : (s : Option Span) (a d : Tree) → has_tail w.words d ≡ false → AllTold (a ∷ elements d) → (tail : Tail) → tail.ends ≡ is_nil (tail_of d) → (n : ℕ)
@@ -251,7 +234,7 @@ module _ (w : Looked) where
         (subst (λ us. Tells (escapes (w.words a) (is_nil (tail_of d)) (a ∷ elements d) || pair_formed ellipsis_stays w.words n a d)
         (if escapes (first_word w.words us) (is_nil (tail_of d)) us then Ok (unchanged the-list, is)
         else if splits w.words (is_nil (tail_of d)) us then flat w the-list (take (length all-elements - 2) all-elements) (split_tail w the-list all-elements the-tail) n is
-        else flat w the-list all-elements the-tail n is)) (sym (forms-are (a ∷ elements d)))
+        else flat w the-list all-elements the-tail n is)) (sym (forms_are w (a ∷ elements d)))
         (by (escapes (w.words a) (is_nil (tail_of d)) (a ∷ elements d)) (splits w.words (is_nil (tail_of d)) (a ∷ elements d)) refl))
       where
         by : (b c : Bool) → splits w.words (is_nil (tail_of d)) (a ∷ elements d) ≡ c
@@ -284,10 +267,10 @@ module _ (w : Looked) where
     told (atom s a) n is = refl
     told (leaf s x c) n is = refl
     told (pair s a d) n is =
-        subst (λ (xs : List Element). Tells (formed (pair s a d) n) (list_made w (pair s a d) ((a, syntax_at w a) ∷ xs) (record { ends = is_nil (tail_of d); made = tail_made w d }) n is)) (sym (elements-are d))
-        (subst (λ (go : ℕ → Inserts Part). Tells (formed (pair s a d) n) (list_made w (pair s a d) (map (element w) (a ∷ elements d)) (record { ends = is_nil (tail_of d); made = go }) n is)) (sym (tail-is d))
+        subst (λ (xs : List Element). Tells (formed (pair s a d) n) (list_made w (pair s a d) ((a, syntax_at w a) ∷ xs) (record { ends = is_nil (tail_of d); made = tail_made w d }) n is)) (sym (elements_are w d))
+        (subst (λ (go : ℕ → Inserts Part). Tells (formed (pair s a d) n) (list_made w (pair s a d) (map (element w) (a ∷ elements d)) (record { ends = is_nil (tail_of d); made = go }) n is)) (sym (tail_is w d))
         (pair-told s a d (told a, all-told d) (tail-told-of d) n is))
-    told (vector s d) n is = subst (λ (xs : List Element). Tells (items_are_formed ellipsis_stays w.words d n) (vector_made w (vector s d) xs n is)) (sym (elements-are d)) (vector-told s d (all-told d) n is)
+    told (vector s d) n is = subst (λ (xs : List Element). Tells (items_are_formed ellipsis_stays w.words d n) (vector_made w (vector s d) xs n is)) (sym (elements_are w d)) (vector-told s d (all-told d) n is)
 
     all-told : (t : Tree) → AllTold (elements t)
     all-told (atom s a) = tt
@@ -299,7 +282,7 @@ module _ (w : Looked) where
     tail-told-of (atom s a) n is = refl
     tail-told-of (leaf s x c) n is = refl
     tail-told-of (pair s a d) n is = tail-told-of d n is
-    tail-told-of (vector s d) n is = subst (λ (xs : List Element). Tells (items_are_formed ellipsis_stays w.words d n) (vector_made w (vector s d) xs n is)) (sym (elements-are d)) (vector-told s d (all-told d) n is)
+    tail-told-of (vector s d) n is = subst (λ (xs : List Element). Tells (items_are_formed ellipsis_stays w.words d n) (vector_made w (vector s d) xs n is)) (sym (elements_are w d)) (vector-told s d (all-told d) n is)
 
 pub syntaxes-are-decided : SyntaxesAreDecided
 syntaxes-are-decided w t form place = by (syntax_at w t 0 []) (told w t 0 [])

@@ -1,5 +1,5 @@
 -- Which templates of `quasiquote` and `quasisyntax` the report has a meaning for (R6RS 11.17; libraries 12.8).
-use Rattle.std.specs.Prelude.{ℕ, zero, suc, Bool, true, false, ◌&&◌, ◌||◌, is_some, if◌then◌else◌}
+use Rattle.std.specs.Prelude.{ℕ, zero, Bool, true, false, ◌&&◌, ◌||◌, is_some, if◌then◌else◌}
 use Rattle.sx_tree.specs.Tree.{Tree, atom, leaf, pair, vector}
 use Rattle.sx_shapes.specs.Lists.{is_nil, tail_of}
 use Rattle.sx_quasi.specs.Words.{Words}
