@@ -1,16 +1,17 @@
 -- From the fuel of turns to what a run spends.
-use Rattle.std.proofs.Common.{◌≡◌, ℕ, ◌+◌, List, Result, Ok, Err, Option, Some, None, refl, sym, subst, ◌∙◌}
+use Rattle.std.proofs.Common.{◌≡◌, ℕ, ◌+◌, List, Result, Ok, Err, Option, Some, None, refl, sym, subst, ◌∙◌, arith}
 use Rattle.std.specs.Prelude.{IfOk, IfSome, OnOk, string_bytes}
 use Rattle.sx_base.specs.declared.fault.Fault.{Fault}
 use Rattle.sx_base.specs.declared.fault.Stop.{Stop}
 use Rattle.sx_eval.specs.Codes.{Codes}
+use Rattle.sx_load.specs.Load.{load}
 use Rattle.sx_load.specs.declared.found.Found.{Found}
 use Rattle.sx_load.specs.declared.found.Loading.{Loading}
 use Rattle.sx_load.specs.declared.found.Source.{Source}
 use Rattle.sx_make.specs.Made.{made_files}
 use Rattle.sx_outside.specs.Contents.{Paths}
 use Rattle.sx_outside.specs.Store.{WhereTold}
-use Rattle.sx_prelude.specs.Prelude.{prelude_table}
+use Rattle.sx_prelude.specs.Prelude.{prelude_table, prelude_spent}
 use Rattle.sx_report.specs.declared.report.Told.{Told}
 use Rattle.sx_reuse.specs.Entries.{Kept}
 use Rattle.sx_reuse.specs.Fuel.{WritesSpending}
@@ -24,7 +25,7 @@ use Rattle.sx_words.specs.declared.job.Job.{Job}
 use Rattle.sx_words.specs.declared.words.Words.{Words}
 use Rattle.sx_words.specs.declared.words.Words.TheVariants.{Make}
 use Rattle.sx_run.specs.Cached.{kept_of, PreparesText}
-use Rattle.sx_run.specs.Fuel.{job_spent, ComesSpending, SpendsCached, SpendsJob, SpendsAsked, SpendsIfDone}
+use Rattle.sx_run.specs.Fuel.{job_spent, loads_spent, ComesSpending, SpendsCached, SpendsJob, SpendsAsked, SpendsIfDone}
 use Rattle.sx_run.specs.Headline.{Sunk, Storage, Complains, said, no_line}
 use Rattle.sx_run.specs.Prepared.{Writes}
 use Rattle.sx_run.specs.Whole.{done, libraries, made_job}
@@ -68,6 +69,14 @@ module _ (job : Job) (dir : List ℕ) (c : Came) (s : Loading) (groups : List Gr
   where_spent held left k prelude fs libs sources is k_is fs_is libs_is sources_is (Err x) w text h = tt
 
 -- ---- what is prepared of a job
+
+-- behind the texts of procedures
+pub job_spends : {X E : Type 0} (result : Result X E) (told : Option Paths) (job : Job) (before middle after : ℕ) → middle ≡ before + prelude_spent
+    → IfSome told (λ files. OnOk result (after ≡ middle + loads_spent prelude_table (load files job.roots job.program))) → IfSome told (λ files. OnOk result (after ≡ before + job_spent files job))
+unfolding job_spent
+job_spends result None job before middle after first h = tt
+job_spends (Ok x) (Some files) job before middle after first h = let r : after ≡ middle + loads_spent prelude_table (load files job.roots job.program) = h in omega (arith, first, r)
+job_spends (Err e) (Some files) job before middle after first h = tt
 
 module _ (told : Option Paths) (store : Storage) (job : Job) (f0 f1 : ℕ) where
   by_cache : (dir : List ℕ) (made : Prepared) (t : Option Paths)
