@@ -145,7 +145,7 @@ module _ (told : Option Paths) (store : Storage) (words : List (List ℕ)) (out 
   pub written_spends : (asked : Words) (prepared : Result Prepared Unfinished) (s : Status) → words_asked words ≡ asked
       → IfOk prepared (λ (made : Prepared). SpendsAsked told store asked (string_bytes made.text) (string_bytes made.report) f0 f1) → Writes prepared out err s → Spent s
   written_spends asked (Ok made) s is h w = text_done asked made s is h w
-  written_spends asked (Err (unfinished.Line line)) s is h w = line_done line status.Fault s (λ e. absurd (cc)) w
+  written_spends asked (Err (unfinished.Line line)) s is h w = line_done (string_bytes line) status.Fault s (λ e. absurd (cc)) w
   written_spends asked (Err unfinished.Read) s is h w = unless_done s (λ e. let no : status.ReadFault ≡ status.Done = sym w.0 ∙ e in absurd (cc))
   written_spends asked (Err unfinished.Memory) s is h w = unless_done s (λ e. let no : status.Memory ≡ status.Done = sym w.0 ∙ e in absurd (cc))
 
