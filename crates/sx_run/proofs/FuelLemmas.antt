@@ -23,7 +23,6 @@ use Rattle.sx_reuse.specs.declared.texts.Came.{Came}
 use Rattle.sx_reuse.specs.declared.texts.Written.{Written}
 use Rattle.sx_words.specs.declared.job.Job.{Job}
 use Rattle.sx_words.specs.declared.words.Words.{Words}
-use Rattle.sx_words.specs.declared.words.Words.TheVariants.{Make}
 use Rattle.sx_run.specs.Cached.{kept_of, PreparesText}
 use Rattle.sx_run.specs.Fuel.{job_spent, loads_spent, ComesSpending, SpendsCached, SpendsJob, SpendsAsked, SpendsIfDone}
 use Rattle.sx_run.specs.Headline.{Sunk, Storage, Complains, said, no_line}
@@ -150,7 +149,6 @@ module _ (told : Option Paths) (store : Storage) (words : List (List ℕ)) (out 
   written_spends asked (Err unfinished.Memory) s is h w = unless_done s (λ e. let no : status.Memory ≡ status.Done = sym w.0 ∙ e in absurd (cc))
 
 -- what was made in memory
-pub made_spends : (told : Option Paths) (store : Storage) (count f0 f1 : ℕ) (result : Result Prepared Unfinished) → OnOk result (f1 ≡ f0 + job_spent (made_files count) made_job)
-    → IfOk result (λ (made : Prepared). SpendsAsked told store (Make count) (string_bytes made.text) (string_bytes made.report) f0 f1)
-made_spends told store count f0 f1 (Ok made) h = h
-made_spends told store count f0 f1 (Err x) h = tt
+pub made_spends : (count f0 f1 : ℕ) (result : Result Prepared Unfinished) → OnOk result (f1 ≡ f0 + job_spent (made_files count) made_job) → IfOk result (λ (made : Prepared). f1 ≡ f0 + job_spent (made_files count) made_job)
+made_spends count f0 f1 (Ok made) h = h
+made_spends count f0 f1 (Err x) h = tt

@@ -43,7 +43,7 @@ returns-in-Ok-Expand-clause-fuel g c =
 pub returns-in-Ok-Make-clause-fuel : goal.returns-in-Ok-Make-clause-fuel
 returns-in-Ok-Make-clause-fuel g c =
     written_spends _ _ (texts c.args.words.now) _ _ _ _ (Make c.in-Ok-Make.count) c.prepare_made-prepared.result c.write-in-Ok-Make.result (sym c.in-Ok-Make.ensures ∙ c.in-Ok-Make.field-0-is)
-    (made_spends _ _ c.in-Ok-Make.count _ _ c.prepare_made-prepared.result c.prepare_made-prepared.ensures.fuel) c.write-in-Ok-Make.ensures
+    (made_spends c.in-Ok-Make.count _ _ c.prepare_made-prepared.result c.prepare_made-prepared.ensures.fuel) c.write-in-Ok-Make.ensures
 
 pub returns-in-Ok-Usage-clause-fuel : goal.returns-in-Ok-Usage-clause-fuel
 returns-in-Ok-Usage-clause-fuel g c = usage_spends _ _ (texts c.args.words.now) _ _ _ _ c.complain.result c.complain.ensures
