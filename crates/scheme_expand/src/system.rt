@@ -42,20 +42,22 @@ fn with_row(rows: Vec<PrimRow>, row: PrimRow) -> Result<Vec<PrimRow>, Memory> {
     Ok(rows)
 }
 
-// The book of the fuel, beside what is spent.
-#[derive(Drop)]
-struct Booked<'a, L: Ledger> {
+// What is counted, borrowed for one time. A function makes it, since what is made and lent in one function isn't seen to
+// be borrowed for as long as it is lent.
+fn tally_of<'a, N: Ledger, L: Ledger>(
+    nodes: &'a mut Steps<N>,
     book: &'a mut Book<L>,
     fuel: Fuel<L>,
+) -> Tally<'a, N, L> {
+    let counts = Counts { nodes, book };
+    Tally { counts, fuel }
 }
 
-// Both counters are borrowed for one time, as `Counts` has them.
-fn run_both<'a, N: Ledger, L: Ledger>(
+fn run_tallied<N: Ledger, L: Ledger>(
     rt: &HostRuntime,
     words: &[String],
     prims: &PrimTable,
-    nodes: &'a mut Steps<N>,
-    booked: Booked<'a, L>,
+    tally: &mut Tally<N, L>,
 ) -> Result<Status, Memory> {
     let alloc = rt.alloc();
     let mut outside = Outside {
@@ -66,10 +68,7 @@ fn run_both<'a, N: Ledger, L: Ledger>(
         out: HostSink::new(rt.stdout()),
         err: HostSink::new(rt.stderr()),
     };
-    let Booked { book, fuel } = booked;
-    let counts = Counts { nodes, book };
-    let mut tally = Tally { counts, fuel };
-    Ok(top::run(alloc, words, &mut outside, prims, &mut tally))
+    Ok(top::run(alloc, words, &mut outside, prims, tally))
 }
 
 fn run_counted<N: Ledger, L: Ledger>(
@@ -86,11 +85,8 @@ fn run_counted<N: Ledger, L: Ledger>(
 {
     let mut nodes = Steps::<N>::open(nodes);
     let Counted { mut book, fuel } = Fuel::<L>::open(steps, MOST_EXPANSIONS);
-    let booked = Booked {
-        book: &mut book,
-        fuel,
-    };
-    run_both(rt, words, prims, &mut nodes, booked)
+    let mut tally = tally_of(&mut nodes, &mut book, fuel);
+    run_tallied(rt, words, prims, &mut tally)
 }
 
 // A run whose nodes and fuel nobody counts. Rows in order always fill the table.
