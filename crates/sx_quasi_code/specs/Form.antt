@@ -14,7 +14,7 @@ use Rattle.sx_quasi.specs.declared.word.Family.{Family}
 use Rattle.sx_quasi.specs.declared.word.Family.TheVariants as family
 use Rattle.sx_standing.specs.State.{Does}
 use Rattle.sx_quasi_code.specs.Filled.{filled}
-use Rattle.sx_quasi_code.specs.Inserted.{dots, syntax_code}
+use Rattle.sx_quasi_code.specs.Inserted.{dots, syntax_code, stamps_of}
 use Rattle.sx_quasi_code.specs.Parts.{quasi_parts, inserts_parts}
 use Rattle.sx_quasi_code.specs.declared.form.QuasiForm.{QuasiForm}
 use Rattle.sx_quasi_code.specs.declared.form.QuasiForm.TheVariants as forms
@@ -42,3 +42,8 @@ parts_of t depth (forms.Syntax q) = inserts_parts t depth q.inserts
 abbrev pub code_of : Span → ℕ → Tree → QuasiForm → List PlainCore → Does PlainCore
 code_of place level t (forms.Quote q) cs = give (filled q cs).0
 code_of place level t (forms.Syntax q) cs = syntax_code place level t q cs q.inserts
+
+-- how many nodes of syntax objects its code makes
+abbrev pub nodes_of : QuasiForm → ℕ
+nodes_of (forms.Quote q) = 0
+nodes_of (forms.Syntax q) = stamps_of q.inserts

@@ -102,3 +102,8 @@ plain_instance place level t q s = after (template_of place level q.template s) 
 abbrev pub syntax_code : Span → ℕ → Tree → QuasiSyntax → List PlainCore → List Insert → Does PlainCore
 syntax_code place level t q cs [] = plain_instance place level t q
 syntax_code place level t q cs (i ∷ is) = inserted place level t q cs
+
+-- how many nodes of syntax objects the code of a form with these inserts makes: its template is put in a frame once, where there are any
+abbrev pub stamps_of : List Insert → ℕ
+stamps_of [] = 0
+stamps_of (i ∷ is) = 1

@@ -1,10 +1,10 @@
 //! `quasiquote` and `quasisyntax` forms.
 
-ghost use Rattle.std.specs.Prelude.{◌≡◌, IfOk};
+ghost use Rattle.std.specs.Prelude.{◌≡◌, ◌+◌, ◌≤◌, IfOk, OnOk, OnErr};
 ghost use Rattle.sx_base.specs.Act.{GivesAfter};
 ghost use Rattle.sx_quasi.specs.declared.word.Family.TheVariants as family;
-ghost use Rattle.sx_quasi_code.specs.Form.{form_of, parts_of, code_of};
-ghost use Rattle.sx_quasi_code.specs.Inserted.{syntax_code};
+ghost use Rattle.sx_quasi_code.specs.Form.{form_of, parts_of, code_of, nodes_of};
+ghost use Rattle.sx_quasi_code.specs.Inserted.{syntax_code, stamps_of};
 
 use crate::filled::plan_code;
 use crate::inserted::{dots, inserted, plain_instance};
@@ -107,7 +107,9 @@ fn syntax_code<N: Ledger, L: Ledger>(
     codes: Vec<Core>,
     nodes: &mut Steps<N>,
 ) -> Result<Core, Stop>
-    ensures { GivesAfter (λ c. c) result state.new (syntax_code context.now.place.now context.now.level context.now.form.now quasi.now codes.items quasi.now.inserts state.old) }
+    ensures given { GivesAfter (λ c. c) result state.new (syntax_code context.now.place.now context.now.level context.now.form.now quasi.now codes.items quasi.now.inserts state.old) }
+    ensures made { OnOk result (nodes.new ≡ nodes.old + stamps_of quasi.now.inserts) }
+    ensures refused { OnErr result (nodes.new ≤ nodes.old + stamps_of quasi.now.inserts) }
 {
     if quasi.inserts.as_slice().is_empty() {
         return plain_instance(state, context, quasi);
@@ -116,6 +118,7 @@ fn syntax_code<N: Ledger, L: Ledger>(
 }
 
 /// The code of a form, whose parts have these codes. A fault of the template of a `quasisyntax` form is at its part.
+/// It makes one node where a `quasisyntax` form has inserts, and else none.
 pub fn code_of<N: Ledger, L: Ledger>(
     state: &mut Expansion<L>,
     context: &FormContext,
@@ -123,7 +126,9 @@ pub fn code_of<N: Ledger, L: Ledger>(
     codes: Vec<Core>,
     nodes: &mut Steps<N>,
 ) -> Result<Core, Stop>
-    ensures { GivesAfter (λ c. c) result state.new (code_of context.now.place.now context.now.level context.now.form.now quasi.now codes.items state.old) }
+    ensures given { GivesAfter (λ c. c) result state.new (code_of context.now.place.now context.now.level context.now.form.now quasi.now codes.items state.old) }
+    ensures made { OnOk result (nodes.new ≡ nodes.old + nodes_of quasi.now) }
+    ensures refused { OnErr result (nodes.new ≤ nodes.old + nodes_of quasi.now) }
 {
     match quasi {
         QuasiForm::Quote(plan) => Ok(plan_code(state.alloc(), plan, codes)?),

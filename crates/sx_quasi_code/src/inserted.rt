@@ -1,6 +1,6 @@
 //! The code of `quasisyntax` forms.
 
-ghost use Rattle.std.specs.Prelude.{◌≡◌, map, IfOk};
+ghost use Rattle.std.specs.Prelude.{◌≡◌, ◌+◌, ◌≤◌, map, IfOk, OnOk, OnErr};
 ghost use Rattle.sx_base.specs.Act.{GivesAfter};
 ghost use Rattle.sx_quasi_code.specs.Inserted.{dots, ellipsis, insert_variable, insert_variables, nothing_behind, listed, insert_pattern, inserts_pattern, match_of, bind_inserts, inserted_in, inserted, plain_instance};
 
@@ -209,7 +209,9 @@ fn inserted_in<N: Ledger, L: Ledger>(
     frame: FrameNo,
     nodes: &mut Steps<N>,
 ) -> Result<Core, Stop>
-    ensures { GivesAfter (λ c. c) result state.new (inserted_in context.now.place.now context.now.level context.now.form.now inserts.entry.quasi.now inserts.entry.codes.items frame state.old) }
+    ensures given { GivesAfter (λ c. c) result state.new (inserted_in context.now.place.now context.now.level context.now.form.now inserts.entry.quasi.now inserts.entry.codes.items frame state.old) }
+    ensures made { OnOk result (nodes.new ≡ nodes.old + 1) }
+    ensures refused { OnErr result (nodes.new ≤ nodes.old + 1) }
 {
     let Inserts { quasi, codes } = inserts;
     let variables = insert_variables(state, quasi.inserts.as_slice())?;
@@ -226,7 +228,7 @@ fn inserted_in<N: Ledger, L: Ledger>(
     Ok(match_of(state.alloc(), variables.as_slice(), template, span, codes)?)
 }
 
-/// The code of a form with inserts, whose expressions have these codes.
+/// The code of a form with inserts, whose expressions have these codes. It makes one node: the template has a frame.
 #[tactic(auto, unfolding(crate::specs::Inserted::inserted))]
 pub(crate) fn inserted<N: Ledger, L: Ledger>(
     state: &mut Expansion<L>,
@@ -235,7 +237,9 @@ pub(crate) fn inserted<N: Ledger, L: Ledger>(
     codes: Vec<Core>,
     nodes: &mut Steps<N>,
 ) -> Result<Core, Stop>
-    ensures { GivesAfter (λ c. c) result state.new (inserted context.now.place.now context.now.level context.now.form.now quasi.now codes.items state.old) }
+    ensures given { GivesAfter (λ c. c) result state.new (inserted context.now.place.now context.now.level context.now.form.now quasi.now codes.items state.old) }
+    ensures made { OnOk result (nodes.new ≡ nodes.old + 1) }
+    ensures refused { OnErr result (nodes.new ≤ nodes.old + 1) }
 {
     let outer = state.in_scope();
     let frame = state.fresh_frame()?;

@@ -1,6 +1,6 @@
 //! Uses of the record forms (R6RS libraries 6.2).
 
-ghost use Rattle.std.specs.Prelude.{◌≡◌};
+ghost use Rattle.std.specs.Prelude.{◌≡◌, ◌+◌, ◌≤◌, OnOk, OnErr};
 ghost use Rattle.sx_base.specs.Act.{GivesAfter};
 ghost use Rattle.sx_standing.specs.RecordUses.{defines_type, count_record_type, record_tree, record_marked, use_record};
 
@@ -69,7 +69,9 @@ impl<L: Ledger> Expansion<L> {
         mark: Mark,
         nodes: &mut Steps<N>,
     ) -> Result<Syn, Stop>
-        ensures { GivesAfter (λ t. t) result self.new (record_marked used.entry.place.now used.entry.form.now which used.entry.frame mark self.old) }
+        ensures given { GivesAfter (λ t. t) result self.new (record_marked used.entry.place.now used.entry.form.now which used.entry.frame mark self.old) }
+        ensures made { OnOk result (nodes.new ≡ nodes.old + 2) }
+        ensures refused { OnErr result (nodes.new ≤ nodes.old + 1) }
     {
         let UsedForm { form, frame, place } = used;
         let before = self.count_record_type(which)?;
@@ -80,7 +82,7 @@ impl<L: Ledger> Expansion<L> {
     }
 
     /// What comes of a use of a record form. Its faults are those of `record_forms`. The uses are counted by the
-    /// caller; nothing is evaluated.
+    /// caller; nothing is evaluated. A use makes two nodes, as that of a keyword does.
     #[tactic(auto, unfolding(crate::specs::RecordUses::use_record))]
     pub fn use_record<N: Ledger>(
         &mut self,
@@ -88,7 +90,9 @@ impl<L: Ledger> Expansion<L> {
         which: CoreForm,
         nodes: &mut Steps<N>,
     ) -> Result<Syn, Stop>
-        ensures { GivesAfter (λ t. t) result self.new (use_record used.entry.place.now used.entry.form.now which used.entry.frame self.old) }
+        ensures given { GivesAfter (λ t. t) result self.new (use_record used.entry.place.now used.entry.form.now which used.entry.frame self.old) }
+        ensures made { OnOk result (nodes.new ≡ nodes.old + 2) }
+        ensures refused { OnErr result (nodes.new ≤ nodes.old + 1) }
     {
         let mark = Mark(self.fresh()?);
         self.record_marked(used, which, mark, nodes)

@@ -1,6 +1,6 @@
 //! Keywords whose uses a transformer expands (R6RS 9 and libraries report 12).
 
-ghost use Rattle.std.specs.Prelude.{◌≡◌, ◌++◌, ◌∷◌, [], None, IfOk, OnOk};
+ghost use Rattle.std.specs.Prelude.{◌≡◌, ◌+◌, ◌≤◌, ◌++◌, ◌∷◌, [], None, IfOk, OnOk, OnErr};
 ghost use Rattle.sx_base.specs.Act.{GivesAfter};
 ghost use Rattle.sx_core.specs.Bindings.{bound_to};
 ghost use Rattle.sx_stage.specs.Libraries.{earlier_in};
@@ -74,7 +74,7 @@ impl<L: Ledger> Expansion<L> {
         }
     }
 
-    /// What comes of a use of a keyword.
+    /// What comes of a use of a keyword. It makes two nodes.
     #[tactic(auto, unfolding(crate::specs::Uses::use_keyword), using(crate::proofs::Staged::staged_gives))]
     pub fn use_keyword<N: Ledger>(
         &mut self,
@@ -83,7 +83,9 @@ impl<L: Ledger> Expansion<L> {
         means: &Means,
         counts: &mut Counts<N, L>,
     ) -> Result<Syn, Stop>
-        ensures { GivesAfter (λ t. t) result self.new (use_keyword (earlier_in means.now.earlier) used.entry.place.now used.entry.form.now label.now used.entry.frame self.old) }
+        ensures given { GivesAfter (λ t. t) result self.new (use_keyword (earlier_in means.now.earlier) used.entry.place.now used.entry.form.now label.now used.entry.frame self.old) }
+        ensures made { OnOk result (counts.new.nodes.now ≡ counts.old.nodes.now + 2) }
+        ensures refused { OnErr result (counts.new.nodes.now ≤ counts.old.nodes.now + 1) }
     {
         let UsedForm { form, frame, place } = used;
         let expression = self.macro_expression(label)?;
