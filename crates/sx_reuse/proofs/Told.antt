@@ -1,11 +1,10 @@
 -- What holds of contents where they are told.
-use Rattle.std.proofs.Common.{ℕ, ◌+◌, ◌-◌, ◌^◌, ◌≤◌, List, Option, Some, None, arith}
+use Rattle.std.proofs.Common.{ℕ, ◌≤◌, Option, Some, None, arith}
 use Rattle.std.specs.Prelude.{IfSome}
-use Rattle.sx_outside.specs.Causes.{Rose, raised}
+use Rattle.sx_outside.specs.Causes.{Rose}
 use Rattle.sx_outside.specs.Contents.{Paths}
 use Rattle.sx_outside.specs.Store.{WhereTold}
-use Rattle.sx_reuse.specs.Turns.{IsPut, Quiet}
-use Rattle.sx_reuse.specs.Turns as turns
+use Rattle.sx_reuse.specs.Turns.{Quiet}
 
 -- ---- one call, and then another
 
@@ -47,18 +46,5 @@ if_any (Some x) P f = f x
 pub rose_later : (a b c : ℕ) → b ≤ c → Rose a b → Rose a c
 rose_later a b c h r = omega (arith, h, r)
 
-raised_less : (a b : ℕ) → a ≤ b → raised a ≤ raised b
-raised_less a b h = grind (arith, h)
-
-pub rose_earlier : (a b c : ℕ) → a ≤ b → Rose b c → Rose a c
-rose_earlier a b c h r = omega (arith, raised_less a b h, r)
-
 pub quiet_first : (a b c : ℕ) → b ≤ c → Quiet a c → Quiet a b
 quiet_first a b c h q = λ r. q (rose_later a b c h r)
-
--- what was put, counted from an earlier call on
-pub put_earlier : (a b c : ℕ) (place : List ℕ) (before : Paths) (piece : Option (List ℕ)) (after : Paths) → a ≤ b → IsPut b c place before piece after → IsPut a c place before piece after
-put_earlier a b c place before piece after h (turns.put short sets) = turns.put short sets
-put_earlier a b c place before piece after h (turns.too_long long) = turns.too_long long
-put_earlier a b c place before piece after h turns.unspelled = turns.unspelled
-put_earlier a b c place before piece after h (turns.failed rose others) = turns.failed (rose_earlier a b c h rose) others

@@ -20,7 +20,7 @@ use Rattle.sx_reuse.specs.Progress.{Progress, begun, with_record}
 use Rattle.sx_reuse.specs.declared.turns.Recorded.{Recorded}
 use Rattle.sx_reuse.specs.Turns as turns
 use Rattle.sx_reuse.specs.Turns.{IsPut, put, too_long, unspelled, failed, PutsEntry, Quiet, State, state, Turn, reused, expanded, Breaks, nothing_put, entry_put, BreaksOff, between, Keeps, Records, TakesTurn, TakeTurns, TakeFrom}
-use Rattle.sx_reuse.proofs.Told.{told_same, told_by, told_here, told_where, rose_later, put_earlier}
+use Rattle.sx_reuse.proofs.Told.{told_same, told_by, told_here, told_where, rose_later}
 
 up_to : (a b c : ℕ) → a ≤ b → b ≤ c → a ≤ c
 up_to a b c h k = omega (arith, h, k)
@@ -89,7 +89,7 @@ module _ (k : Kept) (prelude : Result Codes Fault) where
   -- what is left where memory runs out behind a turn
   broken_off : (s t : State) (f : Found) → Turn k prelude s f t → Breaks k prelude s f t.store t.faults
   broken_off s t f (reused r faults more stored) = nothing_put refl more
-  broken_off s t f (expanded r faults left more misses expands kept) = entry_put r more expands kept
+  broken_off s t f (expanded r asked faults left more further misses expands kept) = entry_put r asked more further expands kept
 
   module _ (p : Progress) (f : Found) (fa : ℕ) where
     abbrev Records-as : Result Recorded Stop → Option Paths → Option Paths → ℕ → Type 0
@@ -114,9 +114,9 @@ module _ (k : Kept) (prelude : Result Codes Fault) where
       module _ (fc : ℕ) (further : fb ≤ fc) where
         one : (result : Result Recorded Stop) (a c : Paths) → (Quiet fa fb → stored_at a ≡ None) → Keeps k prelude p.records f place result a c fb fc → Records k prelude result (state p a fa) f c fc
         one (Ok q) a c misses m =
-            let kept : IsPut fa fc (place_of k f) a (spelled (made k f q.library)) c = put_earlier fa fb fc (place_of k f) a (spelled (made k f q.library)) c more (subst (λ (x : List ℕ). IsPut fb fc x a (spelled (made k f q.library)) c) is m.1) in
+            let kept : IsPut fb fc (place_of k f) a (spelled (made k f q.library)) c = subst (λ (x : List ℕ). IsPut fb fc x a (spelled (made k f q.library)) c) is m.1 in
             subst (λ (again : Bool). Turn k prelude (state p a fa) f (state (with_record p q.library again) c fc)) (sym m.2)
-            (expanded q.library fc c (up_to fa fb fc more further) (λ quiet. sym (stored_is a) ∙ misses (λ rose. quiet (rose_later fa fb fc further rose))) m.0 kept)
+            (expanded q.library fb fc c more further (λ quiet. sym (stored_is a) ∙ misses quiet) m.0 kept)
         one (Err (stop.Fault fault)) a c misses m = record {
           later = up_to fa fb fc more further;
           misses = λ quiet. sym (stored_is a) ∙ misses (λ rose. quiet (rose_later fa fb fc further rose));

@@ -57,8 +57,9 @@ module _ (k : Kept) (prelude : Result Codes Fault) where
 
   pub data Turn (s : State) (f : Found) : State → Type 0 where
     reused : (r : LibRecord) (faults : ℕ) → s.faults ≤ faults → stored s f ≡ Some r → Turn s f (state (with_record s.progress r true) s.store faults)
-    expanded : (r : LibRecord) (faults : ℕ) (left : Paths) → s.faults ≤ faults → Misses s f faults → expanded_record s f ≡ Ok r
-        → IsPut s.faults faults (place_of k f) s.store (spelled (made k f r)) left → Turn s f (state (with_record s.progress r false) left faults)
+    -- the get is one call and the put another: what the first costs is no excuse for the second
+    expanded : (r : LibRecord) (asked faults : ℕ) (left : Paths) → s.faults ≤ asked → asked ≤ faults → Misses s f asked → expanded_record s f ≡ Ok r
+        → IsPut asked faults (place_of k f) s.store (spelled (made k f r)) left → Turn s f (state (with_record s.progress r false) left faults)
 
   -- it is at fault: nothing is put
   pub record IsAtFault (s : State) (f : Found) (fault : Fault) (store : Paths) (faults : ℕ) : Type 0 where
@@ -70,7 +71,7 @@ module _ (k : Kept) (prelude : Result Codes Fault) where
   -- where memory ran out in the turn of a library, nothing was put, or its entry was
   pub data Breaks (s : State) (f : Found) (store : Paths) (faults : ℕ) : Type 0 where
     nothing_put : store ≡ s.store → s.faults ≤ faults → Breaks s f store faults
-    entry_put : (r : LibRecord) → s.faults ≤ faults → expanded_record s f ≡ Ok r → IsPut s.faults faults (place_of k f) s.store (spelled (made k f r)) store → Breaks s f store faults
+    entry_put : (r : LibRecord) (asked : ℕ) → s.faults ≤ asked → asked ≤ faults → expanded_record s f ≡ Ok r → IsPut asked faults (place_of k f) s.store (spelled (made k f r)) store → Breaks s f store faults
 
   -- ---- all libraries
 

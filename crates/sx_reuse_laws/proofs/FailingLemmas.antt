@@ -8,7 +8,7 @@ use Rattle.sx_load.specs.declared.found.Found.{Found}
 use Rattle.sx_outside.specs.Causes.{Rose, raised}
 use Rattle.sx_outside.specs.Contents.{Paths}
 use Rattle.sx_reuse.specs.Entries.{Kept}
-use Rattle.sx_reuse.specs.Turns.{State, stored, Quiet, Turn, reused, expanded, IsPut, put, too_long, unspelled, failed, Turns, done, next}
+use Rattle.sx_reuse.specs.Turns.{State, stored, Misses, Quiet, Turn, reused, expanded, IsPut, put, too_long, unspelled, failed, Turns, done, next}
 use Rattle.sx_reuse_laws.specs.Failing.{unput, overlooked, unkept, all_overlooked, all_unkept, AtMostRisen, FailuresAreCounted}
 
 -- a count that can't but have risen has risen
@@ -22,6 +22,15 @@ rose_or a b never = by (nat_le (raised a) b) refl
 together : (a b c m n : ℕ) → min (a + m) (2 ^ 64 - 1) ≤ b → min (b + n) (2 ^ 64 - 1) ≤ c → min (a + (m + n)) (2 ^ 64 - 1) ≤ c
 together a b c m n h k = omega (arith, h, k)
 
+sorted : (a b c m n p q : ℕ) → min (a + (m + n)) (2 ^ 64 - 1) ≤ b → min (b + (p + q)) (2 ^ 64 - 1) ≤ c → min (a + (m + p + (n + q))) (2 ^ 64 - 1) ≤ c
+sorted a b c m n p q h k = omega (arith, h, k)
+
+first_of : (a b m n : ℕ) → min (a + (m + n)) (2 ^ 64 - 1) ≤ b → min (a + m) (2 ^ 64 - 1) ≤ b
+first_of a b m n h = omega (arith, h)
+
+second_of : (a b m n : ℕ) → min (a + (m + n)) (2 ^ 64 - 1) ≤ b → min (a + n) (2 ^ 64 - 1) ≤ b
+second_of a b m n h = omega (arith, h)
+
 none_more : (a b : ℕ) → a ≤ b → min (a + 0) (2 ^ 64 - 1) ≤ b
 none_more a b h = omega (arith, h)
 
@@ -29,13 +38,12 @@ one_more : (a b : ℕ) → Rose a b → min (a + 1) (2 ^ 64 - 1) ≤ b
 one_more a b h = omega (arith, h)
 
 module _ (k : Kept) (prelude : Result Codes Fault) where
-  one_overlooked : (s t : State) (f : Found) (turn : Turn k prelude s f t) → AtMostRisen s.faults (overlooked k prelude turn) t.faults
-  one_overlooked s t f (reused r faults later found) = none_more s.faults faults later
-  one_overlooked s t f (expanded r faults left later misses made kept) = by (stored k prelude s f) refl
+  get_counted : (s : State) (f : Found) (asked : ℕ) → s.faults ≤ asked → Misses k prelude s f asked → AtMostRisen s.faults (if is_some (stored k prelude s f) then 1 else 0) asked
+  get_counted s f asked later misses = by (stored k prelude s f) refl
     where
-      by : (o : Option LibRecord) → stored k prelude s f ≡ o → AtMostRisen s.faults (if is_some o then 1 else 0) faults
-      by None e = none_more s.faults faults later
-      by (Some x) e = one_more s.faults faults (rose_or s.faults faults (λ quiet. let no = misses quiet in absurd (cc)))
+      by : (o : Option LibRecord) → stored k prelude s f ≡ o → AtMostRisen s.faults (if is_some o then 1 else 0) asked
+      by None e = none_more s.faults asked later
+      by (Some x) e = one_more s.faults asked (rose_or s.faults asked (λ quiet. let no = misses quiet in absurd (cc)))
 
   put_counted : (a b : ℕ) (place : List ℕ) (before after : Paths) (o : Option (List ℕ)) → a ≤ b → (p : IsPut a b place before o after) → AtMostRisen a (unput p) b
   put_counted a b place before after (Some piece) later (put short sets) = none_more a b later
@@ -43,17 +51,20 @@ module _ (k : Kept) (prelude : Result Codes Fault) where
   put_counted a b place before after None later unspelled = none_more a b later
   put_counted a b place before after (Some piece) later (failed rose others) = one_more a b rose
 
-  one_unkept : (s t : State) (f : Found) (turn : Turn k prelude s f t) → AtMostRisen s.faults (unkept k prelude turn) t.faults
-  one_unkept s t f (reused r faults later found) = none_more s.faults faults later
-  one_unkept s t f (expanded r faults left later misses made kept) = put_counted s.faults faults _ s.store left _ later kept
+  -- a get that failed, and a put
+  one_turn : (s t : State) (f : Found) (turn : Turn k prelude s f t) → AtMostRisen s.faults (overlooked k prelude turn + unkept k prelude turn) t.faults
+  one_turn s t f (reused r faults later found) = none_more s.faults faults later
+  one_turn s t f (expanded r asked faults left later further misses made kept) =
+      together s.faults asked faults (if is_some (stored k prelude s f) then 1 else 0) (unput kept) (get_counted s f asked later misses) (put_counted asked faults _ s.store left _ further kept)
 
-  risen : (s last : State) (fs : List Found) (turns : Turns k prelude s fs last) → (AtMostRisen s.faults (all_overlooked k prelude turns) last.faults) × (AtMostRisen s.faults (all_unkept k prelude turns) last.faults)
-  risen s last fs done = (none_more s.faults s.faults (omega arith), none_more s.faults s.faults (omega arith))
+  risen : (s last : State) (fs : List Found) (turns : Turns k prelude s fs last) → AtMostRisen s.faults (all_overlooked k prelude turns + all_unkept k prelude turns) last.faults
+  risen s last fs done = none_more s.faults s.faults (omega arith)
   risen s last fs (next {t = t} {f = f} {fs = rest} turn turns) =
-      let others = risen t last rest turns in (
-        together s.faults t.faults last.faults (overlooked k prelude turn) (all_overlooked k prelude turns) (one_overlooked s t f turn) others.0,
-        together s.faults t.faults last.faults (unkept k prelude turn) (all_unkept k prelude turns) (one_unkept s t f turn) others.1,
-      )
+      sorted s.faults t.faults last.faults (overlooked k prelude turn) (unkept k prelude turn) (all_overlooked k prelude turns) (all_unkept k prelude turns) (one_turn s t f turn) (risen t last rest turns)
 
   pub counted : (s last : State) (fs : List Found) (turns : Turns k prelude s fs last) → FailuresAreCounted k prelude s last fs turns
-  counted s last fs turns = record { overlooked = (risen s last fs turns).0; unkept = (risen s last fs turns).1 }
+  counted s last fs turns = record {
+    overlooked = first_of s.faults last.faults (all_overlooked k prelude turns) (all_unkept k prelude turns) (risen s last fs turns);
+    unkept = second_of s.faults last.faults (all_overlooked k prelude turns) (all_unkept k prelude turns) (risen s last fs turns);
+    together = risen s last fs turns;
+  }

@@ -147,10 +147,10 @@ module _ (base : Base) (k : Kept) (group : Found → List Source) (loaded : Libr
         let both : ◌≡◌ {A = Result LibRecord Fault} (Ok x) (Ok r) = sym made_here ∙ gives in
         let same : x ≡ r = cc in
         subst (λ (y : LibRecord). HoldsEntry k s.store f y) same (reused_holds k base.prelude s.progress.records s.store f x honest found)
-    turn_holds s t is honest gives (expanded x faults left more misses made_here kept) quiet =
+    turn_holds s t is honest gives (expanded x asked faults left more further misses made_here kept) quiet =
         let both : ◌≡◌ {A = Result LibRecord Fault} (Ok x) (Ok r) = sym (behind_here base k group loaded right picks others f own s is honest (Ok x) made_here) ∙ gives in
         let same : x ≡ r = cc in
-        put_holds k s.faults faults f r s.store left (spelled (made k f x)) (ap (λ (y : LibRecord). spelled (made k f y)) (sym same)) can quiet kept
+        put_holds k asked faults f r s.store left (spelled (made k f x)) (ap (λ (y : LibRecord). spelled (made k f y)) (sym same)) can (quiet_within s.faults asked faults faults more (same_count faults) quiet) kept
 
   -- ---- the turns of all
 
@@ -249,10 +249,10 @@ module _ (base : Base) (k : Kept) (group : Found → List Source) (loaded : Libr
         let both : ◌≡◌ {A = Result LibRecord Fault} (Ok x) (Ok r) = sym made_here ∙ gives in
         let same : x ≡ r = cc in
         inl (subst (λ (y : LibRecord). HoldsEntry k s.store g y) same (reused_holds k base.prelude s.progress.records s.store g x honest found))
-    turn_or s t is honest gives fits (expanded x faults left more misses made_here kept) =
+    turn_or s t is honest gives fits (expanded x asked faults left more further misses made_here kept) =
         let both : ◌≡◌ {A = Result LibRecord Fault} (Ok x) (Ok r) = sym (behind_here base k group loaded right picks others g n s is honest (Ok x) made_here) ∙ gives in
         let same : x ≡ r = cc in
-        put_or k s.faults faults g r s.store left (spelled (made k g x)) (ap (λ (y : LibRecord). spelled (made k g y)) (sym same)) fits kept
+        put_or k asked faults g r s.store left (spelled (made k g x)) (ap (λ (y : LibRecord). spelled (made k g y)) (sym same)) fits kept
 
   pub holds_or : (middle rows before : Libraries) (others records : List LibRecord) (s last : State) (fs : List Found) → fs ≡ found_in rows → rows ≡ middle ++ (file, f) ∷ rest → loaded ≡ before ++ rows
       → records_behind base before ≡ Ok others → s.progress.records ≡ base.derived ∷ others → IsHonest base.prelude s.store → (ts : Turns k base.prelude s fs last) → TurnsHonestly k base.prelude ts

@@ -19,7 +19,7 @@ module _ (k : Kept) (prelude : Result Codes Fault) (place : List ℕ) where
 
   turn_leaves : (s t : State) (f : Found) → (place_of k f ≡ place → ⊥) → Turn k prelude s f t → at_path t.store place ≡ at_path s.store place
   turn_leaves s t f other (reused r faults more found) = refl
-  turn_leaves s t f other (expanded r faults left more misses made_here kept) = put_leaves s.faults faults (place_of k f) s.store left _ other kept
+  turn_leaves s t f other (expanded r asked faults left more further misses made_here kept) = put_leaves asked faults (place_of k f) s.store left _ other kept
 
   pub turns_leave : (s last : State) (fs : List Found) → IsElsewhere k place fs → Turns k prelude s fs last → at_path last.store place ≡ at_path s.store place
   turns_leave s last fs other done = refl
@@ -31,7 +31,7 @@ module _ (k : Kept) (prelude : Result Codes Fault) (place : List ℕ) where
 
   break_leaves : (s : State) (f : Found) (store : Paths) (faults : ℕ) → (place_of k f ≡ place → ⊥) → Breaks k prelude s f store faults → at_path store place ≡ at_path s.store place
   break_leaves s f store faults other (nothing_put same more) = ap (λ (x : Paths). at_path x place) same
-  break_leaves s f store faults other (entry_put r more made_here kept) = put_leaves s.faults faults (place_of k f) s.store store _ other kept
+  break_leaves s f store faults other (entry_put r asked more further made_here kept) = put_leaves asked faults (place_of k f) s.store store _ other kept
 
   breaks_leave : (store : Paths) (faults : ℕ) (s : State) (fs : List Found) → IsElsewhere k place fs → BreaksOff k prelude store faults s fs → at_path store place ≡ at_path s.store place
   breaks_leave store faults s fs other (between same more) = ap (λ (x : Paths). at_path x place) same

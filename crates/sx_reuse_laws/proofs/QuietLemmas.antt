@@ -32,11 +32,11 @@ module _ (k : Kept) (prelude : Result Codes Fault) where
 
   pub turn_later : (s t : State) (f : Found) → Turn k prelude s f t → s.faults ≤ t.faults
   turn_later s t f (reused r faults more found) = more
-  turn_later s t f (expanded r faults left more misses made kept) = more
+  turn_later s t f (expanded r asked faults left more further misses made kept) = up_to s.faults asked faults more further
 
   pub turn_quiet : (s t : State) (f : Found) (turn : Turn k prelude s f t) → Quiet s.faults t.faults → TurnIsHonest k prelude turn
   turn_quiet s t f (reused r faults more found) quiet = tt
-  turn_quiet s t f (expanded r faults left more misses made kept) quiet = put_quiet s.faults faults _ s.store left _ quiet kept
+  turn_quiet s t f (expanded r asked faults left more further misses made kept) quiet = put_quiet asked faults _ s.store left _ (quiet_within s.faults asked faults faults more (same_count faults) quiet) kept
 
   pub turns_later : (s last : State) (fs : List Found) → Turns k prelude s fs last → s.faults ≤ last.faults
   turns_later s last fs done = same_count s.faults
@@ -62,7 +62,7 @@ module _ (k : Kept) (prelude : Result Codes Fault) where
 
   breaks_later : (s : State) (f : Found) (store : Paths) (faults : ℕ) → Breaks k prelude s f store faults → s.faults ≤ faults
   breaks_later s f store faults (nothing_put same more) = more
-  breaks_later s f store faults (entry_put r more made kept) = more
+  breaks_later s f store faults (entry_put r asked more further made kept) = up_to s.faults asked faults more further
 
   off_later : (store : Paths) (faults : ℕ) (s : State) (fs : List Found) → BreaksOff k prelude store faults s fs → s.faults ≤ faults
   off_later store faults s fs (between same more) = more
@@ -71,7 +71,7 @@ module _ (k : Kept) (prelude : Result Codes Fault) where
 
   breaks_quiet : (s : State) (f : Found) (store : Paths) (faults : ℕ) (b : Breaks k prelude s f store faults) → Quiet s.faults faults → BreaksHonestly k prelude b
   breaks_quiet s f store faults (nothing_put same more) quiet = tt
-  breaks_quiet s f store faults (entry_put r more made kept) quiet = put_quiet s.faults faults _ s.store store _ quiet kept
+  breaks_quiet s f store faults (entry_put r asked more further made kept) quiet = put_quiet asked faults _ s.store store _ (quiet_within s.faults asked faults faults more (same_count faults) quiet) kept
 
   off_quiet : (store : Paths) (faults : ℕ) (s : State) (fs : List Found) (b : BreaksOff k prelude store faults s fs) → Quiet s.faults faults → BreaksOffHonestly k prelude b
   off_quiet store faults s fs (between same more) quiet = tt

@@ -74,9 +74,9 @@ module _ (base : Base) (k : Kept) (group : Found → List Source) (loaded : Libr
           → (expand_behind base others f (library_body f.opened.«data») ≡ Ok r) × entries.HonestStore base.prelude (cache_of k).entry_in left
       law_turn flag r left turn = turn_right base (cache_of k) k.roots group loaded back right others s.store f n (honest_there base k s.store honest) false flag r left turn
 
-      put_turn : (r : LibRecord) (faults : ℕ) (left : Paths) → expand_found base.prelude s.progress.records f (library_body f.opened.«data») ≡ Ok r
-          → (p : IsPut s.faults faults (place_of k f) s.store (spelled (made k f r)) left) → PutIsHonest base.prelude p → law.Turn base (cache_of k) k.roots group loaded false others s.store f false r left
-      put_turn r faults left made_here p h = law.expanded (λ quiet. absurd (true≢false (sym quiet))) (behind_here (Ok r) made_here) (is_kept r s.faults faults s.store left (spelled (made k f r)) refl p h)
+      put_turn : (r : LibRecord) (asked faults : ℕ) (left : Paths) → expand_found base.prelude s.progress.records f (library_body f.opened.«data») ≡ Ok r
+          → (p : IsPut asked faults (place_of k f) s.store (spelled (made k f r)) left) → PutIsHonest base.prelude p → law.Turn base (cache_of k) k.roots group loaded false others s.store f false r left
+      put_turn r asked faults left made_here p h = law.expanded (λ quiet. absurd (true≢false (sym quiet))) (behind_here (Ok r) made_here) (is_kept r asked faults s.store left (spelled (made k f r)) refl p h)
 
       -- what was reused is what expansion gives
       pub reused_gives : (r : LibRecord) → if_short k s.progress.records f (at_path s.store (place_of k f)) ≡ Some r → expand_behind base others f (library_body f.opened.«data») ≡ Ok r
@@ -92,13 +92,13 @@ module _ (base : Base) (k : Kept) (group : Found → List Source) (loaded : Libr
       pub step : (t : State) (turn : Turn k base.prelude s f t) → TurnIsHonest k base.prelude turn → Step t
       step t (reused r faults more found) h =
           record { r = r; made = reused_gives r found; records = ap (λ (rs : List LibRecord). rs ++ r ∷ []) is; left_honest = honest }
-      step t (expanded r faults left more misses made_here kept) h =
-          let x = law_turn false r left (put_turn r faults left made_here kept h) in
+      step t (expanded r asked faults left more further misses made_here kept) h =
+          let x = law_turn false r left (put_turn r asked faults left made_here kept h) in
           record { r = r; made = x.0; records = ap (λ (rs : List LibRecord). rs ++ r ∷ []) is; left_honest = honest_here base k left x.1 }
 
       pub broken : (store : Paths) (faults : ℕ) (b : Breaks k base.prelude s f store faults) → BreaksHonestly k base.prelude b → IsHonest base.prelude store
       broken store faults (nothing_put same more) h = subst (IsHonest base.prelude) (sym same) honest
-      broken store faults (entry_put r more made_here kept) h = honest_here base k store (law_turn false r store (put_turn r faults store made_here kept h)).1
+      broken store faults (entry_put r asked more further made_here kept) h = honest_here base k store (law_turn false r store (put_turn r asked faults store made_here kept h)).1
 
   -- ---- all libraries
 

@@ -23,11 +23,11 @@ module _ (k : Kept) (prelude : Result Codes Fault) where
   -- 1 for a library that was expanded although the store had a record for it
   abbrev pub overlooked : {s t : State} {f : Found} → Turn k prelude s f t → ℕ
   overlooked (reused r faults later found) = 0
-  overlooked {s = s} {f = f} (expanded r faults left later misses made kept) = if is_some (stored k prelude s f) then 1 else 0
+  overlooked {s = s} {f = f} (expanded r asked faults left later further misses made kept) = if is_some (stored k prelude s f) then 1 else 0
 
   abbrev pub unkept : {s t : State} {f : Found} → Turn k prelude s f t → ℕ
   unkept (reused r faults later found) = 0
-  unkept (expanded r faults left later misses made kept) = unput kept
+  unkept (expanded r asked faults left later further misses made kept) = unput kept
 
   -- how many libraries were
   abbrev pub all_overlooked : {s last : State} {fs : List Found} → Turns k prelude s fs last → ℕ
@@ -47,3 +47,5 @@ module _ (k : Kept) (prelude : Result Codes Fault) where
   pub record FailuresAreCounted (s last : State) (fs : List Found) (turns : Turns k prelude s fs last) : Type 0 where
     pub overlooked : AtMostRisen s.faults (all_overlooked turns) last.faults
     pub unkept : AtMostRisen s.faults (all_unkept turns) last.faults
+    -- no failure counts for both
+    pub together : AtMostRisen s.faults (all_overlooked turns + all_unkept turns) last.faults

@@ -21,11 +21,11 @@ module _ (prelude : Result Codes Fault) where
 module _ (k : Kept) (prelude : Result Codes Fault) where
   abbrev pub TurnIsHonest : {s t : State} {f : Found} → Turn k prelude s f t → Type 0
   TurnIsHonest (reused r faults more stored) = Unit {0}
-  TurnIsHonest (expanded r faults left more misses made kept) = PutIsHonest prelude kept
+  TurnIsHonest (expanded r asked faults left more further misses made kept) = PutIsHonest prelude kept
 
   abbrev pub BreaksHonestly : {s : State} {f : Found} {store : Paths} {faults : ℕ} → Breaks k prelude s f store faults → Type 0
   BreaksHonestly (nothing_put same more) = Unit {0}
-  BreaksHonestly (entry_put r more made kept) = PutIsHonest prelude kept
+  BreaksHonestly (entry_put r asked more further made kept) = PutIsHonest prelude kept
 
   abbrev pub TurnsHonestly : {s last : State} {fs : List Found} → Turns k prelude s fs last → Type 0
   TurnsHonestly done = Unit {0}

@@ -94,8 +94,8 @@ pub fn no_failure_leaves_nothing_foreign()
     ensures { (k : Kept) (prelude : Result Codes Fault) → HoldsWhereNothingFails k prelude }
 {}
 
-/// At most as many libraries are expanded although the store had a record for them, and at most as many entries are not
-/// put, as calls of the store have failed.
+/// As many libraries as are expanded although the store had a record for them, and as many entries as are not put, so
+/// many calls of the store have failed at least: a get that failed is no reason to leave out a put.
 pub fn failures_are_counted()
     ensures { (k : Kept) (prelude : Result Codes Fault) (s last : State) (fs : List Found) (turns : Turns k prelude s fs last)
         → FailuresAreCounted k prelude s last fs turns }
