@@ -177,7 +177,7 @@ module _ (rs : List LibRecord) where
   abbrev SettledShort : Settled → State → Type 0
   SettledShort d u = IsShort d.plan
 
-  settle-short : (left : ℕ) (place : Span) (level : ℕ) (t : Tree) (s : State) → Gave SettledShort (settle_to rs left place level t s)
+  pub settle-short : (left : ℕ) (place : Span) (level : ℕ) (t : Tree) (s : State) → Gave SettledShort (settle_to rs left place level t s)
   unfolding settle_to
   settle-short zero place level t s = gave-after StepShort SettledShort (step rs place level t s) (settled_by (λ l. too_many t place) place t) (step-short place level t s) by
     where

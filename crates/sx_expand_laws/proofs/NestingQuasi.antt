@@ -85,7 +85,7 @@ mutual
       ∙ append_assoc done (with_made t (deeper depth) []) (all_quasi_parts t (deeper depth) [] qs)
       ∙ ap (λ ps. done ++ ps) (sym (more-all t (deeper depth) (with_made t (deeper depth) []) qs))
 
-  more-all : (t : Tree) (depth : ℕ) (done : List Part) (qs : PlainQuasis) → all_quasi_parts t depth done qs ≡ done ++ all_quasi_parts t depth [] qs
+  pub more-all : (t : Tree) (depth : ℕ) (done : List Part) (qs : PlainQuasis) → all_quasi_parts t depth done qs ≡ done ++ all_quasi_parts t depth [] qs
   more-all t depth done none = sym (append-nil done)
   more-all t depth done (more q qs) =
       more-all t depth (quasi_parts t depth done q) qs

@@ -42,14 +42,13 @@ use Rattle.sx_expand_laws.proofs.Acts.{Gave, gave-after, gave-any, gave-if, gave
 use Rattle.sx_expand_laws.proofs.Naming.{as_frame, counted}
 use Rattle.sx_expand_laws.proofs.Nesting.{not-deep, deeper-next, deeper-up}
 use Rattle.sx_expand_laws.proofs.NestingBinding.{Pairs, pairs-each}
-use Rattle.sx_expand_laws.proofs.NestingForms.{IsShort}
+use Rattle.sx_expand_laws.proofs.NestingForms.{IsShort, settle-short}
 use Rattle.sx_nesting_laws.specs.Heights.{Between}
 use Rattle.sx_nesting_laws.specs.Nesting.{deepest, IsAtMostText}
 use Rattle.sx_nesting_laws.proofs.Bodies.{Nests, AreDeep, gave-all, splice-nests, body-nests}
 use Rattle.sx_nesting_laws.proofs.Heights.{Low, LowCase, LowInit, LowFender, LowClause, alone-low, low-at, one_armed-low, two_armed-low, assignment-low, in-sequence-low, call-low, lambda-low, case_lambda-low, letrec-low, matching-low}
 use Rattle.sx_nesting_laws.proofs.Items.{settle-deep}
 use Rattle.sx_nesting_laws.proofs.Quasi.{quasi-nests}
-use Rattle.sx_nesting_laws.proofs.Settled.{settle-short}
 
 -- whatever an action gives
 done-any : {A : Type 0} (r : Result (A × State) Fault) → Gave (λ (a : A) u. Unit {0}) r

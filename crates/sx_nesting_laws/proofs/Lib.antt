@@ -1,7 +1,6 @@
 pub mod Heights
 pub mod Bodies
 pub mod Items
-pub mod Settled
 pub mod Quasi
 pub mod Forms
 pub mod Records

@@ -34,36 +34,11 @@ use Rattle.sx_expand_laws.proofs.Fresh.{each-append}
 use Rattle.sx_expand_laws.proofs.Naming.{as_frame, counted}
 use Rattle.sx_expand_laws.proofs.Nesting.{not-deep, too-deep, deeper-next, deeper-up}
 use Rattle.sx_expand_laws.proofs.NestingBinding.{Pairs}
+use Rattle.sx_expand_laws.proofs.NestingQuasi.{more-all}
 use Rattle.sx_nesting_laws.specs.Heights.{Between, height_with}
 use Rattle.sx_nesting_laws.specs.Nesting.{deepest, IsAtMostText}
 use Rattle.sx_nesting_laws.proofs.Bodies.{Nests, gave-all}
 use Rattle.sx_nesting_laws.proofs.Heights.{Low, some-height, low-at, call-low, matching-low}
-
--- what is made is a part where it is too deep
-made-parts : (t : Tree) (depth : ℕ) (done : List Part) → with_made t depth done ≡ done ++ with_made t depth []
-made-parts t depth done = by (nat_lt most_round depth)
-  where
-    by : (b : Bool) → (if b then done ++ part t depth ∷ [] else done) ≡ done ++ (if b then [] ++ part t depth ∷ [] else [])
-    by true = refl
-    by false = sym (append-nil done)
-
-mutual
-  more-parts : (t : Tree) (depth : ℕ) (done : List Part) (q : PlainQuasi) → quasi_parts t depth done q ≡ done ++ quasi_parts t depth [] q
-  more-parts t depth done (constant c) = made-parts t depth done
-  more-parts t depth done (expression e) = refl
-  more-parts t depth done (quasi.call m qs) =
-      more-all t (deeper depth) (with_made t (deeper depth) done) qs
-      ∙ ap (λ ps. ps ++ all_quasi_parts t (deeper depth) [] qs) (made-parts t (deeper depth) done)
-      ∙ append_assoc done (with_made t (deeper depth) []) (all_quasi_parts t (deeper depth) [] qs)
-      ∙ ap (λ ps. done ++ ps) (sym (more-all t (deeper depth) (with_made t (deeper depth) []) qs))
-
-  more-all : (t : Tree) (depth : ℕ) (done : List Part) (qs : PlainQuasis) → all_quasi_parts t depth done qs ≡ done ++ all_quasi_parts t depth [] qs
-  more-all t depth done none = sym (append-nil done)
-  more-all t depth done (more q qs) =
-      more-all t depth (quasi_parts t depth done q) qs
-      ∙ ap (λ ps. ps ++ all_quasi_parts t depth [] qs) (more-parts t depth done q)
-      ∙ append_assoc done (quasi_parts t depth [] q) (all_quasi_parts t depth [] qs)
-      ∙ ap (λ ps. done ++ ps) (sym (more-all t depth (quasi_parts t depth [] q) qs))
 
 module _ (between : Between) (few : IsAtMostText between) where
   -- the code of a part, and the first codes where they are those of these parts
