@@ -2,7 +2,7 @@
 use Rattle.std.proofs.Common.{◌≡◌, ℕ, zero, suc, Bool, true, false, List, [], ◌∷◌, ◌++◌, Option, None, Some, Result, Ok, Err, refl, sym, ◌∙◌, ap, subst, inl, inr, if◌then◌else◌}
 use Rattle.std.specs.Prelude.{◌⊎◌, ◌&&◌, nat_eq, nat_lt, is_some}
 use Rattle.std.specs.Cmp.Lexicographic.{pointwise}
-use Rattle.sx_base.specs.Act.{after, give}
+use Rattle.sx_base.specs.Act.{after}
 use Rattle.sx_base.specs.Op.{name_count, is_keyword}
 use Rattle.sx_base.specs.Same.{same_library, texts_decides}
 use Rattle.sx_base.specs.declared.fault.Fault.{Fault}
@@ -60,7 +60,7 @@ use Rattle.sx_expand_laws.proofs.References.{RefersBy, TargetBy, Refers, Targets
 -- References.
 
 -- the variable of a standing has the label that was asked for
-abbrev OfLabel : Label → Standing → Type 0
+abbrev pub OfLabel : Label → Standing → Type 0
 OfLabel l standing.Nothing = Unit {0}
 OfLabel l (standing.Variable v) = v.label ≡ l
 OfLabel l standing.PatternVariable = Unit {0}
@@ -68,7 +68,7 @@ OfLabel l (standing.Primitive op) = Unit {0}
 OfLabel l (standing.Core f) = Unit {0}
 OfLabel l (standing.Keyword m) = Unit {0}
 
-label-kept : (s : State) (l : Label) → OfLabel l (label_standing s l)
+pub label-kept : (s : State) (l : Label) → OfLabel l (label_standing s l)
 unfolding label_standing
 label-kept s l = by (same_library l.0.library library.Core)
   where

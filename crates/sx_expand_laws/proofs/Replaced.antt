@@ -1,5 +1,5 @@
 -- A use of a keyword is replaced by the form that its transformer gives, and one of a record form by what it stands for.
-use Rattle.std.proofs.Common.{◌≡◌, ◌≤◌, ℕ, ◌+◌, zero, suc, Bool, true, false, List, Option, None, Some, Result, Ok, Err, refl, sym, ◌∙◌, ap, subst, arith, if◌then◌else◌}
+use Rattle.std.proofs.Common.{◌≡◌, ◌≤◌, ℕ, ◌+◌, suc, Bool, true, false, List, Option, None, Some, Result, Ok, Err, refl, sym, ◌∙◌, ap, subst, arith, if◌then◌else◌}
 use Rattle.std.specs.Prelude.{nat_lt}
 use Rattle.std.proofs.lemmas.Bool.Decides.{nat_tests}
 use Rattle.sx_base.specs.Act.{after, give}
@@ -40,6 +40,7 @@ use Rattle.sx_expand.specs.Expression.{perform_settled, form_at, inside}
 use Rattle.sx_expand.specs.Inside.{Inside}
 use Rattle.sx_expand.specs.Settle.{used_form, next_form, step_of, step, settled_by, settle_to, settle, at_use, item_step_of, item_step, settle_item_to, settle_item}
 use Rattle.sx_expand.specs.Settle as settling
+use Rattle.sx_expand.proofs.Steps.{earlier_inside}
 use Rattle.sx_expand_laws.proofs.Acts.{Gave, gave-after}
 use Rattle.sx_expand_laws.specs.Uses.{IsUseOf, UsesAreReplaced, with_head_of, BodyUsesAreReplaced, IsFormOf, RecordFormsAreReplaced, IsOfRecords, BodyRecordFormsAreReplaced}
 
@@ -122,17 +123,12 @@ module _ (go : Inside) (left : ℕ) (place : Span) (level depth : ℕ) (t : Tree
       ∙ ap (λ r. after r (perform_settled go level depth)) (next-settled h)
       ∙ behind few (next_form go.earlier left place t k None s) (next-leaves go.earlier left place t k None s)
 
-earlier-are : (rs : List LibRecord) (room : ℕ) → (inside rs room).earlier ≡ rs
-unfolding inside
-earlier-are rs zero = refl
-earlier-are rs (suc room) = refl
-
 form-replaced : (rs : List LibRecord) (room left : ℕ) (place : Span) (level depth : ℕ) (t : Tree) (k : KeywordUse) (s : State) → plan_of place level t s ≡ Ok (plans.Use k, s) → s.uses_left ≡ suc left → depth ≤ most_round
     → (inside rs (suc room)).form place level depth t s ≡ after (next_form rs left place t k None s) ((inside rs (suc room)).form (place_of t place) level depth)
 unfolding inside
 form-replaced rs room left place level depth t k s h uses le =
     let few : nat_lt most_round depth ≡ false = grind (arith, nat_tests) in
-    subst (λ (xs : List LibRecord). form_at (inside rs room) place level depth t s ≡ after (next_form xs left place t k None s) (form_at (inside rs room) (place_of t place) level depth)) (earlier-are rs room)
+    subst (λ (xs : List LibRecord). form_at (inside rs room) place level depth t s ≡ after (next_form xs left place t k None s) (form_at (inside rs room) (place_of t place) level depth)) (earlier_inside rs room)
     (replaced (inside rs room) left place level depth t k s h uses few)
 
 pub uses-replaced : UsesAreReplaced
@@ -202,7 +198,7 @@ body-form-replaced : (rs : List LibRecord) (room left : ℕ) (at : BodyAt) (dept
 unfolding inside
 body-form-replaced rs room left at depth done t k s h uses le =
     let few : nat_lt most_round depth ≡ false = grind (arith, nat_tests) in
-    subst (λ (xs : List LibRecord). item (inside rs room) at depth done t s ≡ after (next_form xs left at.place t k (Some at.frame) s) (item (inside rs room) (at_use at t) depth (with_head_of s done t))) (earlier-are rs room)
+    subst (λ (xs : List LibRecord). item (inside rs room) at depth done t s ≡ after (next_form xs left at.place t k (Some at.frame) s) (item (inside rs room) (at_use at t) depth (with_head_of s done t))) (earlier_inside rs room)
     (item-replaced (inside rs room) left at depth done t k s h uses few)
 
 pub body-uses-replaced : BodyUsesAreReplaced

@@ -248,7 +248,7 @@ left-over bs (m ∷ ms) l free (inr a) = by (has_label bs m) (left-over bs ms l 
     by true k = k
     by false k = inr k
 
-free-referenced : (c : PlainCore) (l : Label) → (Among (binders c) l → ⊥) → Among (mentions c) l → Among (references c) l
+pub free-referenced : (c : PlainCore) (l : Label) → (Among (binders c) l → ⊥) → Among (mentions c) l → Among (references c) l
 free-referenced c l free a = left-over (binders c) (with_labels [] (mentions c)) l free (with-there [] (mentions c) l a)
 
 -- what a line defines is among the binders

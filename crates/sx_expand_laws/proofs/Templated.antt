@@ -59,13 +59,13 @@ unescaped-template m h = grind (arith, template_of, unescaped, is_fixed)
 unescaped-reach : (m : Made) → reach (unescaped m) ≡ reach m
 unescaped-reach m = grind (arith, reach, unescaped)
 
-list-template : (place : Span) (t : Tree) (is : List MadeItem) (m y : Made) → list_joined place t is m ≡ Ok y → is_fixed y ≡ false → template_of y ≡ list (items_of is) (template_of m)
+pub list-template : (place : Span) (t : Tree) (is : List MadeItem) (m y : Made) → list_joined place t is m ≡ Ok y → is_fixed y ≡ false → template_of y ≡ list (items_of is) (template_of m)
 list-template place t is m y e h = grind (arith, list_joined, fixed_list, rebuilt, placed, ◌>>=◌, template_of, constant_of, is_fixed)
 
 list-reach : (place : Span) (t : Tree) (is : List MadeItem) (m y : Made) → list_joined place t is m ≡ Ok y → is_fixed y ≡ false → reach y ≡ max (reaches is) (reach m)
 list-reach place t is m y e h = grind (arith, list_joined, fixed_list, rebuilt, placed, ◌>>=◌, reach, is_fixed)
 
-vector-template : (place : Span) (t : Tree) (is : List MadeItem) (y : Made) → vector_joined place t is ≡ Ok y → is_fixed y ≡ false → template_of y ≡ vector (items_of is)
+pub vector-template : (place : Span) (t : Tree) (is : List MadeItem) (y : Made) → vector_joined place t is ≡ Ok y → is_fixed y ≡ false → template_of y ≡ vector (items_of is)
 vector-template place t is y e h = grind (arith, vector_joined, fixed_vector, rebuilt, placed, ◌>>=◌, template_of, is_fixed)
 
 vector-reach : (place : Span) (t : Tree) (is : List MadeItem) (y : Made) → vector_joined place t is ≡ Ok y → is_fixed y ≡ false → reach y ≡ reaches is

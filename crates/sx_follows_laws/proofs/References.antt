@@ -15,7 +15,7 @@ use Rattle.sx_core_laws.specs.Records.{line_core, run_binders}
 use Rattle.sx_core_laws.specs.Words.{Among, Each}
 use Rattle.sx_stage.specs.Libraries.{has_library}
 use Rattle.sx_stage_laws.proofs.Growing.{has_with}
-use Rattle.sx_stuck_laws.proofs.Mentioned.{with_there}
+use Rattle.sx_stage_laws.proofs.Sweeping.{with_has}
 use Rattle.sx_stuck_laws.specs.Behind.{IsReferred}
 use Rattle.sx_expand.specs.Top.{with_library, with_label_of, with_labels_of, code_of, with_lines_of, refs_of}
 use Rattle.sx_expand_laws.proofs.Fresh.{each-at, each-of}
@@ -47,7 +47,7 @@ module _ (own : LibName) where
     where
       by : (b : Bool) → same_library m.0.library own ≡ b → (m.0.library ≡ own) ⊎ (has_library (with_labels_of own (if b then ks else with_library ks m.0.library) ls) m.0.library ≡ true)
       by true is = inl ((same_library_decides m.0.library own).0 is)
-      by false is = inr (label-stays ls (with_library ks m.0.library) m.0.library (with_there ks m.0.library))
+      by false is = inr (label-stays ls (with_library ks m.0.library) m.0.library (with_has ks m.0.library))
 
   line-stays : (xs : List Line) (ks : List LibName) (k : LibName) → has_library ks k ≡ true → has_library (with_lines_of own ks xs) k ≡ true
   line-stays [] ks k h = h

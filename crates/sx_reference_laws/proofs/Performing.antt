@@ -51,6 +51,7 @@ use Rattle.sx_expand.specs.Keywords.{keyword, with_keywords, define_syntax}
 use Rattle.sx_expand.specs.Quasi.{part_core, parts_in_order, quasi_made, quasi_form}
 use Rattle.sx_expand.specs.Settle.{settle, settle_item}
 use Rattle.sx_expand.specs.declared.settle.Settled.{Settled}
+use Rattle.sx_expand.proofs.Steps.{earlier_inside}
 use Rattle.sx_expand_laws.specs.States.{Later}
 use Rattle.sx_expand_laws.proofs.Acts.{Gave, gave-any, gave-both, gave-after, gave-less, gave-if, told, each-nil, each-cons}
 use Rattle.sx_expand_laws.proofs.Later.{later-then}
@@ -461,7 +462,7 @@ module _ (libs : List LibName) (own : LibName) (core : Among libs library.Core) 
       item-made at depth d t s h k g q =
           let So : Taken → State → Type 0 = walking.TakesMade libs own core new rs at depth d t s in
           gave-if So (nat_lt most_round depth) _ (after (settle_item go.earlier at depth d t s) (expand_body.perform_settled go depth)) (λ e. tt)
-          (λ e. subst (λ (es : List LibRecord). Gave So (after (settle_item es at depth d t s) (expand_body.perform_settled go depth))) (sym (staying.earlier-same rs room))
+          (λ e. subst (λ (es : List LibRecord). Gave So (after (settle_item es at depth d t s) (expand_body.perform_settled go depth))) (sym (earlier_inside rs room))
           (gave-after (λ p v. ((StateHolds own K P s.names.number v × settled.SettledItemAt own K J P lives first rs held v.names.number p) × (settle_item rs at depth d t s ≡ Ok (p, v))) × Untold s p v) So (settle_item rs at depth d t s) (expand_body.perform_settled go depth)
           (gave-both (λ p v. (StateHolds own K P s.names.number v × settled.SettledItemAt own K J P lives first rs held v.names.number p) × (settle_item rs at depth d t s ≡ Ok (p, v))) (Untold s) (settle_item rs at depth d t s)
           (staying.gave-from libs own core new first (settled.SettledItemAt own K J P lives first rs held) s (settle_item rs at depth d t s) (settled-item-holds own K J P lives first rs held at depth d t s h k g q))
@@ -477,7 +478,7 @@ module _ (libs : List LibName) (own : LibName) (core : Among libs library.Core) 
     all-traced first held (suc room) =
         let inner = all-traced first held room in
         record {
-          form = λ place level depth t s h g. form-made first held room inner place level depth t s h g (inside rs room).earlier (staying.earlier-same rs room);
+          form = λ place level depth t s h g. form-made first held room inner place level depth t s h g (inside rs room).earlier (earlier_inside rs room);
           procedure = λ place level depth t ids fs s h k g. walking.case-made libs own core new rs first held room inner place level depth t ids fs s h k g;
           item = λ at depth d t s h k g q. item-made first held room inner at depth d t s h k g q;
         }

@@ -55,44 +55,9 @@ use Rattle.sx_reference_laws.proofs.Templating.{TemplateNames, template-of-names
 use Rattle.sx_expand_laws.proofs.Acts.{Gave, gave-any, gave-both, gave-after, gave-less, gave-if}
 use Rattle.sx_expand_laws.proofs.Named.{assignments-named}
 use Rattle.sx_expand_laws.proofs.References.{RefersBy, Refers, Targets, reference-is, target_by-is}
+use Rattle.sx_expand_laws.proofs.Named.{OfLabel, label-kept}
 
 -- The variable of a standing has the label that was asked for.
-
-abbrev OfLabel : Label → Standing → Type 0
-OfLabel l standing.Nothing = Unit {0}
-OfLabel l (standing.Variable v) = v.label ≡ l
-OfLabel l standing.PatternVariable = Unit {0}
-OfLabel l (standing.Primitive op) = Unit {0}
-OfLabel l (standing.Core f) = Unit {0}
-OfLabel l (standing.Keyword m) = Unit {0}
-
-label-kept : (s : State) (l : Label) → OfLabel l (label_standing s l)
-unfolding label_standing
-label-kept s l = by (same_library l.0.library library.Core)
-  where
-    by_keyword : (b : Bool) → OfLabel l (if b then standing.Nothing else standing.Primitive (record { 0 = l.0.number }))
-    by_keyword true = tt
-    by_keyword false = tt
-
-    by_form : (o : Option CoreForm) → OfLabel l (given_as l o)
-    by_form (Some f) = tt
-    by_form None = by_keyword (is_keyword l.0.number)
-
-    by_number : (b : Bool) → OfLabel l (if b then given_as l (at_number l.0.number) else standing.Nothing)
-    by_number true = by_form (at_number l.0.number)
-    by_number false = tt
-
-    bound : (o : Option Binding) → OfLabel l (bound_as s l o)
-    bound None = tt
-    bound (Some (binding.Variable v)) = refl
-    bound (Some (binding.PatternVariable level depth)) = tt
-    bound (Some (binding.Macro level expression)) = tt
-    bound (Some (binding.Core f)) = tt
-    bound (Some (binding.Primitive o)) = tt
-
-    by : (b : Bool) → OfLabel l (if b then numbered_as l else bound_as s l (bound_to s.bindings l))
-    by true = by_number (nat_lt l.0.number name_count)
-    by false = bound (bound_to s.bindings l)
 
 gave-told : {A : Type 0} (P : A → State → Type 0) (r : Result (A × State) Fault) → ((a : A) (u : State) → r ≡ Ok (a, u) → P a u) → Gave P r
 gave-told P (Ok p) h = h p.0 p.1 refl

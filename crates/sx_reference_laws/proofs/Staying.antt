@@ -61,12 +61,6 @@ pub gave-is : {A : Type 0} (r : Result (A × State) Fault) → Gave (λ a u. r �
 gave-is (Ok p) = refl
 gave-is (Err e) = tt
 
--- the records behind which forms are expanded
-pub earlier-same : (rs : List LibRecord) (room : ℕ) → (inside rs room).earlier ≡ rs
-unfolding inside
-earlier-same rs zero = refl
-earlier-same rs (suc room) = refl
-
 module _ (libs : List LibName) (own : LibName) (core : Among libs library.Core) (new : IsNewAmong libs own) where
   abbrev pub K : ℕ → Mark → Type 0
   K n m = IsKnown libs own n m

@@ -25,6 +25,7 @@ use Rattle.sx_standing.specs.State.{State}
 use Rattle.sx_template.specs.Compile.{Context, variable_made, bound_made, label_made, is_special, leaf_made, Element, dots, dots_behind, reach, with_ellipses, fitted, item_made, Walked, step, walked, constant_of, template_of, items_of, is_fixed, is_changed, any_changed, tree_before, trees, rebuilt, placed, all_fixed, fixed_list, list_joined, fixed_vector, vector_joined, escape_of, unescaped, list_parts, list_made, vector_made, template, elements_made, tail_made, compiled}
 use Rattle.sx_value.specs.Cells.{Each}
 use Rattle.sx_expand_laws.proofs.Acts.{Gave, gave-if}
+use Rattle.sx_expand_laws.proofs.Templated.{list-template, vector-template}
 use Rattle.sx_fresh_laws.proofs.Eachs.{each_both}
 use Rattle.sx_fresh_laws.proofs.Trees.{OkHolds}
 use Rattle.sx_reference_laws.specs.Namings.{namings, template_namings, item_namings}
@@ -76,9 +77,6 @@ unescaped-template m = grind (arith, template_of, unescaped)
 unescaped-trees : (m : Made) → trees_in (unescaped m) ≡ trees_in m
 unescaped-trees m = grind (arith, tree_before, unescaped)
 
-list-template : (place : Span) (t : Tree) (is : List MadeItem) (m y : Made) → list_joined place t is m ≡ Ok y → is_fixed y ≡ false → template_of y ≡ list (items_of is) (template_of m)
-list-template place t is m y e h = grind (arith, list_joined, fixed_list, rebuilt, placed, ◌>>=◌, template_of, constant_of, is_fixed)
-
 list-trees : (place : Span) (t : Tree) (is : List MadeItem) (m y : Made) → list_joined place t is m ≡ Ok y → trees_in y ≡ joined_trees t (is_fixed y) (is_changed m || any_changed is) (within (list_of (trees is) (Some (first (trees_in m)))))
 list-trees place t is m y e = grind (arith, list_joined, fixed_list, rebuilt, placed, ◌>>=◌, tree_before, is_fixed, is_changed, first, joined_trees, ◌||◌)
 
@@ -87,9 +85,6 @@ list-items-fixed place t is m y e h = grind (arith, list_joined, fixed_list, reb
 
 list-tail-fixed : (place : Span) (t : Tree) (is : List MadeItem) (m y : Made) → list_joined place t is m ≡ Ok y → is_fixed y ≡ true → is_fixed m ≡ true
 list-tail-fixed place t is m y e h = grind (arith, list_joined, fixed_list, rebuilt, placed, ◌>>=◌, is_fixed)
-
-vector-template : (place : Span) (t : Tree) (is : List MadeItem) (y : Made) → vector_joined place t is ≡ Ok y → is_fixed y ≡ false → template_of y ≡ vector (items_of is)
-vector-template place t is y e h = grind (arith, vector_joined, fixed_vector, rebuilt, placed, ◌>>=◌, template_of, is_fixed)
 
 vector-trees : (place : Span) (t : Tree) (is : List MadeItem) (y : Made) → vector_joined place t is ≡ Ok y → trees_in y ≡ joined_trees t (is_fixed y) (any_changed is) (within (vector_of (trees is)))
 vector-trees place t is y e = grind (arith, vector_joined, fixed_vector, rebuilt, placed, ◌>>=◌, tree_before, is_fixed, joined_trees)

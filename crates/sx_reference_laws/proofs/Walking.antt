@@ -48,6 +48,7 @@ use Rattle.sx_expand.specs.Expression.{in_order, case_in, lambda_case, one_case,
 use Rattle.sx_expand.specs.Inside.{Inside}
 use Rattle.sx_expand.specs.Keywords as keywords
 use Rattle.sx_expand.specs.Keywords.{seen_in, keyword_in, all_keywords, with_keywords}
+use Rattle.sx_expand.proofs.Steps.{earlier_inside}
 use Rattle.sx_expand_laws.specs.States.{Later}
 use Rattle.sx_expand_laws.proofs.Acts.{Gave, gave-both, gave-after, gave-less, gave-if, gave-within, told, each-nil, each-cons}
 use Rattle.sx_expand_laws.proofs.Changes.{Moves, inside-moves, moved-body, moved-case, moved-clause, moved-line}
@@ -348,7 +349,7 @@ module _ (libs : List LibName) (own : LibName) (core : Among libs library.Core) 
             (gave-after (FormMade place (level + 1) b.init z) (λ c w. (v : State) × ((w ≡ record v { scope = s.scope }) × FormMade place (level + 1) b.init z c v)) (go.form place (level + 1) depth b.init z) (restoring s.scope)
             (traced.form place (level + 1) depth b.init z (record { stage = h.stage; bindings = h.bindings }) k) (λ c v y. (v, (refl, y))))
             (λ c w y. subst (λ (v : State). Gave (λ x u. MeansMade place level b s u) (finish_keyword go.earlier (place_of b.init place) b.label c v)) (sym y.1.0)
-            (subst (λ (es : List LibRecord). Gave (λ x u. MeansMade place level b s u) (finish_keyword es (place_of b.init place) b.label c (record y.0 { scope = s.scope }))) (sym (staying.earlier-same rs room))
+            (subst (λ (es : List LibRecord). Gave (λ x u. MeansMade place level b s u) (finish_keyword es (place_of b.init place) b.label c (record y.0 { scope = s.scope }))) (sym (earlier_inside rs room))
             (means-kept place level b s y.0 c y.1.1)))
 
         -- what was kept before, and then the expressions of these

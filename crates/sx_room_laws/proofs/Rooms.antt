@@ -19,16 +19,12 @@ use Rattle.sx_expand.specs.Inside.{Inside}
 use Rattle.sx_expand.specs.Settle.{settle}
 use Rattle.sx_expand.specs.Top.{give_record, exports, body_at, finished, first_pass, top}
 use Rattle.sx_expand.specs.declared.top.TopAt.{TopAt}
+use Rattle.sx_expand.proofs.Steps.{earlier_inside}
 use Rattle.sx_room_laws.specs.Room.{IsEnough, FormsNeedNoMore, ItemsNeedNoMore, CasesNeedNoMore, BodiesNeedNoMore, TopsNeedNoMore}
 use Rattle.sx_room_laws.proofs.Agreeing.{Agree, same-finish-all, same-taken, same-body, same-case, same-form-at, same-item}
 use Rattle.sx_room_laws.proofs.Items.{Keeps, keeps-inside, shallow-inside, deep-body, deep-case}
 use Rattle.sx_room_laws.proofs.Same.{same-after}
 use Rattle.sx_room_laws.proofs.Waiting.{WaitsFrom}
-
-earlier-are : (rs : List LibRecord) (room : ℕ) → (inside rs room).earlier ≡ rs
-unfolding inside
-earlier-are rs zero = refl
-earlier-are rs (suc room) = refl
 
 pub form-is : (rs : List LibRecord) (room : ℕ) (place : Span) (level depth : ℕ) (t : Tree) (s : State) → (inside rs (suc room)).form place level depth t s ≡ form_at (inside rs room) place level depth t s
 unfolding inside
@@ -76,7 +72,7 @@ module _ (rs : List LibRecord) (p q d : ℕ) (next : d ≤ most_round → Agree 
 
   round : Agree d (inside rs (suc p)) (inside rs (suc q))
   round = record {
-    earlier = earlier-are rs (suc p) ∙ sym (earlier-are rs (suc q));
+    earlier = earlier_inside rs (suc p) ∙ sym (earlier_inside rs (suc q));
     form = λ place level depth t s le. form-by place level depth t s le (nat_lt most_round depth) refl;
     procedure = λ place level depth t ids forms s le.
         case-is rs p place level (deeper depth) t ids forms s ∙ case-by place level depth t ids forms s le (nat_lt most_round depth) refl ∙ sym (case-is rs q place level (deeper depth) t ids forms s);

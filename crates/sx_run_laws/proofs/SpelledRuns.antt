@@ -40,7 +40,7 @@ use Rattle.sx_run_laws.proofs.SpelledLines.{text-lines}
 use Rattle.sx_text_laws.specs.Standing.{AreStanding}
 use Rattle.sx_text_laws.specs.Text.{text_of, IsClosedOnce}
 use Rattle.sx_text_laws.proofs.Closed.{text-known}
-use Rattle.sx_text_laws.proofs.Refers.{free-referenced}
+use Rattle.sx_expand_laws.proofs.RunReferences.{free-referenced}
 use Rattle.sx_text_laws.proofs.Words.{among-map, among-flat, flat-among}
 use Rattle.sx_run_laws.proofs.Written.{HasText, IsSound, all-sound, binder, first-bare, text-checked}
 

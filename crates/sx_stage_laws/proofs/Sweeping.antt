@@ -49,7 +49,7 @@ append_nil (k ∷ ks) = ap (λ x. k ∷ x) (append_nil ks)
 has_last : (ks : List LibName) (m : LibName) → has_library (ks ++ m ∷ []) m ≡ true
 has_last ks m = list_any-append (same_library m) ks (m ∷ []) ∙ or_true (has_library ks m) (same_library m m || false) (ap (λ b. b || false) (same_itself m))
 
-with_has : (ks : List LibName) (m : LibName) → has_library (with_library ks m) m ≡ true
+pub with_has : (ks : List LibName) (m : LibName) → has_library (with_library ks m) m ≡ true
 with_has ks m = go (has_library ks m) refl
   where
     go : (b : Bool) → has_library ks m ≡ b → has_library (if b then ks else ks ++ m ∷ []) m ≡ true
@@ -282,7 +282,7 @@ lacking_there ds ws (m ∷ ms) k h w d = elim (or_cases (same_library k m) (has_
     go true r = or_true (same_library k m) (has_library (lacking ds ws ms) k) r
     go false r = r
 
-all_has : (ds ks : List LibName) (k : LibName) → has_all ds ks ≡ true → has_library ks k ≡ true → has_library ds k ≡ true
+pub all_has : (ds ks : List LibName) (k : LibName) → has_all ds ks ≡ true → has_library ks k ≡ true → has_library ds k ≡ true
 all_has ds [] k a h = absurd (cc)
 all_has ds (m ∷ ms) k a h = elim (either (has_library ds m)) [
   | inl p ↦ elim (or_cases (same_library k m) (has_library ms k) h) [

@@ -29,9 +29,10 @@ use Rattle.sx_expand_laws.proofs.GoodKeywords.{keywords-good}
 use Rattle.sx_expand_laws.proofs.Records.{records-good}
 use Rattle.sx_expand_laws.proofs.Serving.{records-serve}
 use Rattle.sx_stage_laws.proofs.Growing.{has_with}
+use Rattle.sx_stage_laws.proofs.Sweeping.{with_has}
 use Rattle.sx_stuck_laws.specs.Behind.{IsOfTexts, IsReferred, IsBehind, AllBehind}
 use Rattle.sx_stuck_laws.proofs.Behind.{defined_in, stands, name_of, defined_here}
-use Rattle.sx_stuck_laws.proofs.Mentioned.{with_there, with_cases}
+use Rattle.sx_stuck_laws.proofs.Mentioned.{with_cases}
 use Rattle.sx_steady_laws.specs.Libraries.{RecordsStandBehind, MoreStandBefore}
 
 -- Code that is closed under some labels is closed under more.
@@ -145,7 +146,7 @@ module _ (own : LibName) where
     where
       by : (b : Bool) → same_library m.0.library own ≡ b → (m.0.library ≡ own) ⊎ (has_library (with_labels_of own (if b then ks else top.with_library ks m.0.library) ls) m.0.library ≡ true)
       by true is = inl ((same_library_decides m.0.library own).0 is)
-      by false is = inr (label-first ls (top.with_library ks m.0.library) m.0.library (with_there ks m.0.library))
+      by false is = inr (label-first ls (top.with_library ks m.0.library) m.0.library (with_has ks m.0.library))
 
   line-first : (xs : List Line) (ks : List LibName) (k : LibName) → has_library ks k ≡ true → has_library (with_lines_of own ks xs) k ≡ true
   line-first [] ks k h = h

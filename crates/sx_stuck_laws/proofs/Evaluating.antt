@@ -47,12 +47,13 @@ use Rattle.sx_stage.specs.Stage.{PlainStage, keyword_at}
 use Rattle.sx_stage.specs.declared.keyword.Keyword.{Keyword}
 use Rattle.sx_stage.specs.declared.keyword.Keyword.TheVariants as keyword
 use Rattle.sx_stage_laws.proofs.Growing.{has_with}
+use Rattle.sx_stage_laws.proofs.Sweeping.{with_has}
 use Rattle.sx_stuck_laws.specs.Behind.{IsOfTexts, IsReferred, IsBehind, AllBehind, IsKeywordOf}
 use Rattle.sx_stuck_laws.specs.Kinds.{TellsOther}
 use Rattle.sx_stuck_laws.specs.Steady.{OwnHasCode, HasCode, text, ours, imported, line, world_of, IsReadyOn, Steady, Ends}
 use Rattle.sx_stuck_laws.proofs.Behind.{one_place, same_record, Stands, stands, name_of, defined_here, keyword_there, DefinedIn, defined_in, Free, line_apart}
 use Rattle.sx_stuck_laws.proofs.Fewer.{ready_fewer}
-use Rattle.sx_stuck_laws.proofs.Mentioned.{is_reference, with_there, with_cases}
+use Rattle.sx_stuck_laws.proofs.Mentioned.{is_reference, with_cases}
 use Rattle.sx_stuck_laws.proofs.Told.{told-eval, told-lines}
 
 -- Codes.
@@ -308,12 +309,12 @@ module _ (own : LibName) (texts : List CodeNo) (rs : List LibRecord) where
           keywords = refl;
           evaluated = λ m e. has_with s.evaluated r.name m e;
         },
-        with_there s.evaluated r.name,
+        with_has s.evaluated r.name,
       )
         where
           by : (n : CodeNo) → IsTrue (is_found (code_at s.codes n)) ⊎ Among (LineNumbers r) n → HasCode own texts rs s.keywords (with_library s.evaluated r.name) n
           by n (inl x) = more_lines r.name s.keywords s.evaluated n (h.codes n x)
-          by n (inr a) = line r among (with_there s.evaluated r.name) a
+          by n (inr a) = line r among (with_has s.evaluated r.name) a
 
           known : (q : LibRecord) → Among rs q → (has_library s.evaluated q.name ≡ true) ⊎ (q.name ≡ r.name) → AreFound (left_by_library r s t n).globals (defined q)
           known q a (inl e) = each_of (λ (l : Label). IsTrue (is_found (lookup (same_label l) (left_by_library r s t n).globals))) (defined q) (λ l b. w.kept.globals l (global_there s h q a e l b))

@@ -13,6 +13,7 @@ use Rattle.sx_core_laws.proofs.Decisions.{label_decides}
 use Rattle.sx_stage.specs.Libraries.{has_library, with_library, has_all, with_libraries_of, libraries_of}
 use Rattle.sx_stage_laws.proofs.Growing.{has_with}
 use Rattle.sx_whole_laws.proofs.Among.{among_first, among_second}
+use Rattle.sx_stage_laws.proofs.Sweeping.{with_has}
 
 -- Labels.
 
@@ -63,20 +64,6 @@ is_reference c l a n = left_in (binders c) (with_labels [] (mentions c)) l n (al
 
 -- Libraries.
 
-has_last : (ks : List LibName) (m : LibName) → has_library (ks ++ m ∷ []) m ≡ true
-has_last ks m = list_any-append (same_library m) ks (m ∷ []) ∙ by (has_library ks m) (same_library m m) ((same_library_decides m m).1 refl)
-  where
-    by : (a b : Bool) → b ≡ true → (a || (b || false)) ≡ true
-    by true b h = refl
-    by false b h = ap (λ x. x || false) h
-
-with_has : (ks : List LibName) (m : LibName) → has_library (with_library ks m) m ≡ true
-with_has ks m = go (has_library ks m) refl
-  where
-    go : (b : Bool) → has_library ks m ≡ b → has_library (if b then ks else ks ++ m ∷ []) m ≡ true
-    go true h = h
-    go false h = has_last ks m
-
 -- what is put at the end is there, and nothing else comes
 pub with_cases : (ks : List LibName) (m k : LibName) → has_library (with_library ks m) k ≡ true → (has_library ks k ≡ true) ⊎ (k ≡ m)
 with_cases ks m k = go (has_library ks m)
@@ -90,9 +77,6 @@ with_cases ks m k = go (has_library ks m)
     go true h = inl h
     go false h = split (has_library ks k) (same_library k m) (sym (list_any-append (same_library k) ks (m ∷ [])) ∙ h) refl
 
-pub with_there : (ks : List LibName) (m : LibName) → has_library (with_library ks m) m ≡ true
-with_there = with_has
-
 of_first : (ls : List Label) (ks : List LibName) (k : LibName) → has_library ks k ≡ true → has_library (with_libraries_of ks ls) k ≡ true
 of_first [] ks k h = h
 of_first (l ∷ ls) ks k h = of_first ls (with_library ks l.0.library) k (has_with ks l.0.library k h)
@@ -105,13 +89,3 @@ of_there (m ∷ ls) ks l (inr a) = of_there ls (with_library ks m.0.library) l a
 
 pub library_there : (c : PlainCore) (l : Label) → Among (references c) l → has_library (libraries_of c) l.0.library ≡ true
 library_there c l a = of_there (references c) [] l a
-
-pub all_has : (ds ks : List LibName) (k : LibName) → has_all ds ks ≡ true → has_library ks k ≡ true → has_library ds k ≡ true
-all_has ds [] k a h = absurd (cc)
-all_has ds (m ∷ ms) k a h = by (has_library ds m) refl a (same_library k m) refl h (all_has ds ms k)
-  where
-    by : (d : Bool) → has_library ds m ≡ d → (if d then has_all ds ms else false) ≡ true → (b : Bool) → same_library k m ≡ b → (b || has_library ms k) ≡ true
-        → (has_all ds ms ≡ true → has_library ms k ≡ true → has_library ds k ≡ true) → has_library ds k ≡ true
-    by true p q true e h rest = subst (λ x. has_library ds x ≡ true) (sym ((same_library_decides k m).0 e)) p
-    by true p q false e h rest = rest q h
-    by false p q b e h rest = absurd (cc)

@@ -41,6 +41,7 @@ use Rattle.sx_stage_laws.specs.Reached.{mentioned, further, RefersBack}
 use Rattle.sx_stage_laws.specs.Uses.{OnlyCounts}
 use Rattle.sx_stage_laws.proofs.Calling.{uses_drop}
 use Rattle.sx_stage_laws.proofs.Sweeping.{wanted_reached, reached_wanted}
+use Rattle.sx_stage_laws.proofs.Sweeping.{all_has}
 use Rattle.sx_stuck_laws.specs.Behind.{IsOfTexts, IsBehind, AllBehind, IsImported, IsExpression}
 use Rattle.sx_stuck_laws.specs.Kinds.{TellsOther}
 use Rattle.sx_stuck_laws.specs.Steady.{OwnHasCode, HasCode, text, ours, imported, line, world_of, IsReadyOn, Steady, Ends, EndsSteady, EndsReady}
@@ -48,7 +49,7 @@ use Rattle.sx_stuck_laws.specs.Uses.{UsesNeverStuck, TransformersNeverStuck, Ask
 use Rattle.sx_stuck_laws.proofs.Behind.{refers_back, stands, defined_here, Free, expression_free, keyword_free}
 use Rattle.sx_stuck_laws.proofs.Evaluating.{Provided, Went, evaluate_went, library_went, keyword_new, own_new}
 use Rattle.sx_stuck_laws.proofs.Known.{put, put_same, put_other, label_cases}
-use Rattle.sx_stuck_laws.proofs.Mentioned.{library_there, all_has}
+use Rattle.sx_stuck_laws.proofs.Mentioned.{library_there}
 use Rattle.sx_stuck_laws.proofs.Refusals.{Tells, tells-reading}
 use Rattle.sx_stuck_laws.proofs.Told.{told-applied, told-eval}
 

@@ -13,34 +13,8 @@ use Rattle.sx_core_laws.specs.Words.{Among}
 use Rattle.sx_core_laws.specs.Records.{line_core}
 use Rattle.sx_core_laws.proofs.Decisions.{label_decides}
 use Rattle.sx_expand.specs.Top.{has_library, with_library, with_label_of, with_labels_of, code_of, with_lines_of, refs_of}
+use Rattle.sx_expand_laws.proofs.RunReferences.{free-referenced}
 use Rattle.sx_text_laws.proofs.Words.{any-among, put-there, put-stays}
-
--- ---- what is mentioned and not bound is referenced
-
-with-stays : (ls ms : List Label) (l : Label) → Among ls l → Among (with_labels ls ms) l
-with-stays ls [] l a = a
-with-stays ls (m ∷ ms) l a = with-stays (with_label ls m) ms l (put-stays (has_label ls m) ls m l a)
-
-with-there : (ls ms : List Label) (l : Label) → Among ms l → Among (with_labels ls ms) l
-with-there ls [] l a = elim a [ ]
-with-there ls (m ∷ ms) l (inl e) = subst (Among (with_labels (with_label ls m) ms)) (sym e) (with-stays (with_label ls m) ms m (put-there same_label label_decides ls m))
-with-there ls (m ∷ ms) l (inr a) = with-there (with_label ls m) ms l a
-
-left-over : (bs ms : List Label) (l : Label) → (Among bs l → ⊥) → Among ms l → Among (without bs ms) l
-left-over bs [] l free a = elim a [ ]
-left-over bs (m ∷ ms) l free (inl e) = by (has_label bs m) (any-among same_label label_decides bs m)
-  where
-    by : (b : Bool) → (b ≡ true → Among bs m) → Among (cond (not b) (m ∷ without bs ms) (without bs ms)) l
-    by true is = absurd (free (subst (Among bs) (sym e) (is refl)))
-    by false is = inl e
-left-over bs (m ∷ ms) l free (inr a) = by (has_label bs m) (left-over bs ms l free a)
-  where
-    by : (b : Bool) → Among (without bs ms) l → Among (cond (not b) (m ∷ without bs ms) (without bs ms)) l
-    by true k = k
-    by false k = inr k
-
-pub free-referenced : (c : PlainCore) (l : Label) → (Among (binders c) l → ⊥) → Among (mentions c) l → Among (references c) l
-free-referenced c l free a = left-over (binders c) (with_labels [] (mentions c)) l free (with-there [] (mentions c) l a)
 
 -- ---- the libraries of what is referenced
 
