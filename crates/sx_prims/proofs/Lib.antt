@@ -5,6 +5,7 @@ pub mod Indices
 pub mod Opened
 pub mod Walks
 pub mod SmallRows
+pub mod SlotLemmas
 pub mod Names
 pub mod Placed
 pub mod Called

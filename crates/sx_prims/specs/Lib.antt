@@ -1,4 +1,5 @@
 pub mod Primitives
+pub mod Slots
 pub mod Perform
 pub mod Answers
 pub mod Chains
