@@ -10,7 +10,8 @@ use Rattle.sx_eval.specs.Codes.{code_at}
 use Rattle.sx_stage.specs.Fuel.{most_fuel}
 use Rattle.sx_stage.specs.Stage.{PlainStage}
 use Rattle.sx_stage.specs.Uses.{transform_and_cut}
-use Rattle.sx_rules_laws.specs.Rules.{Ruled, ruled}
+use Rattle.sx_rules.specs.declared.rules.Ruled.{Ruled}
+use Rattle.sx_rules.specs.Rules.{ruled}
 
 -- A use of a transformer whose code is so gives that tree and spends that fuel, where there is as much as evaluating and reading take;
 -- and nothing else on the stage changes.

@@ -5,7 +5,7 @@
 //! gives can be told on the syntax tree alone: the pattern that takes the form, and the template with what its
 //! variables took, with neither cells nor a machine.
 //!
-//! The promise: where `specs/Rules` tells a tree and a cost for such a procedure, its use on the stage gives that
+//! The promise: where sx_rules tells a tree and a cost for such a procedure, its use on the stage gives that
 //! tree and spends that fuel, and changes nothing else. Nothing runs here.
 #![tactic(auto)]
 

@@ -1,2 +1,4 @@
 pub mod Records
 pub mod OnParts
+pub mod Gathering
+pub mod Ruling

@@ -5,3 +5,4 @@ pub mod Running
 pub mod Transformers
 pub mod Uses
 pub mod Patterns
+pub mod Told

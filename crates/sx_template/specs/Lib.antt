@@ -4,3 +4,4 @@ pub mod Lengths
 pub mod Instance
 pub mod Cost
 pub mod Measure
+pub mod Trees

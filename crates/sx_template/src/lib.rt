@@ -31,3 +31,4 @@ pub mod cost;
 pub mod instance;
 pub mod lengths;
 pub mod measure;
+pub mod tree;

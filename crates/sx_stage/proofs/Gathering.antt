@@ -22,7 +22,7 @@ use Rattle.sx_template.specs.Instance.{then_add, counts, ending, instance, parts
 use Rattle.sx_template.specs.Measure.{plus, item_cost, measure, items_cost}
 use Rattle.sx_eval.specs.Instances.{gathered, gathered_items, with_bind}
 use Rattle.sx_eval.specs.Variables.{bind_found, bind_in, here_or_up, upwards, parent_in}
-use Rattle.sx_rules_laws.specs.Rules.{is_there, has_bind, all_bound, all_items_bound}
+use Rattle.sx_template.specs.Trees.{is_there, all_bound, all_items_bound}
 
 -- the same binds for the variables of a template
 abbrev mutual
@@ -174,7 +174,7 @@ looked_is : (bs : Binds) (l : Label) → lookup (same_label l) bs ≡ looked_up 
 looked_is [] l = refl
 looked_is (x ∷ bs) l = λ i. if same_name_equiv.symm l.0 x.0.0 i then Some x.1 else looked_is bs l i
 
-has_some : (bs : Binds) (l : Label) → has_bind bs l ≡ true → (b : PlainBind) × (looked_up bs l ≡ Some b)
+has_some : (bs : Binds) (l : Label) → is_there (looked_up bs l) ≡ true → (b : PlainBind) × (looked_up bs l ≡ Some b)
 has_some bs l h = by_bind (looked_up bs l) refl h
   where
     by_bind : (o : Option PlainBind) → looked_up bs l ≡ o → is_there o ≡ true → (b : PlainBind) × (looked_up bs l ≡ Some b)
