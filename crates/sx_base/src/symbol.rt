@@ -3,14 +3,14 @@
 ghost use Rattle.std.specs.Cmp;
 ghost use Rattle.std.specs.Cmp.{po};
 ghost use Rattle.std.specs.Cmp.Lexicographic.{pointwise, slice_cmp, nat_list_eq_equiv};
-ghost use Rattle.std.specs.Cmp.Rules.{hashing};
-ghost use Rattle.std.specs.Hash as fed;
 ghost use Rattle.std.specs.Ordering.{nat_cmp, on, then_cmp, as_partial_cmp};
 ghost use Rattle.std.specs.Prelude.{◌≡◌, length, nat_eq, IfOk, IsTrue, ◌↔◌};
 ghost use Rattle.std.specs.String.{string_bytes};
-ghost use Rattle.std.proofs.Common.{rules, refl};
+ghost use Rattle.std.proofs.Common.{refl};
+ghost use Rattle.sx_base.specs.Head.{symbol_fed, symbol_alike};
 ghost use Rattle.sx_base.specs.Order.{text_cmp_total, text_ties};
 
+use crate::head::head_of;
 use crate::memory::Memory;
 use std::alloc::Global;
 use std::cmp::Ordering;
@@ -23,6 +23,8 @@ use std::rc::RcStr;
 #[derive(Drop)]
 pub struct Symbol {
     text: RcStr,
+    /// What `head_of` gives for the text.
+    head: u64,
 }
 
 impl Model for Symbol {
@@ -32,22 +34,29 @@ impl Model for Symbol {
     ghost Value = { List ℕ };
 
     ghost view = { λ s. rc_str_bytes s.text };
+
+    ghost use Rattle.std.specs.Prelude.{◌≡◌};
+    ghost use Rattle.sx_base.specs.Head.{head_of};
+
+    ghost invariant = { λ s. s.head ≡ head_of (rc_str_bytes s.text) };
 }
 
 impl Symbol {
     pub fn new(alloc: Global, text: &str) -> Result<Symbol, Memory>
         ensures { IfOk result (λ s. s ≡ text.now) }
     {
+        let head = head_of(text);
         let text = RcStr::from_str(alloc, text)?;
-        Ok(Symbol { text })
+        Ok(Symbol { text, head })
     }
 
     /// The symbol of a text that was made, without a copy of it.
     pub fn from_string(text: String) -> Result<Symbol, Memory>
         ensures { IfOk result (λ s. s ≡ string_bytes text) }
     {
+        let head = head_of(text.as_str());
         let text = RcStr::from_string(text)?;
-        Ok(Symbol { text })
+        Ok(Symbol { text, head })
     }
 
     /// Another owner of the same text.
@@ -55,7 +64,10 @@ impl Symbol {
         ensures { IfOk result (λ s. s ≡ self.now) }
     {
         let text = self.text.clone()?;
-        Ok(Symbol { text })
+        Ok(Symbol {
+            text,
+            head: self.head,
+        })
     }
 
     pub fn as_str(&self) -> &str
@@ -68,7 +80,7 @@ impl Symbol {
     pub fn same(&self, other: &Symbol) -> bool
         ensures { IsTrue result ↔ self.now ≡ other.now }
     {
-        self.text == other.text
+        *self == *other
     }
 }
 
@@ -77,7 +89,16 @@ impl PartialEq for Symbol {
 
     ghost laws = { Cmp.partial_equiv_from_equiv nat_list_eq_equiv };
 
+    #[tactic(auto, using(crate::proofs::Heads::others_differ))]
+    #[inline(always)]
     fn eq(&self, other: &Symbol) -> bool {
+        if self.head != other.head {
+            return false;
+        }
+        // A short text is told by its number.
+        if self.head / 0x0100_0000_0000_0000 < 8 {
+            return true;
+        }
         self.text == other.text
     }
 }
@@ -87,12 +108,13 @@ impl Eq for Symbol {
 }
 
 impl Hash for Symbol {
-    ghost hash_input = { λ s. fed.str s };
+    ghost hash_input = { symbol_fed };
 
-    ghost respects_eq = { Prim.search (hashing, rules) };
+    ghost respects_eq = { symbol_alike };
 
+    #[inline(always)]
     fn hash<H: Hasher>(&self, state: &mut H) {
-        self.text.hash(state);
+        self.head.hash(state);
     }
 }
 

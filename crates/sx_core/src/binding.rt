@@ -81,7 +81,7 @@ impl Expression {
 }
 
 /// Another owner of the same expression, where there is one.
-fn share_expression(expression: &Option<Expression>) -> Result<Option<Expression>, Memory>
+pub fn share_expression(expression: &Option<Expression>) -> Result<Option<Expression>, Memory>
     ensures { IfOk result (λ e. e ≡ expression.now) }
 {
     match expression {

@@ -5,16 +5,16 @@ ghost use Rattle.std.specs.Option.{option_copied};
 ghost use Rattle.sx_core.specs.Bindings.{bound_to, are_new};
 
 use crate::binding::Binding;
-use indexmap::IndexMap;
 use std::alloc::Global;
 use std::marker::Model;
+use sx_base::map::{NameMap, new_map};
 use sx_base::memory::Memory;
 use sx_base::name::Label;
 
 /// A finite map from labels, seen as a list in the order of coming.
 #[derive(Drop)]
 pub struct Bindings {
-    rows: IndexMap<Label, Binding>,
+    rows: NameMap<Label, Binding>,
 }
 
 impl Model for Bindings {
@@ -36,7 +36,7 @@ impl Bindings {
         ensures { result ≡ [] }
     {
         Bindings {
-            rows: IndexMap::new(alloc),
+            rows: new_map(alloc),
         }
     }
 

@@ -21,6 +21,7 @@ pub mod link;
 pub mod pattern;
 pub mod record;
 pub mod references;
+pub mod share;
 pub mod template;
 
 pub use sx_base::op::Op;

@@ -4,9 +4,9 @@ ghost use Rattle.std.specs.Prelude.{◌≡◌, [], OnOk};
 ghost use Rattle.sx_core_text.specs.CoreText.{name_of};
 ghost use Rattle.sx_core_text.specs.Naming.{with_name, with_names, with_index};
 
-use indexmap::IndexMap;
 use std::alloc::Global;
 use std::marker::Model;
+use sx_base::map::{NameMap, new_map};
 use sx_base::memory::Memory;
 use sx_base::name::Label;
 use sx_base::symbol::Symbol;
@@ -17,7 +17,7 @@ use sx_names::put_generated_name;
 #[derive(Drop)]
 pub struct Names {
     alloc: Global,
-    texts: IndexMap<Label, Symbol>,
+    texts: NameMap<Label, Symbol>,
 }
 
 impl Model for Names {
@@ -39,7 +39,7 @@ impl Names {
     {
         Names {
             alloc,
-            texts: IndexMap::new(alloc),
+            texts: new_map(alloc),
         }
     }
 

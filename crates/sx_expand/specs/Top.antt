@@ -1,6 +1,5 @@
 -- The body of a library or program (R6RS 7.1 and 8), and the record that comes of it.
 use Rattle.std.specs.Prelude.{ℕ, List, [], ◌∷◌, ◌++◌, map, Option, None, Some, Result, Ok, Err, Bool, true, false, if◌then◌else◌}
-use Rattle.std.specs.List.{list_any}
 use Rattle.sx_base.specs.Act.{after, give, each}
 use Rattle.sx_base.specs.Same.{same_library}
 use Rattle.sx_base.specs.declared.fault.Fault.{Fault}
@@ -18,6 +17,7 @@ use Rattle.sx_core.specs.References.{references}
 use Rattle.sx_core.specs.declared.record.Line.{Line}
 use Rattle.sx_core.specs.declared.record.Line.TheVariants as line
 use Rattle.sx_core.specs.declared.record.LibRecord.{LibRecord}
+use Rattle.sx_stage.specs.Libraries.{with_library}
 use Rattle.sx_standing.specs.State.{State, Does, fault_word}
 use Rattle.sx_standing.specs.Own.{export_labels, own_bindings}
 use Rattle.sx_heads.specs.Items.{begun}
@@ -47,13 +47,6 @@ unfoldable pub exports : TopAt → List (List ℕ × Tree) → Does (List (List 
 exports at es s = after (all_exports at es s) (λ ls s'. after (export_labels ls s') (λ _. give ls))
 
 -- The libraries that the lines refer to.
-
-abbrev pub has_library : List LibName → LibName → Bool
-has_library ks k = list_any (same_library k) ks
-
--- the library at the end, where it isn't there
-abbrev pub with_library : List LibName → LibName → List LibName
-with_library ks k = if has_library ks k then ks else ks ++ k ∷ []
 
 abbrev pub with_label_of : LibName → List LibName → Label → List LibName
 with_label_of own done l = if same_library l.0.library own then done else with_library done l.0.library

@@ -29,7 +29,6 @@ pub mod expander;
 pub mod expression;
 pub mod inside;
 pub mod keywords;
-pub mod libraries;
 pub mod links;
 pub mod patterns;
 pub mod quasi;

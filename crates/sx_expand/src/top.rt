@@ -12,7 +12,6 @@ use crate::at::{FormAt, ItemAt};
 use crate::body::{begun, finish_one, item};
 use crate::expression::{stamp_all, with_room};
 use crate::inside::ROOM;
-use crate::libraries::Libraries;
 use std::alloc::Global;
 use std::sync::ledger::Ledger;
 use sx_base::fault::{FaultKind, Stop};
@@ -28,9 +27,10 @@ use sx_core::link::Link;
 use sx_core::record::{LibRecord, Line};
 use sx_core::references::references;
 use sx_heads::taken::{BodyAt, BodyKind, Taken, Waiting};
+use sx_stage::libraries::Libraries;
 use sx_standing::expansion::Expansion;
 use sx_standing::means::{Counts, Means};
-use sx_standing::share::share_library;
+use sx_core::share::share_library;
 use sx_syntax::syn::Syn;
 
 /// What the body of a library or program has besides its exports and its forms.

@@ -18,7 +18,8 @@ use Rattle.sx_core_laws.specs.Records.{defined, line_core, line_labels, line_bin
 use Rattle.sx_core_laws.specs.Scope.{Closed}
 use Rattle.sx_core_laws.specs.Words.{Each, Among, among}
 use Rattle.sx_core_laws.proofs.GivenLemmas.{references_given}
-use Rattle.sx_expand.specs.Top.{has_library, with_library, with_label_of, with_labels_of, code_of, with_lines_of, refs_of}
+use Rattle.sx_stage.specs.Libraries.{has_library, with_library}
+use Rattle.sx_expand.specs.Top.{with_label_of, with_labels_of, code_of, with_lines_of, refs_of}
 use Rattle.sx_expand_laws.proofs.Fresh.{each-at, each-of, among-parts, among-first, among-second}
 use Rattle.sx_expand_laws.proofs.Scope.{label-there}
 

@@ -20,7 +20,7 @@ use sx_base::memory::Memory;
 use sx_base::name::Label;
 use sx_core::binding::Binding;
 use sx_core::record::{LibRecord, Line};
-use sx_standing::share::share_library;
+use sx_core::share::share_library;
 
 /// For each name the place of the record of a run that has it, and for each label the place of the one that binds it and
 /// of the one that defines it. So asking for one costs the same, however many records there are.

@@ -15,7 +15,7 @@ use sx_base::library::LibName;
 use sx_base::memory::Memory;
 use sx_base::name::Label;
 use sx_core::record::LibRecord;
-use sx_standing::share::share_library;
+use sx_core::share::share_library;
 
 // Adds the library of a label, but for its own, where it isn't there.
 fn add_library(

@@ -13,11 +13,11 @@ use Rattle.sx_core.specs.declared.record.Line.TheVariants as line
 use Rattle.sx_core_laws.specs.Follows.{keywords, IsOwn, Follows}
 use Rattle.sx_core_laws.specs.Records.{line_core, run_binders}
 use Rattle.sx_core_laws.specs.Words.{Among, Each}
-use Rattle.sx_stage.specs.Libraries.{has_library}
+use Rattle.sx_stage.specs.Libraries.{has_library, with_library}
 use Rattle.sx_stage_laws.proofs.Growing.{has_with}
 use Rattle.sx_stage_laws.proofs.Sweeping.{with_has}
 use Rattle.sx_stuck_laws.specs.Behind.{IsReferred}
-use Rattle.sx_expand.specs.Top.{with_library, with_label_of, with_labels_of, code_of, with_lines_of, refs_of}
+use Rattle.sx_expand.specs.Top.{with_label_of, with_labels_of, code_of, with_lines_of, refs_of}
 use Rattle.sx_expand_laws.proofs.Fresh.{each-at, each-of}
 use Rattle.sx_expand_laws.proofs.RunReferences.{references-owed}
 use Rattle.sx_follows_laws.proofs.Parts.{each-first}

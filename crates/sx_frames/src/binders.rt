@@ -4,10 +4,10 @@ ghost use Rattle.std.specs.Prelude.{◌≡◌, [], ◌∷◌, true, false, None,
 ghost use Rattle.sx_base.specs.declared.name.FrameNo.{FrameNo};
 ghost use Rattle.sx_frames.specs.Binders.{may_be, AreAll, binders_at, Covers, AllNoted, NamesAll, may_bind};
 
-use indexmap::IndexMap;
 use std::alloc::Global;
 use std::marker::Model;
 use sx_base::items::Items;
+use sx_base::map::{NameMap, new_map};
 use sx_base::memory::Memory;
 use sx_base::name::FrameNo;
 use sx_base::symbol::Symbol;
@@ -79,7 +79,7 @@ impl Binders {
 #[derive(Drop)]
 pub struct BinderIndex {
     alloc: Global,
-    rows: IndexMap<Symbol, Binders>,
+    rows: NameMap<Symbol, Binders>,
     /// The frames that bind a symbol that isn't there.
     none: Items<FrameNo>,
 }
@@ -101,7 +101,7 @@ impl BinderIndex {
     {
         BinderIndex {
             alloc,
-            rows: IndexMap::new(alloc),
+            rows: new_map(alloc),
             none: Items::new(alloc),
         }
     }

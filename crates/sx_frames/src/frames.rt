@@ -10,13 +10,13 @@ ghost use Rattle.sx_frames.specs.Scope.{has_frame, rows_at, label_at, bound, wit
 
 use crate::key::Key;
 use crate::table::Table;
-use indexmap::IndexMap;
 use std::alloc::Global;
 use std::collections::BTreeMap;
 use std::marker::Model;
 use sx_base::fault::BareStop;
 use sx_base::items::Items;
 use sx_base::library::LibName;
+use sx_base::map::{NameMap, new_map};
 use sx_base::memory::Memory;
 use sx_base::name::{FrameNo, Label};
 use sx_base::symbol::Symbol;
@@ -27,7 +27,7 @@ use sx_tree::marks::Marks;
 #[derive(Drop)]
 pub struct FrameMap {
     alloc: Global,
-    frames: IndexMap<FrameNo, Table>,
+    frames: NameMap<FrameNo, Table>,
 }
 
 impl Model for FrameMap {
@@ -47,7 +47,7 @@ impl FrameMap {
     {
         FrameMap {
             alloc,
-            frames: IndexMap::new(alloc),
+            frames: new_map(alloc),
         }
     }
 

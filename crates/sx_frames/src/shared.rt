@@ -6,18 +6,18 @@ ghost use Rattle.sx_frames.specs.Needed.{AreLibraries};
 
 use crate::frames::FrameMap;
 use crate::given::GivenFrames;
-use indexmap::IndexMap;
 use std::alloc::Global;
 use std::marker::Model;
 use std::rc::Rc;
 use sx_base::library::LibName;
+use sx_base::map::{NameMap, new_map};
 use sx_base::memory::Memory;
 
 /// The frames of each library that a run has completed, in the order of coming. All that need some of them
 /// share the table, so that to need a library costs a mark.
 #[derive(Drop)]
 pub struct SharedFrames {
-    parts: IndexMap<Rc<LibName>, Rc<FrameMap>>,
+    parts: NameMap<Rc<LibName>, Rc<FrameMap>>,
 }
 
 impl Model for SharedFrames {
@@ -39,7 +39,7 @@ impl SharedFrames {
         ensures { result ≡ [] }
     {
         SharedFrames {
-            parts: IndexMap::new(alloc),
+            parts: new_map(alloc),
         }
     }
 

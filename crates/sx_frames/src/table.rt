@@ -7,11 +7,11 @@ ghost use Rattle.sx_frames.specs.Rows.{Row, label_in, row_of, rows_of, put_row, 
 ghost use Rattle.sx_frames.specs.Listed.{row_from, rows_from};
 
 use crate::key::Key;
-use indexmap::IndexMap;
 use std::alloc::Global;
 use std::marker::Model;
 use sx_base::fault::{Bare, BareStop, FaultKind};
 use sx_base::items::Items;
+use sx_base::map::{NameMap, new_map};
 use sx_base::memory::Memory;
 use sx_base::name::{FrameNo, Label};
 use sx_base::symbol::Symbol;
@@ -25,7 +25,7 @@ const FEW: usize = 4;
 #[derive(Drop)]
 pub struct Table {
     first: Vec<(Key, Label)>,
-    later: IndexMap<Key, Label>,
+    later: NameMap<Key, Label>,
 }
 
 impl Model for Table {
@@ -115,7 +115,7 @@ fn put_later(
     list: &mut Vec<FrameRow>,
     alloc: Global,
     frame: &FrameNo,
-    rows: &IndexMap<Key, Label>,
+    rows: &NameMap<Key, Label>,
 ) -> Result<(), Memory>
     ensures { OnOk result (list.new.items ≡ list.old.items ++ rows_from frame.now (rows_of rows.now.entries)) }
 {
@@ -136,7 +136,7 @@ impl Table {
     {
         Table {
             first: Vec::new(alloc),
-            later: IndexMap::new(alloc),
+            later: new_map(alloc),
         }
     }
 

@@ -5,10 +5,10 @@ ghost use Rattle.std.specs.Option.{option_copied};
 ghost use Rattle.sx_heads.specs.Kept.{found, with_head};
 
 use crate::taken::KeptHead;
-use indexmap::IndexMap;
 use std::alloc::Global;
 use std::marker::Model;
 use sx_base::items::Items;
+use sx_base::map::{NameMap, new_map};
 use sx_base::memory::Memory;
 use sx_base::symbol::Symbol;
 
@@ -16,7 +16,7 @@ use sx_base::symbol::Symbol;
 #[derive(Drop)]
 pub struct KeptHeads {
     alloc: Global,
-    heads: IndexMap<Symbol, Items<KeptHead>>,
+    heads: NameMap<Symbol, Items<KeptHead>>,
 }
 
 impl Model for KeptHeads {
@@ -36,7 +36,7 @@ impl KeptHeads {
     {
         KeptHeads {
             alloc,
-            heads: IndexMap::new(alloc),
+            heads: new_map(alloc),
         }
     }
 

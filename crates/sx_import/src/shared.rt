@@ -19,28 +19,67 @@ use crate::set::{NameAt, Renaming, Step};
 use crate::sources::Source;
 use std::alloc::Global;
 use std::marker::Model;
+use std::rc::Rc;
 use sx_base::fault::Stop;
 use sx_base::items::Items;
+use sx_base::memory::Memory;
 use sx_base::name::Label;
 use sx_base::span::Span;
 use sx_base::symbol::Symbol;
 
-/// The names that a library exports, each once, in order and by name.
+// Names in order and by name.
 #[derive(Drop)]
-pub struct Exports {
+struct Listing {
     rows: Items<(Symbol, Label)>,
     names: Names,
 }
 
-impl Model for Exports {
+impl Model for Listing {
     ghost use Rattle.std.specs.Prelude.{◌≡◌, List, ℕ};
     ghost use Rattle.sx_base.specs.declared.name.Label.{Label};
 
     ghost Value = { List (List ℕ × Label) };
 
-    ghost view = { λ e. e.names };
+    ghost view = { λ l. l.names };
 
-    ghost invariant = { λ e. e.rows ≡ e.names };
+    ghost invariant = { λ l. l.rows ≡ l.names };
+}
+
+impl Listing {
+    fn rows(&self) -> &[(Symbol, Label)]
+        ensures { result.now ≡ self.now }
+    {
+        self.rows.as_slice()
+    }
+
+    fn names(&self) -> &Names
+        ensures { result.now ≡ self.now }
+    {
+        &self.names
+    }
+}
+
+/// The names that a library exports, each once, in order and by name. The forms that import from it may share them.
+#[derive(Drop)]
+pub struct Exports {
+    listing: Rc<Listing>,
+}
+
+impl Model for Exports {
+    ghost use Rattle.std.specs.Prelude.{List, ℕ};
+    ghost use Rattle.sx_base.specs.declared.name.Label.{Label};
+
+    ghost Value = { List (List ℕ × Label) };
+
+    ghost view = { λ e. e.listing.value };
+}
+
+fn listed(alloc: Global, names: Names) -> Result<Exports, Memory>
+    ensures { IfOk result (λ e. e ≡ names) }
+{
+    let rows = rows(alloc, &names)?;
+    let listing = Rc::new(alloc, Listing { rows, names })?;
+    Ok(Exports { listing })
 }
 
 impl Exports {
@@ -49,22 +88,31 @@ impl Exports {
         ensures { Gives (λ e. e) result (joined span.now [] names.now) }
     {
         let names = joined_table(alloc, names, span)?;
-        let rows = rows(alloc, &names)?;
-        Ok(Exports { rows, names })
+        Ok(listed(alloc, names)?)
+    }
+
+    /// Another owner of the same names.
+    pub fn share(&self) -> Result<Exports, Memory>
+        ensures { IfOk result (λ e. e ≡ self.now) }
+    {
+        let listing = self.listing.clone()?;
+        Ok(Exports { listing })
     }
 
     /// The names in order.
     pub fn rows(&self) -> &[(Symbol, Label)]
         ensures { result.now ≡ self.now }
     {
-        self.rows.as_slice()
+        let listing: &Listing = &self.listing;
+        listing.rows()
     }
 
     /// The names, to be found.
     pub fn names(&self) -> &Names
         ensures { result.now ≡ self.now }
     {
-        &self.names
+        let listing: &Listing = &self.listing;
+        listing.names()
     }
 }
 

@@ -1,6 +1,7 @@
 //! The libraries that the imports of a form name, each with its names and those that are still to be joined.
 
-ghost use Rattle.std.specs.Prelude.{◌≡◌, ◌++◌, ℕ, List, Some, IfOk, OnOk, is_some, if◌then◌else◌};
+ghost use Rattle.std.specs.Option.{option_copied};
+ghost use Rattle.std.specs.Prelude.{◌≡◌, ◌++◌, ℕ, List, Some, IfOk, OnOk, OnErr, is_some, if◌then◌else◌};
 ghost use Rattle.sx_base.specs.Gives.{Gives};
 ghost use Rattle.sx_base.specs.Same.{same_library};
 ghost use Rattle.sx_base.specs.declared.library.LibName.{LibName};
@@ -12,11 +13,11 @@ ghost use Rattle.sx_import.specs.declared.sources.Source.{Source};
 use crate::names::{Names, rows};
 use crate::set::ImportSet;
 use crate::shared::{Exports, join_set};
-use indexmap::IndexMap;
 use std::alloc::Global;
 use sx_base::fault::Stop;
 use sx_base::items::Items;
 use sx_base::library::LibName;
+use sx_base::map::NameMap;
 use sx_base::memory::Memory;
 use sx_base::name::Label;
 use sx_base::span::Span;
@@ -31,7 +32,7 @@ pub struct Source {
 }
 
 /// Libraries that a form imports from, by their names.
-pub type Sources = IndexMap<LibName, Source>;
+pub type Sources = NameMap<LibName, Source>;
 
 /// Whether a library is there.
 pub fn has_source(sources: &Sources, library: &LibName) -> bool
@@ -40,7 +41,17 @@ pub fn has_source(sources: &Sources, library: &LibName) -> bool
     sources.get(library).is_some()
 }
 
-/// Puts a library in, of which no name is joined.
+/// The names of a library, where it is there.
+pub fn names_in<'a>(sources: &'a Sources, library: &LibName) -> Option<&'a Exports>
+    ensures { option_copied result ≡ names_in library.now sources.now.entries }
+{
+    match sources.get(library) {
+        None => None,
+        Some(source) => Some(&source.exports),
+    }
+}
+
+/// Puts a library in, of which no name is joined. After a refusal all is as before.
 pub fn add_source(
     alloc: Global,
     sources: &mut Sources,
@@ -49,6 +60,7 @@ pub fn add_source(
 ) -> Result<(), Memory>
     ensures names { OnOk result ((l : LibName) → names_in l sources.new.entries ≡ (if same_library library l then Some exports else names_in l sources.old.entries)) }
     ensures enough { OnOk result ((all : Labelled) → AreEnough all sources.old.entries → AreEnough all sources.new.entries) }
+    ensures err { OnErr result (sources.new.entries ≡ sources.old.entries) }
 {
     let fresh = rows(alloc, exports.names())?;
     sources.insert(library, Source { exports, fresh })?;

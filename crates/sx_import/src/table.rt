@@ -6,17 +6,17 @@ ghost use Rattle.std.specs.Prelude.{◌≡◌, ◌≤◌, ℕ, List, [], ◌∷�
 ghost use Rattle.sx_import.specs.Table.{value_of, put_first, pair_now};
 ghost use Rattle.sx_import.specs.Shared.{place_of, IsOwn};
 
-use indexmap::IndexMap;
 use indexmap::map::IntoValues;
 use std::alloc::Global;
 use std::marker::Model;
+use sx_base::map::{NameMap, new_map};
 use sx_base::memory::Memory;
 use sx_base::symbol::Symbol;
 
 /// Values by name, seen as a list of pairs in order.
 #[derive(Drop)]
 pub struct Table<V> {
-    rows: IndexMap<Symbol, V>,
+    rows: NameMap<Symbol, V>,
 }
 
 impl<V> Model for Table<V> {
@@ -33,7 +33,7 @@ impl<V: Drop> Table<V> {
         ensures { result ≡ [] }
     {
         Table {
-            rows: IndexMap::new(alloc),
+            rows: new_map(alloc),
         }
     }
 

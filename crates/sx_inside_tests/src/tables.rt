@@ -1,6 +1,5 @@
 ghost use Rattle.std.specs.Prelude.{◌≡◌, ◌<◌};
 
-use indexmap::IndexMap;
 use std::alloc::Global;
 use std::marker::Brand;
 use std::mem::forget;
@@ -10,6 +9,7 @@ use std::sync::ledger::{Blank, Ledger};
 use std::test::Fail;
 use sx_base::items::Items;
 use sx_base::library::LibName;
+use sx_base::map::new_map;
 use sx_base::memory::Memory;
 use sx_base::name::{FrameNo, Label, Name};
 use sx_base::op::Op;
@@ -122,7 +122,7 @@ fn begun<L: Ledger>(run: &mut Run<L>, needs: &[bool]) -> Result<Expansion<L>, Me
         needs,
         imports: &[],
     };
-    let codes = IndexMap::new(run.alloc);
+    let codes = new_map(run.alloc);
     let supplies = Supplies { codes, unspent };
     Expansion::start(run.alloc, LibName::Program, &environment, supplies)
 }

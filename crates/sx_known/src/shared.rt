@@ -5,11 +5,11 @@ ghost use Rattle.sx_known.specs.Known.{has_part};
 ghost use Rattle.sx_known.specs.Needed.{AreLibraries};
 
 use crate::given::GivenBindings;
-use indexmap::IndexMap;
 use std::alloc::Global;
 use std::marker::Model;
 use std::rc::Rc;
 use sx_base::library::LibName;
+use sx_base::map::{NameMap, new_map};
 use sx_base::memory::Memory;
 use sx_core::bindings::Bindings;
 
@@ -17,7 +17,7 @@ use sx_core::bindings::Bindings;
 /// share the table, so that to need a library costs a mark.
 #[derive(Drop)]
 pub struct SharedBindings {
-    parts: IndexMap<Rc<LibName>, Rc<Bindings>>,
+    parts: NameMap<Rc<LibName>, Rc<Bindings>>,
 }
 
 impl Model for SharedBindings {
@@ -39,7 +39,7 @@ impl SharedBindings {
         ensures { result ≡ [] }
     {
         SharedBindings {
-            parts: IndexMap::new(alloc),
+            parts: new_map(alloc),
         }
     }
 

@@ -1,13 +1,15 @@
 //! The names of a source, each as one text.
 
 ghost use Rattle.std.specs.Cmp.Lexicographic.{bytes_decides, nat_list_eq_equiv};
-ghost use Rattle.std.specs.Hash as fed;
 ghost use Rattle.std.specs.Prelude.{◌≡◌, IfOk, bytes_eq};
 ghost use Rattle.std.proofs.Common.{ap};
+ghost use Rattle.sx_base.specs.Head.{symbol_fed};
 
 use indexmap::{Equivalent, IndexSet};
 use std::alloc::Global;
+use std::hash::{Hash, Hasher};
 use std::marker::Model;
+use sx_base::head::head_of;
 use sx_base::memory::Memory;
 use sx_base::symbol::Symbol;
 
@@ -74,15 +76,26 @@ impl Names {
 }
 
 /// A text by which a symbol is looked up.
-#[derive(Clone, Copy, PartialEq, Eq, Hash)]
+#[derive(Clone, Copy, PartialEq, Eq)]
 struct Spelt<'a> {
     text: &'a str,
+}
+
+/// A text is hashed as its symbol is.
+impl<'a> Hash for Spelt<'a> {
+    ghost hash_input = { λ s. symbol_fed s.text.now };
+
+    ghost respects_eq = { λ x y h. ap symbol_fed ((bytes_decides x.text.now y.text.now).0 h) };
+
+    fn hash<H: Hasher>(&self, state: &mut H) {
+        head_of(self.text).hash(state);
+    }
 }
 
 impl<'a> Equivalent<Symbol> for Spelt<'a> {
     ghost equivalent = { λ q k. bytes_eq q.text.now k };
 
-    ghost respects_hash = { λ q k h. ap fed.str ((bytes_decides q.text.now k).0 h) };
+    ghost respects_hash = { λ q k h. ap symbol_fed ((bytes_decides q.text.now k).0 h) };
 
     ghost respects_eq = { λ q x y. nat_list_eq_equiv.congr q.text.now x y };
 

@@ -12,11 +12,11 @@ ghost use Rattle.sx_library.specs.Records.{needed_records};
 ghost use Rattle.sx_load.specs.Load.{fitting, builtin_version};
 
 use crate::records::Needed;
-use indexmap::IndexMap;
 use std::alloc::Global;
 use sx_base::fault::{FaultKind, Stop};
 use sx_base::items::Items;
 use sx_base::library::LibName;
+use sx_base::map::new_map;
 use sx_base::memory::Memory;
 use sx_base::name::Label;
 use sx_base::span::Span;
@@ -31,7 +31,7 @@ use sx_import::shared::Exports;
 use sx_import::sources::{Sources, add_source, has_source, join_source};
 use sx_import::table::Table;
 use sx_load::refer::{VERSION, about, check_version, is_builtin};
-use sx_standing::share::share_library;
+use sx_core::share::share_library;
 
 /// The names that the imports of a form give, each once and in order, with their labels. First each library
 /// must be there in a version that fits, and then each name is looked for.
@@ -76,7 +76,7 @@ fn import_all(alloc: Global, needed: &Needed, imports: &[Import]) -> Result<Name
     ensures { Gives (λ names. names) result (turns (import_into (needed_records needed.now.records.now needed.now.marks.now)) [] imports.now) }
 {
     let mut names = Table::new(alloc);
-    let mut sources = IndexMap::new(alloc);
+    let mut sources = new_map(alloc);
     for import in imports {
         import_into(alloc, needed, &mut sources, &mut names, import)?;
     }

@@ -33,7 +33,7 @@ use sx_prelude::prelude::Prelude;
 use sx_prims::table::PrimTable;
 use sx_stage::earlier::Earlier;
 use sx_standing::means::Means;
-use sx_standing::share::share_library;
+use sx_core::share::share_library;
 use sx_standing::start::{Environment, Supplies};
 use sx_syntax::syn::Syn;
 use sx_tree::marks::Marks;

@@ -7,21 +7,21 @@ ghost use Rattle.sx_library.specs.Chosen.{named_at};
 ghost use Rattle.sx_library.specs.Imports.{named};
 ghost use Rattle.sx_library.specs.Records.{first_place, place_in, with_place, needed_records};
 
-use indexmap::IndexMap;
 use std::alloc::Global;
 use std::marker::Model;
 use sx_base::library::LibName;
+use sx_base::map::{NameMap, new_map};
 use sx_base::memory::Memory;
 use sx_core::record::LibRecord;
 use sx_standing::ready::ReadyRecords;
-use sx_standing::share::share_library;
+use sx_core::share::share_library;
 
 /// Records, and for each name the place of its first. So looking for a library costs the same, however many
 /// libraries there are.
 #[derive(Drop)]
 pub struct Records {
     list: ReadyRecords,
-    places: IndexMap<LibName, usize>,
+    places: NameMap<LibName, usize>,
 }
 
 impl Model for Records {
@@ -48,7 +48,7 @@ impl Records {
         let list = ReadyRecords::new(alloc)?;
         Ok(Records {
             list,
-            places: IndexMap::new(alloc),
+            places: new_map(alloc),
         })
     }
 
@@ -188,7 +188,7 @@ fn is_marked(marks: &[bool], place: usize) -> bool
 
 // The first place of a name stays.
 fn put_place(
-    places: &mut IndexMap<LibName, usize>,
+    places: &mut NameMap<LibName, usize>,
     name: LibName,
     place: usize,
 ) -> Result<(), Memory>

@@ -11,7 +11,6 @@ ghost use Rattle.sx_standing.specs.Start.{first_frame};
 ghost use Rattle.sx_prelude.specs.Prelude.{is_core, core_names, names, names_of, path_of, place_of, first_tree, tree_in, procedure_of, text_code, prelude_codes, prelude_spent};
 ghost use Rattle.sx_prelude.specs.Spent.{UnlessMemory};
 
-use indexmap::IndexMap;
 use std::alloc::Global;
 use std::rc::Rc;
 use std::sync::ledger::Ledger;
@@ -19,6 +18,7 @@ use sx_base::datum::Datum;
 use sx_base::fault::{Bare, BareStop, Fault, FaultKind, Stop};
 use sx_base::items::Items;
 use sx_base::library::LibName;
+use sx_base::map::new_map;
 use sx_base::memory::Memory;
 use sx_base::name::{CodeNo, FrameNo, Label, Name};
 use sx_base::op::names::{
@@ -228,7 +228,7 @@ fn start<L: Ledger>(alloc: Global, unspent: Unspent<L>) -> Result<Expander<L>, S
         needs: &[],
         imports: names.as_slice(),
     };
-    let codes = IndexMap::new(alloc);
+    let codes = new_map(alloc);
     let supplies = Supplies { codes, unspent };
     Expander::new(alloc, LibName::Prelude, path, &environment, supplies)
 }

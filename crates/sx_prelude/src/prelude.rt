@@ -7,12 +7,12 @@ ghost use Rattle.sx_stage.specs.Libraries.{earlier_in};
 ghost use Rattle.sx_prelude.specs.Prelude.{filled, kept, prelude_table, prelude_spent};
 
 use crate::codes::prelude_codes;
-use indexmap::IndexMap;
 use std::alloc::Global;
 use std::rc::Rc;
 use std::sync::ledger::Ledger;
 use sx_base::fault::{Fault, Stop};
 use sx_base::items::Items;
+use sx_base::map::{NameMap, new_map};
 use sx_base::memory::Memory;
 use sx_base::name::CodeNo;
 use sx_core::code::Code;
@@ -28,10 +28,10 @@ pub enum Prelude {
 }
 
 // The table that the codes make.
-fn filled(alloc: Global, codes: &[Rc<Code>]) -> Result<IndexMap<CodeNo, Rc<Code>>, Memory>
+fn filled(alloc: Global, codes: &[Rc<Code>]) -> Result<NameMap<CodeNo, Rc<Code>>, Memory>
     ensures { IfOk result (λ cs. table.seen cs.entries ≡ filled [] (map (λ c. c.value) codes.now)) }
 {
-    let mut table = IndexMap::new(alloc);
+    let mut table = new_map(alloc);
     for code in codes {
         add_procedure(&mut table, code)?;
     }
@@ -72,7 +72,7 @@ impl Prelude {
     }
 
     /// The table of the codes, in which an expansion puts others behind them.
-    pub fn codes(&self, alloc: Global) -> Result<IndexMap<CodeNo, Rc<Code>>, Stop>
+    pub fn codes(&self, alloc: Global) -> Result<NameMap<CodeNo, Rc<Code>>, Stop>
         ensures { Gives (λ cs. table.seen cs.entries) result (kept self.now) }
     {
         match self {

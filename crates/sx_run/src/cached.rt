@@ -28,7 +28,7 @@ use sx_reuse::entry::Cache;
 use sx_reuse::groups::groups_of;
 use sx_reuse::texts::{Came, Loaded, Written, write_program};
 use sx_reuse::turns::Turning;
-use sx_standing::share::share_library;
+use sx_core::share::share_library;
 use sx_words::job::Job;
 
 /// A job whose libraries are kept in a directory.

@@ -35,7 +35,7 @@ use sx_prims::table::PrimTable;
 use sx_report::report::{Fate, Told, report_text};
 use sx_stage::earlier::Earlier;
 use sx_standing::means::Means;
-use sx_standing::share::share_library;
+use sx_core::share::share_library;
 use sx_words::job::{Job, Kind};
 use sx_xref::map::binding_map;
 use sx_xref::text::xref_text;

@@ -11,10 +11,10 @@ use sx_base::items::Items;
 use sx_base::library::LibName;
 use sx_base::memory::Memory;
 use sx_base::name::Label;
-use sx_base::symbol::Symbol;
 use sx_core::code::Core;
 use sx_core::record::LibRecord;
 use sx_core::references::references;
+use sx_core::share::share_library;
 
 /// Libraries, each once, in the order of coming.
 #[derive(Drop)]
@@ -29,33 +29,6 @@ impl Model for Libraries {
     ghost Value = { List LibName };
 
     ghost view = { λ l. l.set.keys };
-}
-
-fn share_parts(alloc: Global, parts: &[Symbol]) -> Result<Items<Symbol>, Memory>
-    ensures { IfOk result (λ xs. xs ≡ parts.now) }
-{
-    let mut all = Items::new(alloc);
-    for part in parts {
-        let part = part.share()?;
-        all.push(part)?;
-    }
-    Ok(all)
-}
-
-/// The same name of a library.
-fn share_library(alloc: Global, library: &LibName) -> Result<LibName, Memory>
-    ensures { IfOk result (λ l. l ≡ library.now) }
-{
-    match library {
-        LibName::Core => Ok(LibName::Core),
-        LibName::Derived => Ok(LibName::Derived),
-        LibName::Prelude => Ok(LibName::Prelude),
-        LibName::Program => Ok(LibName::Program),
-        LibName::User(parts) => {
-            let parts = share_parts(alloc, parts.as_slice())?;
-            Ok(LibName::User(parts))
-        }
-    }
 }
 
 impl Libraries {
@@ -136,6 +109,17 @@ impl Libraries {
             return Ok(());
         }
         self.add_refs(alloc, one)
+    }
+
+    /// The libraries as a list.
+    pub fn into_items(self, alloc: Global) -> Result<Items<LibName>, Memory>
+        ensures { IfOk result (λ ls. ls ≡ self) }
+    {
+        let mut list = Vec::new(alloc);
+        for library in self.set {
+            list.push(library)?;
+        }
+        Ok(Items::from_vec(list))
     }
 
     /// Adds those libraries that references lead to.

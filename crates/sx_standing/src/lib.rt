@@ -27,7 +27,6 @@ pub mod own;
 pub mod patterns;
 pub mod ready;
 pub mod record_uses;
-pub mod share;
 pub mod standing;
 pub mod start;
 pub mod uses;

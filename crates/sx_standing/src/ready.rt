@@ -5,7 +5,7 @@ ghost use Rattle.sx_frames.specs.Scope.{adopted};
 ghost use Rattle.sx_standing.specs.Ready.{frames_part, bindings_part, needed_records, AreReady};
 ghost use Rattle.sx_standing.specs.Start.{rows_of, bindings_of};
 
-use crate::share::share_library;
+use sx_core::share::share_library;
 use std::alloc::Global;
 use std::marker::Model;
 use std::rc::Rc;

@@ -10,12 +10,12 @@ ghost use Rattle.sx_standing.specs.Start.{second_name, first_frame, import_row, 
 use crate::expansion::Expansion;
 use crate::in_scope::InScope;
 use crate::ready::ReadyRecords;
-use indexmap::IndexMap;
 use std::alloc::Global;
 use std::rc::Rc;
 use std::sync::ledger::Ledger;
 use sx_base::items::Items;
 use sx_base::library::LibName;
+use sx_base::map::NameMap;
 use sx_base::memory::Memory;
 use sx_base::name::{CodeNo, FrameNo, Label, Name, Names};
 use sx_base::symbol::Symbol;
@@ -213,7 +213,7 @@ fn begin(alloc: Global, library: LibName, environment: &Environment) -> Result<B
 /// What the evaluations of an expansion begin with: the codes of procedures that are texts, and what they spend.
 #[derive(Drop)]
 pub struct Supplies<L: Ledger> {
-    pub codes: IndexMap<CodeNo, Rc<Code>>,
+    pub codes: NameMap<CodeNo, Rc<Code>>,
     pub unspent: Unspent<L>,
 }
 

@@ -10,3 +10,4 @@ pub mod Items
 pub mod Walks
 pub mod Measured
 pub mod Unseen
+pub mod TreeParts

@@ -12,7 +12,8 @@ use Rattle.sx_core.specs.declared.record.Line.TheVariants as line
 use Rattle.sx_core_laws.specs.Words.{Among}
 use Rattle.sx_core_laws.specs.Records.{line_core}
 use Rattle.sx_core_laws.proofs.Decisions.{label_decides}
-use Rattle.sx_expand.specs.Top.{has_library, with_library, with_label_of, with_labels_of, code_of, with_lines_of, refs_of}
+use Rattle.sx_stage.specs.Libraries.{has_library, with_library}
+use Rattle.sx_expand.specs.Top.{with_label_of, with_labels_of, code_of, with_lines_of, refs_of}
 use Rattle.sx_expand_laws.proofs.RunReferences.{free-referenced}
 use Rattle.sx_text_laws.proofs.Words.{any-among, put-there, put-stays}
 

@@ -1,5 +1,5 @@
 use Rattle.std.proofs.Common.{◌≡◌, ◌++◌}
-use Rattle.sx_expand.proofs.libraries.Libraries.into_items.Given as goal
+use Rattle.sx_stage.proofs.libraries.Libraries.into_items.Given as goal
 
 abbrev pub invariant-loop-library : goal.invariant-loop-library
 invariant-loop-library l = l.list.items ++ l.library-iterator ≡ l.fn.self
